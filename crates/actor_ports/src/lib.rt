@@ -1,0 +1,6 @@
+// probe
+#![tactic(auto)]
+
+mod port;
+
+pub use port::{PortError, Sink, Source};

@@ -1,0 +1,173 @@
+-- Turn admission: one actor's open turns, the line of calls that wait, and its holds.
+-- From the description of turns and reentrancy in Dapr's "Actor runtime features"; the line's length, the
+-- depth's range, polls, holds and moved calls are own.
+use Rattle.std.specs.Prelude.{ℕ, ◌+◌, ◌-◌, Bool, true, false, ◌&&◌, ◌||◌, ◌==◌, nat_lt, if◌then◌else◌, List, [], ◌∷◌, ◌++◌, length, bytes_eq, Option, None, Some, is_some, option_map}
+use Rattle.std.specs.declared.result.Result.{Result}
+use Rattle.std.specs.declared.result.Result.TheVariants.{Ok, Err}
+use Rattle.turn_core.specs.declared.cell.Turn.{Turn}
+use Rattle.turn_core.specs.declared.cell.Waiter.{Waiter}
+use Rattle.turn_core.specs.declared.answer.Asked.{Asked}
+use Rattle.turn_core.specs.declared.answer.Asked.TheVariants as asked
+use Rattle.turn_core.specs.declared.answer.CellError.{CellError}
+use Rattle.turn_core.specs.declared.answer.CellError.TheVariants as refused
+use Rattle.turn_core.specs.declared.answer.CellEnd.{CellEnd}
+use Rattle.turn_core.specs.declared.answer.CellEnd.TheVariants as ending
+use Rattle.turn_core.specs.declared.answer.CellPoll.{CellPoll}
+use Rattle.turn_core.specs.declared.answer.CellPoll.TheVariants as polled
+
+-- What contracts see of a cell. At depth 0 reentrancy is off.
+pub record CellState : Type 0 where
+  pub depth : ℕ
+  pub turns : List Turn
+  pub line : List Waiter
+  pub holds : ℕ
+
+abbrev pub longest_line : ℕ
+longest_line = 1024
+
+abbrev pub new_cell : ℕ → CellState
+new_cell depth = record { depth = depth; turns = []; line = []; holds = 0 }
+
+abbrev pub same_chain : Option (List ℕ) → Option (List ℕ) → Bool
+same_chain None None = true
+same_chain None (Some b) = false
+same_chain (Some a) None = false
+same_chain (Some a) (Some b) = bytes_eq a b
+
+abbrev pub is_free : CellState → Bool
+is_free c = length c.turns == 0
+
+-- whether the open turns, if there are any, carry this chain
+abbrev pub is_first_chain : List Turn → Option (List ℕ) → Bool
+is_first_chain [] chain = false
+is_first_chain (t ∷ ts) chain = same_chain t.chain chain
+
+-- whether a call of this chain may enter beside the open turns, as far as the depth allows
+abbrev pub is_open_chain : CellState → Option (List ℕ) → Bool
+is_open_chain c chain = nat_lt 0 c.depth && is_first_chain c.turns chain
+
+-- at depth 0 the chain of a call is ignored
+abbrev pub kept_chain : CellState → Option (List ℕ) → Option (List ℕ)
+kept_chain c chain = if c.depth == 0 then None else chain
+
+abbrev pub has_turn : ℕ → List Turn → Bool
+has_turn call [] = false
+has_turn call (t ∷ ts) = (call == t.call) || has_turn call ts
+
+abbrev pub without_turn : ℕ → List Turn → List Turn
+without_turn call [] = []
+without_turn call (t ∷ ts) = if call == t.call then ts else t ∷ without_turn call ts
+
+abbrev pub waiter_of : ℕ → List Waiter → Option Waiter
+waiter_of call [] = None
+waiter_of call (w ∷ ws) = if call == w.call then Some w else waiter_of call ws
+
+-- its place in the whole line, from 1
+abbrev pub place_of : ℕ → List Waiter → ℕ
+place_of call [] = 1
+place_of call (w ∷ ws) = if call == w.call then 1 else 1 + place_of call ws
+
+abbrev pub without_waiter : ℕ → List Waiter → List Waiter
+without_waiter call [] = []
+without_waiter call (w ∷ ws) = if call == w.call then ws else w ∷ without_waiter call ws
+
+-- the first call that isn't moved, and the line without it
+abbrev pub first_unmoved : List Waiter → Option Waiter
+first_unmoved [] = None
+first_unmoved (w ∷ ws) = if w.moved then first_unmoved ws else Some w
+
+abbrev pub without_first_unmoved : List Waiter → List Waiter
+without_first_unmoved [] = []
+without_first_unmoved (w ∷ ws) = if w.moved then w ∷ without_first_unmoved ws else ws
+
+abbrev pub unmoved : List Waiter → ℕ
+unmoved [] = 0
+unmoved (w ∷ ws) = if w.moved then unmoved ws else 1 + unmoved ws
+
+abbrev pub all_moved : List Waiter → List Waiter
+all_moved [] = []
+all_moved (w ∷ ws) = record w { moved = true } ∷ all_moved ws
+
+abbrev pub with_turn : CellState → ℕ → Option (List ℕ) → CellState
+with_turn c call chain = record c { turns = c.turns ++ record { call = call; chain = chain } ∷ [] }
+
+abbrev pub with_waiter : CellState → ℕ → Option (List ℕ) → CellState
+with_waiter c call chain = record c { line = c.line ++ record { call = call; chain = chain; moved = false } ∷ [] }
+
+-- a cell after a call of it, and what the call answers
+pub record AskStep : Type 0 where
+  pub cell : CellState
+  pub answer : Result Asked CellError
+
+-- Begins at once where the chain is the open one and the depth allows it, or where nothing is open and a new
+-- chain may begin. Else it is refused for its depth or for the line's length, or it joins the line.
+abbrev pub admit_call : CellState → ℕ → Option (List ℕ) → Bool → AskStep
+admit_call c call chain may_begin =
+    let kept = kept_chain c chain in
+    if is_open_chain c kept then (
+    if nat_lt (length c.turns) c.depth then record { cell = with_turn c call kept; answer = Ok asked.Begun } else
+    record { cell = c; answer = Err (refused.Depth (length c.turns)) }
+    ) else (
+    if is_free c && may_begin then record { cell = with_turn c call kept; answer = Ok asked.Begun } else (
+    if nat_lt (length c.line) longest_line then record { cell = with_waiter c call kept; answer = Ok (asked.Waits (length c.line + 1)) } else
+    record { cell = c; answer = Err (refused.QueueFull (length c.line)) }
+    )
+    )
+
+abbrev pub begun_next : CellState → Option Waiter → CellState
+begun_next c None = c
+begun_next c (Some w) = record c { turns = c.turns ++ record { call = w.call; chain = w.chain } ∷ []; line = without_first_unmoved c.line }
+
+-- the first call in the line that isn't moved begins
+abbrev pub cell_begin_next : CellState → CellState
+cell_begin_next c = begun_next c (first_unmoved c.line)
+
+-- the call that begins where the cell is free and a new chain may begin
+abbrev pub next_call : Bool → CellState → Option Waiter
+next_call may_begin c = if may_begin && is_free c then first_unmoved c.line else None
+
+abbrev pub call_of : Waiter → ℕ
+call_of w = w.call
+
+pub record EndStep : Type 0 where
+  pub cell : CellState
+  pub answer : CellEnd
+
+-- the cell without the turn of this call
+abbrev pub without_call : CellState → ℕ → CellState
+without_call c call = record c { turns = without_turn call c.turns }
+
+-- whether the call is in the line
+abbrev pub not_open : Option Waiter → CellEnd
+not_open None = ending.AlreadyEnded
+not_open (Some w) = ending.StillWaiting
+
+-- An open turn ends, and the next call begins where the cell is free then; any other end changes nothing.
+abbrev pub cell_end : CellState → ℕ → Bool → EndStep
+cell_end c call may_begin =
+    if has_turn call c.turns then
+    record { cell = begun_next (without_call c call) (next_call may_begin (without_call c call)); answer = ending.Ended (option_map call_of (next_call may_begin (without_call c call))) }
+    else record { cell = c; answer = not_open (waiter_of call c.line) }
+
+pub record PollStep : Type 0 where
+  pub cell : CellState
+  pub answer : CellPoll
+
+-- A moved call is taken off the line; any other poll changes nothing.
+abbrev pub poll_waiter : CellState → ℕ → Option Waiter → PollStep
+poll_waiter c call None = record { cell = c; answer = polled.Gone }
+poll_waiter c call (Some w) =
+    if w.moved then record { cell = record c { line = without_waiter call c.line }; answer = polled.Moved } else
+    record { cell = c; answer = polled.Waits (place_of call c.line) }
+
+abbrev pub cell_poll : CellState → ℕ → PollStep
+cell_poll c call = if has_turn call c.turns then record { cell = c; answer = polled.Begun } else poll_waiter c call (waiter_of call c.line)
+
+-- the chain of the open turns
+abbrev pub chain_of : List Turn → Option (List ℕ)
+chain_of [] = None
+chain_of (t ∷ ts) = t.chain
+
+-- whether the call is open or in the line
+abbrev pub is_in_cell : ℕ → CellState → Bool
+is_in_cell call c = has_turn call c.turns || is_some (waiter_of call c.line)
