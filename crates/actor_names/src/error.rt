@@ -1,5 +1,5 @@
 // Why a text is no name.
-use std::alloc::{AllocError, AllocFailed};
+use std::alloc::AllocError;
 use thiserror::Error;
 
 /// There was no memory for the answer; everything is as before the call.
@@ -32,6 +32,17 @@ impl From<AllocError> for NameError {
     ghost from_gives = { λ _ e. e ≡ OutOfMemory };
 
     fn from(_: AllocError) -> NameError {
+        NameError::OutOfMemory
+    }
+}
+
+impl From<OutOfMemory> for NameError {
+    ghost use Rattle.actor_names.specs.declared.error.NameError.TheVariants.{OutOfMemory};
+    ghost use Rattle.std.specs.Prelude.{◌≡◌};
+
+    ghost from_gives = { λ _ e. e ≡ OutOfMemory };
+
+    fn from(_: OutOfMemory) -> NameError {
         NameError::OutOfMemory
     }
 }

@@ -1,0 +1,42 @@
+-- Worked examples of the definitions.
+use Rattle.std.proofs.Common.{◌≡◌, [], Some, None, refl}
+use Rattle.std.specs.Prelude.{codes, replicate}
+use Rattle.actor_names.specs.declared.error.NameError.TheVariants.{Empty, TooLong, BadByte}
+use Rattle.actor_names.specs.Names.{actor_type_fault, actor_id_fault, chain_id_fault, key_fault}
+use Rattle.actor_names.specs.Decimals.{number_of}
+
+type_of_all_classes : actor_type_fault (codes "Order.v2_a-b") ≡ None
+type_of_all_classes = refl
+
+type_without_bytes : actor_type_fault [] ≡ Some Empty
+type_without_bytes = refl
+
+type_past_its_length : actor_type_fault (replicate 65 97) ≡ Some (TooLong 65)
+type_past_its_length = refl
+
+type_with_a_colon : actor_type_fault (codes "ab:c") ≡ Some (BadByte 2)
+type_with_a_colon = refl
+
+id_with_a_slash : actor_id_fault (codes "a/b") ≡ Some (BadByte 1)
+id_with_a_slash = refl
+
+chain_with_a_slash : chain_id_fault (codes "a/b~") ≡ None
+chain_with_a_slash = refl
+
+key_of_two_parts : key_fault (codes "counter/7") ≡ None
+key_of_two_parts = refl
+
+key_without_a_slash : key_fault (codes "counter") ≡ Some (BadByte 7)
+key_without_a_slash = refl
+
+key_with_two_slashes : key_fault (codes "counter/7/8") ≡ Some (BadByte 9)
+key_with_two_slashes = refl
+
+key_without_an_id : key_fault (codes "counter/") ≡ Some Empty
+key_without_an_id = refl
+
+number_at_its_bound : number_of 1024 (codes "1024") ≡ Some 1024
+number_at_its_bound = refl
+
+number_with_a_leading_zero : number_of 1024 (codes "07") ≡ None
+number_with_a_leading_zero = refl

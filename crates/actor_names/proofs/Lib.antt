@@ -1,0 +1,5 @@
+mod FirstBad
+mod Digits
+mod Examples
+pub mod DecimalTexts
+pub mod Slashes

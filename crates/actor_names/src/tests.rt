@@ -1,0 +1,87 @@
+use super::*;
+
+// 129 letters.
+const LETTERS: &[u8; 129] =
+    b"abcdefghijklmnopqrstuvwxyzabcdefghijklmnopqrstuvwxyzabcdefghijklmnopqrstuvwxyzabcdefghijklmnopqrstuvwxyzabcdefghijklmnopqrstuvwxy";
+
+// The faults of a text as an actor type, an actor id, a chain's identifier and a key.
+type Faults = (&'static [u8], [Option<NameError>; 4]);
+
+fn bad(at: u64) -> Option<NameError> {
+    Some(NameError::BadByte { at })
+}
+
+#[test]
+fn each_text_has_the_faults_of_its_forms(rt: HostRuntime) {
+    let empty = Some(NameError::Empty);
+    let table: [Faults; 9] = [
+        (b"", [empty, empty, empty, empty]),
+        (b"Order.v2_a-b", [None, None, None, bad(12)]),
+        (b"~!", [bad(0), None, None, bad(0)]),
+        (b"a/b", [bad(1), bad(1), None, None]),
+        (b"a/", [bad(1), bad(1), None, empty]),
+        (b"/b", [bad(0), bad(0), None, empty]),
+        (b"a/b/c", [bad(1), bad(1), None, bad(3)]),
+        (b"a b", [bad(1), bad(1), bad(1), bad(1)]),
+        (b"a\x7f", [bad(1), bad(1), bad(1), bad(1)]),
+    ];
+    for (text, [kind, id, chain, key]) in table {
+        assert_eq!(rt; actor_type_fault(text), kind);
+        assert_eq!(rt; actor_id_fault(text), id);
+        assert_eq!(rt; chain_id_fault(text), chain);
+        assert_eq!(rt; key_fault(text), key);
+    }
+}
+
+#[test]
+fn lengths_end_at_their_limits(rt: HostRuntime) {
+    assert_eq!(rt; actor_type_fault(&LETTERS[..64]), None);
+    assert_eq!(rt;
+        actor_type_fault(&LETTERS[..65]),
+        Some(NameError::TooLong { n: 65 })
+    );
+    assert_eq!(rt; actor_id_fault(&LETTERS[..128]), None);
+    assert_eq!(rt;
+        actor_id_fault(LETTERS),
+        Some(NameError::TooLong { n: 129 })
+    );
+    assert_eq!(rt; chain_id_fault(&LETTERS[..128]), None);
+    assert_eq!(rt;
+        chain_id_fault(LETTERS),
+        Some(NameError::TooLong { n: 129 })
+    );
+}
+
+#[test]
+fn readers_and_copies_give_the_bytes(rt: HostRuntime) -> Result<(), NameError> {
+    let alloc = rt.alloc();
+    let kind = read_actor_type(alloc, b"counter")?;
+    assert_eq!(rt; kind.copy(alloc)?.as_slice(), b"counter".as_slice());
+    let id = read_actor_id(alloc, b"7:a")?;
+    assert_eq!(rt; id.copy(alloc)?.as_slice(), b"7:a".as_slice());
+    let chain = read_chain_id(alloc, b"c/1")?;
+    assert_eq!(rt; chain.copy(alloc)?.as_slice(), b"c/1".as_slice());
+    let key = read_key(alloc, b"counter/7:a")?.copy(alloc)?;
+    assert_eq!(rt; key.kind.as_slice(), b"counter".as_slice());
+    assert_eq!(rt; key.id.as_slice(), b"7:a".as_slice());
+    assert_eq!(rt; key_kind(b"counter/7:a"), b"counter".as_slice());
+    Ok(())
+}
+
+#[test]
+fn decimals_have_no_sign_and_no_leading_zero(rt: HostRuntime) {
+    let table: [(&[u8], u64, Option<u64>); 9] = [
+        (b"", 9, None),
+        (b"0", 0, Some(0)),
+        (b"00", 9, None),
+        (b"+1", 9, None),
+        (b"1024", 1024, Some(1024)),
+        (b"1025", 1024, None),
+        (b"18446744073709551615", u64::MAX, Some(u64::MAX)),
+        (b"18446744073709551616", u64::MAX, None),
+        (b"99999999999999999999999", u64::MAX, None),
+    ];
+    for (text, most, number) in table {
+        assert_eq!(rt; read_decimal(text, most), number);
+    }
+}
