@@ -1,8 +1,10 @@
 -- Worked examples of the definitions.
 use Rattle.std.proofs.Common.{◌≡◌, [], Some, None, refl}
-use Rattle.std.specs.Prelude.{codes, replicate}
+use Rattle.std.specs.Prelude.{Ok, codes, replicate}
 use Rattle.actor_names.specs.declared.error.NameError.TheVariants.{Empty, TooLong, BadByte}
 use Rattle.actor_names.specs.Names.{actor_type_fault, actor_id_fault, chain_id_fault, key_fault}
+use Rattle.actor_names.specs.Numerals.{member_fault}
+use Rattle.actor_names.specs.Addresses.{address_reading, address_fault, part_reading, port_reading}
 use Rattle.actor_names.specs.Decimals.{number_of}
 
 type_of_all_classes : actor_type_fault (codes "Order.v2_a-b") ≡ None
@@ -40,3 +42,24 @@ number_at_its_bound = refl
 
 number_with_a_leading_zero : number_of 1024 (codes "07") ≡ None
 number_with_a_leading_zero = refl
+
+member_of_two_parts : member_fault (codes "n-1/4611686018427387904") ≡ None
+member_of_two_parts = refl
+
+member_with_boot_zero : member_fault (codes "n/0") ≡ Some (BadByte 2)
+member_with_boot_zero = refl
+
+member_with_a_byte_too_many : member_fault (codes "n/7a") ≡ Some (BadByte 3)
+member_with_a_byte_too_many = refl
+
+address_of_five_numbers : address_reading (codes "1.2.3.4:5") ≡ Ok (record { ip = 16909060; port = 5 })
+unfolding part_reading port_reading
+address_of_five_numbers = refl
+
+address_without_a_port : address_fault (codes "1.2.3.4") ≡ Some (BadByte 7)
+unfolding part_reading port_reading
+address_without_a_port = refl
+
+address_with_a_leading_zero : address_fault (codes "1.02.3.4:5") ≡ Some (BadByte 3)
+unfolding part_reading port_reading
+address_with_a_leading_zero = refl

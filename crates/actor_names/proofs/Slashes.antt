@@ -92,16 +92,31 @@ first_none : (first later : Option NameError) → first_of_two first later ≡ N
 first_none None later none = none
 first_none (Some e) later none = cc
 
--- a text without a fault has a slash
-pub key_has_slash : (text : List ℕ) → key_fault text ≡ None → length (before_slash text) < length text
-key_has_slash text sound = elim (cases_lt (length (before_slash text)) (length text)) [
+unplaced : (start : ℕ) (fault : Option NameError) → option_map (placed_from start) fault ≡ None → fault ≡ None
+unplaced start None none = refl
+unplaced start (Some e) none = cc
+
+-- a text of two pieces without a fault has a slash
+pub has_slash : (text : List ℕ) (first : Option NameError) (fault : List ℕ → Option NameError) → first_of_two first (second_fault fault text (after_slash text)) ≡ None → length (before_slash text) < length text
+has_slash text first fault sound = elim (cases_lt (length (before_slash text)) (length text)) [
   | inl below ↦ below
   | inr past ↦
       let none : after_slash text ≡ None = after_slash-none text past in
-      let last : second_fault actor_id_fault text (after_slash text) ≡ None = first_none (actor_type_fault (before_slash text)) _ sound in
-      let missing : second_fault actor_id_fault text None ≡ None = (rw none at last) in
+      let last : second_fault fault text (after_slash text) ≡ None = first_none first _ sound in
+      let missing : second_fault fault text None ≡ None = (rw none at last) in
       cc
 ]
+
+-- where the text of two pieces has no fault, its second piece has none
+pub second_sound : (text rest : List ℕ) (first : Option NameError) (fault : List ℕ → Option NameError) → first_of_two first (second_fault fault text (after_slash text)) ≡ None → Some rest ≡ after_slash text → fault rest ≡ None
+second_sound text rest first fault sound is =
+    let last : second_fault fault text (after_slash text) ≡ None = first_none first _ sound in
+    let placed : option_map (placed_from (length (before_slash text) + 1)) (fault rest) ≡ None = (rw (← is) at last) in
+    unplaced (length (before_slash text) + 1) (fault rest) placed
+
+-- a key without a fault has a slash
+pub key_has_slash : (text : List ℕ) → key_fault text ≡ None → length (before_slash text) < length text
+key_has_slash text sound = has_slash text (actor_type_fault (before_slash text)) actor_id_fault sound
 
 -- the fault of the id where there is a slash
 pub second_fault-slash : (text : List ℕ) (fault : List ℕ → Option NameError) → length (before_slash text) < length text → second_fault fault text (after_slash text) ≡ option_map (placed_from (length (before_slash text) + 1)) (fault (drop (length (before_slash text) + 1) text))

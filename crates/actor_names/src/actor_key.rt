@@ -7,6 +7,7 @@ use crate::actor_id::{ActorId, MOST_ACTOR_ID_BYTES};
 use crate::actor_type::{ActorType, MOST_ACTOR_TYPE_BYTES, actor_type_fault};
 use crate::byte_class::{IdBytes, TypeBytes, bad_place, fault_in};
 use crate::error::{NameError, OutOfMemory};
+use crate::slash::{first_piece, second_piece, slash_place};
 use std::alloc::Global;
 
 /// The name of an actor: its type, and its id among the actors of that type.
@@ -29,34 +30,11 @@ impl ActorKey {
     }
 }
 
-// The place of the first `/`, or the text's length.
-fn slash_place(text: &[u8]) -> usize
-    ensures place { result ≡ length (before_slash text.now) }
-    ensures within { result ≤ length text.now }
-{
-    for (at, byte) in text.iter().enumerate() {
-        if *byte == b'/' {
-            return at;
-        }
-    }
-    text.len()
-}
-
 /// The bytes before the first `/`: the type of a key's text. All of the text where it has no `/`.
 pub fn key_kind(text: &[u8]) -> &[u8]
     ensures { result.now ≡ before_slash text.now }
 {
-    let end = slash_place(text);
-    &text[..end]
-}
-
-// The bytes after the first `/`: the id of a key's text.
-fn key_id(text: &[u8]) -> &[u8]
-    requires { length (before_slash text.now) < length text.now }
-    ensures { Some result.now ≡ after_slash text.now }
-{
-    let end = slash_place(text);
-    &text[end + 1..]
+    first_piece(text)
 }
 
 // The fault of what stands after the type, which ends at `end`.
@@ -99,7 +77,7 @@ pub fn read_key(alloc: Global, text: &[u8]) -> Result<ActorKey, NameError>
         Some(fault) => Err(fault),
         None => {
             let kind = ActorType::from_bytes(alloc, key_kind(text))?;
-            let id = ActorId::from_bytes(alloc, key_id(text))?;
+            let id = ActorId::from_bytes(alloc, second_piece(text))?;
             Ok(ActorKey { kind, id })
         }
     }

@@ -14,6 +14,19 @@ pub trait ByteClass {
         ensures { result ≡ test byte };
 }
 
+/// Lowercase letters, digits and `-`.
+pub struct NodeBytes;
+
+impl ByteClass for NodeBytes {
+    ghost use Rattle.actor_names.specs.Names.{is_node_byte};
+
+    ghost test = { is_node_byte };
+
+    fn allows(byte: u8) -> bool {
+        matches!(byte, b'a'..=b'z' | b'0'..=b'9' | b'-')
+    }
+}
+
 /// Letters, digits, `-`, `_` and `.`.
 pub struct TypeBytes;
 

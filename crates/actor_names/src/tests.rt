@@ -85,3 +85,61 @@ fn decimals_have_no_sign_and_no_leading_zero(rt: HostRuntime) {
         assert_eq!(rt; read_decimal(text, most), number);
     }
 }
+
+#[test]
+fn members_and_addresses_have_their_faults_in_the_whole_text(rt: HostRuntime) {
+    let members: [(&[u8], Option<NameError>); 10] = [
+        (b"n-1/4611686018427387904", None),
+        (b"n-1/4611686018427387905", bad(4)),
+        (b"", Some(NameError::Empty)),
+        (b"/1", Some(NameError::Empty)),
+        (b"N/1", bad(0)),
+        (b"n", bad(1)),
+        (b"n/", bad(2)),
+        (b"n/0", bad(2)),
+        (b"n/+1", bad(2)),
+        (b"n/7a", bad(3)),
+    ];
+    for (text, fault) in members {
+        assert_eq!(rt; member_fault(text), fault);
+    }
+    let addresses: [(&[u8], Option<NameError>); 9] = [
+        (b"255.0.0.1:65535", None),
+        (b"", bad(0)),
+        (b"256.0.0.1:1", bad(0)),
+        (b"1.02.3.4:5", bad(3)),
+        (b"1.2.3:4", bad(5)),
+        (b"1.2.3.4", bad(7)),
+        (b"1.2.3.4:", bad(8)),
+        (b"1.2.3.4:65536", bad(8)),
+        (b"1.2.3.4:5 ", bad(9)),
+    ];
+    for (text, fault) in addresses {
+        assert_eq!(rt; address_fault(text), fault);
+    }
+}
+
+#[test]
+fn nodes_members_and_addresses_are_kept_without_memory(rt: HostRuntime) -> Result<(), NameError> {
+    assert_eq!(rt;
+        read_node(&LETTERS[..64])?.copy().as_slice(),
+        &LETTERS[..64]
+    );
+    let member = read_member(b"n-1/7")?.copy();
+    assert_eq!(rt; member.node.as_slice(), b"n-1".as_slice());
+    assert_eq!(rt; member.boot, 7);
+    let address = read_address(b"127.0.0.1:80")?.copy();
+    assert_eq!(rt; address.ip, 0x7f00_0001);
+    assert_eq!(rt; address.port, 80);
+    let app = read_app_id(rt.alloc(), b"shop")?.copy(rt.alloc())?;
+    assert_eq!(rt; app.as_slice(), b"shop".as_slice());
+    let name = read_record_name(rt.alloc(), b"tick:1")?.copy(rt.alloc())?;
+    assert_eq!(rt; name.as_slice(), b"tick:1".as_slice());
+    assert_eq!(rt;
+        node_fault(&LETTERS[..65]),
+        Some(NameError::TooLong { n: 65 })
+    );
+    assert_eq!(rt; app_id_fault(b"a_b"), bad(1));
+    assert_eq!(rt; record_name_fault(b"a/b"), bad(1));
+    Ok(())
+}
