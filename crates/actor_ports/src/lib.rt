@@ -8,6 +8,8 @@
 
 mod memory;
 mod port;
+mod real;
 
 pub use memory::{MemSink, MemSource};
 pub use port::{PortError, Sink, Source};
+pub use real::{ReaderSource, WriterSink};
