@@ -14,3 +14,6 @@ fn is_next_failing(failing: &[u64], calls: u64) -> bool
 {
     calls < u64::MAX && failing.contains(&(calls + 1))
 }
+
+#[cfg(test)]
+mod tests;

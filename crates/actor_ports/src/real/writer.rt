@@ -1,7 +1,7 @@
 // A sink over a writer of the library.
-ghost use Rattle.std.specs.Prelude.{◌≡◌, ◌<◌, ◌≤◌, None, IfSome, IfNone, IsTrue, length, take};
+ghost use Rattle.std.specs.Prelude.{◌≡◌, ◌<◌, ◌≤◌, ◌↔◌, None, IfSome, IfNone, IsErrOf, IsTrue, length, take};
 ghost use Rattle.std.specs.Io.KnownBytes.{Appends, Keeps};
-ghost use Rattle.actor_ports.specs.Port.{HasCause, WritesAll, faults_after};
+ghost use Rattle.actor_ports.specs.Port.{HasCause, faults_after};
 ghost use Rattle.actor_ports.specs.Real.{Counted, WritesKnownFront, WritesThrough};
 
 use crate::port::{PortError, Sink};
@@ -41,12 +41,12 @@ impl<W: Write + Drop> Sink for WriterSink<W> {
     ghost write_faults = { λ s. s.faults };
 
     /// Writes until all is written, again after each interruption, and flushes. Each failure is counted.
-    /// After 2^64 - 1 failures, which leave no count for another, it answers `OutOfMemory` and writes nothing.
+    /// After 2^64 - 1 failures no further one can be counted: only then it answers `OutOfMemory`, and writes nothing.
     fn write(&mut self, bytes: &[u8]) -> Result<(), PortError>
-        ensures written { WritesAll None None bytes.now result }
         ensures cause { HasCause self.old.faults self.new.faults result }
 
         ensures counted { self.new.faults ≡ faults_after self.old.faults result }
+        ensures spent { IsErrOf result PortError.OutOfMemory ↔ (self.old.faults ≡ u64.MAX) }
         ensures through { WritesThrough (W.contents self.old.inner) (W.contents self.new.inner) bytes.now result }
     {
         if self.faults == u64::MAX {
@@ -96,4 +96,75 @@ fn write_piece<W: Write>(writer: &mut W, bytes: &[u8]) -> Option<usize>
         }
     }
     None
+}
+
+#[cfg(test)]
+mod tests {
+    use super::*;
+    use std::alloc::Global;
+    use std::io;
+    use std::test::Fail;
+
+    // Takes one byte a call; the first call is interrupted, the fifth fails and the seventh takes nothing.
+    #[derive(Drop)]
+    struct Narrow {
+        held: Vec<u8>,
+        calls: u8,
+        may_flush: bool,
+    }
+
+    impl Write for Narrow {
+        fn write(&mut self, buf: &[u8]) -> io::Result<usize> {
+            self.calls = self.calls.wrapping_add(1);
+            match self.calls {
+                1 => return Err(io::Error::from(ErrorKind::Interrupted)),
+                5 => return Err(io::Error::from(ErrorKind::BrokenPipe)),
+                7 => return Ok(0),
+                _ => {}
+            }
+            let Some(first) = buf.first() else {
+                return Ok(0);
+            };
+            self.held.push(*first)?;
+            Ok(1)
+        }
+
+        fn flush(&mut self) -> io::Result<()> {
+            if self.may_flush {
+                Ok(())
+            } else {
+                Err(io::Error::from(ErrorKind::BrokenPipe))
+            }
+        }
+    }
+
+    fn make_narrow(alloc: Global, may_flush: bool) -> Narrow {
+        Narrow {
+            held: Vec::new(alloc),
+            calls: 0,
+            may_flush,
+        }
+    }
+
+    #[test]
+    fn writes_front_until_failure(rt: HostRuntime) -> Result<(), Fail> {
+        let mut sink = WriterSink::new(make_narrow(rt.alloc(), true));
+        let wanted = [
+            Ok(()),
+            Err(PortError::Failed),
+            Err(PortError::Failed),
+            Ok(()),
+        ];
+        for answer in wanted {
+            assert_eq!(rt; sink.write(b"ab"), answer);
+        }
+        assert_eq!(rt; sink.writer.held.as_slice(), b"abaaab".as_slice());
+        Ok(())
+    }
+
+    #[test]
+    fn refused_flush_is_failure(rt: HostRuntime) {
+        let mut sink = WriterSink::new(make_narrow(rt.alloc(), false));
+        assert_eq!(rt; sink.write(b"a"), Err(PortError::Failed));
+    }
 }
