@@ -1,6 +1,15 @@
-// probe
+// The outside as a program sees it: where bytes come from and where they go.
+//
+// A call answers a fault only where the object's own count of faults rose in that call, and where
+// an object tells its bytes the clauses say which were taken or written. The forms in memory tell
+// all; the forms over the library's readers and writers tell nothing, and are trusted and tested.
+// It stands on std alone, and thiserror for the texts of its error.
 #![tactic(auto)]
 
+mod memory;
 mod port;
+mod real;
 
+pub use memory::{MemSink, MemSource};
 pub use port::{PortError, Sink, Source};
+pub use real::{ReaderSource, WriterSink};

@@ -1,0 +1,167 @@
+// A source over a reader of the library.
+ghost use Rattle.std.specs.Prelude.{◌≡◌, ◌<◌, ◌≤◌, None, IfOk, IfErr, IfSome, IfNone, length, take};
+ghost use Rattle.std.specs.Io.KnownBytes.{Consumes, IsAtEnd, Keeps};
+ghost use Rattle.actor_ports.specs.Port.{HasCause, Appends, faults_after};
+ghost use Rattle.actor_ports.specs.Real.{Counted, ReadsThrough};
+
+use crate::port::{PortError, Source};
+use std::alloc::Global;
+use std::io::{ErrorKind, Read};
+use std::marker::Model;
+
+// The most bytes that one read asks the library for.
+const PIECE: usize = 65_536;
+
+/// A source over one of the library's readers. It tells nothing of what is left.
+///
+/// Over standard input, in `main(rt: HostRuntime)`:
+/// `let input = ReaderSource::new(rt.alloc(), rt.reader())?;`
+#[derive(Drop)]
+pub struct ReaderSource<R: Read + Drop> {
+    reader: R,
+    piece: Vec<u8>,
+    faults: u64,
+}
+
+impl<R: Read + Drop> Model for ReaderSource<R> {
+    ghost use Rattle.std.specs.Prelude.{◌≡◌, vec_len};
+    ghost use Rattle.actor_ports.specs.Real.{Counted};
+
+    ghost Value = { Counted R };
+
+    ghost view = { λ s. record { inner = s.reader; faults = s.faults } };
+
+    ghost invariant = { λ s. vec_len s.piece ≡ 65536 };
+}
+
+impl<R: Read + Drop> ReaderSource<R> {
+    /// A source over this reader, with the room for one piece of 65,536 bytes.
+    /// Want of memory is its one error, and drops the reader.
+    pub fn new(alloc: Global, reader: R) -> Result<ReaderSource<R>, PortError>
+        ensures holds { IfOk result (λ s. s ≡ record { inner = reader; faults = 0 }) }
+        ensures memory { IfErr result (λ e. e ≡ PortError.OutOfMemory) }
+    {
+        let Ok(piece) = vec![in alloc; 0u8; PIECE] else {
+            return Err(PortError::OutOfMemory);
+        };
+        Ok(ReaderSource {
+            reader,
+            piece,
+            faults: 0,
+        })
+    }
+}
+
+impl<R: Read + Drop> Source for ReaderSource<R> {
+    ghost remaining = { λ _. None };
+
+    ghost read_faults = { λ s. s.faults };
+
+    /// Reads once, at most 65,536 bytes, and again after each interruption. Each failure is counted.
+    /// After 2^64 - 1 failures no further one can be counted: it answers `OutOfMemory` and reads nothing.
+    fn read(&mut self, into: &mut Vec<u8>, most: usize) -> Result<usize, PortError>
+        requires { 0 < most }
+        ensures most { IfOk result (λ n. n ≤ most) }
+        ensures appends { Appends into.old.items into.new.items result }
+        ensures cause { HasCause self.old.faults self.new.faults result }
+
+        ensures counted { self.new.faults ≡ faults_after self.old.faults result }
+        ensures through { ReadsThrough (R.remaining self.old.inner) (R.remaining self.new.inner) into.old.items into.new.items result }
+    {
+        let room = most.min(PIECE);
+        if self.faults == u64::MAX || into.reserve(room).is_err() {
+            return Err(PortError::OutOfMemory);
+        }
+        let Some(count) = read_piece(&mut self.reader, self.piece.as_mut_slice(), room) else {
+            self.faults += 1;
+            return Err(PortError::Failed);
+        };
+        into.extend_from_slice(&self.piece.as_slice()[..count])
+            .unwrap();
+        Ok(count)
+    }
+}
+
+// One read of the library into the front of `piece`, again after each interruption.
+fn read_piece<R: Read>(reader: &mut R, piece: &mut [u8], room: usize) -> Option<usize>
+    requires some { 0 < room }
+    requires within { room ≤ length piece.old }
+    ensures bound { IfSome result (λ n. n ≤ room) }
+    ensures taken { IfSome result (λ n. Consumes (R.remaining reader.old) (R.remaining reader.new) (take n piece.new)) }
+    ensures end { IfSome result (λ n. n ≡ 0 → IsAtEnd (R.remaining reader.new)) }
+    ensures failed { IfNone result (Keeps (R.remaining reader.old) (R.remaining reader.new)) }
+{
+    for _ in 0..u64::MAX {
+        match reader.read(&mut piece[..room]) {
+            Ok(count) => return Some(count),
+            Err(error) => {
+                if error.kind() != ErrorKind::Interrupted {
+                    return None;
+                }
+            }
+        }
+    }
+    None
+}
+
+#[cfg(test)]
+mod tests {
+    use super::*;
+    use std::io;
+    use std::test::Fail;
+
+    // Gives one byte a call; the first call is interrupted, and the fourth fails.
+    #[derive(Drop)]
+    struct Drip<'a> {
+        left: &'a [u8],
+        calls: u8,
+    }
+
+    impl Read for Drip<'_> {
+        fn read(&mut self, buf: &mut [u8]) -> io::Result<usize> {
+            self.calls = self.calls.wrapping_add(1);
+            match self.calls {
+                1 => return Err(io::Error::from(ErrorKind::Interrupted)),
+                4 => return Err(io::Error::from(ErrorKind::ConnectionReset)),
+                _ => {}
+            }
+            let Some((first, rest)) = self.left.split_first() else {
+                return Ok(0);
+            };
+            if buf.is_empty() {
+                return Ok(0);
+            }
+            buf[0] = *first;
+            self.left = rest;
+            Ok(1)
+        }
+    }
+
+    #[test]
+    fn reads_on_after_failure_in_mid_stream(rt: HostRuntime) -> Result<(), Fail> {
+        let drip = Drip {
+            left: b"abc",
+            calls: 0,
+        };
+        let mut source = ReaderSource::new(rt.alloc(), drip)?;
+        let mut into = Vec::new(rt.alloc());
+        let wanted = [Ok(1), Ok(1), Err(PortError::Failed), Ok(1), Ok(0)];
+        for answer in wanted {
+            assert_eq!(rt; source.read(&mut into, 8), answer);
+        }
+        assert_eq!(rt; into.as_slice(), b"abc".as_slice());
+        Ok(())
+    }
+
+    #[test]
+    fn reads_at_most_one_piece(rt: HostRuntime) -> Result<(), Fail> {
+        let bytes = vec![in rt.alloc(); 7u8; 70_000]?;
+        let mut source = ReaderSource::new(rt.alloc(), bytes.as_slice())?;
+        let mut into = Vec::new(rt.alloc());
+        assert_eq!(rt; source.read(&mut into, 100_000), Ok(65_536));
+        assert_eq!(rt; source.read(&mut into, 100_000), Ok(4_464));
+        assert_eq!(rt; source.read(&mut into, 100_000), Ok(0));
+        assert_eq!(rt; into.as_slice(), bytes.as_slice());
+        Ok(())
+    }
+}

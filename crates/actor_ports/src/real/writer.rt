@@ -1,0 +1,170 @@
+// A sink over a writer of the library.
+ghost use Rattle.std.specs.Prelude.{◌≡◌, ◌<◌, ◌≤◌, ◌↔◌, None, IfSome, IfNone, IsErrOf, IsTrue, length, take};
+ghost use Rattle.std.specs.Io.KnownBytes.{Appends, Keeps};
+ghost use Rattle.actor_ports.specs.Port.{HasCause, faults_after};
+ghost use Rattle.actor_ports.specs.Real.{Counted, WritesKnownFront, WritesThrough};
+
+use crate::port::{PortError, Sink};
+use std::io::{ErrorKind, Write};
+use std::marker::Model;
+
+/// A sink over one of the library's writers. It tells nothing of what was written.
+///
+/// Over standard output, in `main(rt: HostRuntime)`:
+/// `let output = WriterSink::new(io::writer(&rt));`
+#[derive(Drop)]
+pub struct WriterSink<W: Write + Drop> {
+    writer: W,
+    faults: u64,
+}
+
+impl<W: Write + Drop> Model for WriterSink<W> {
+    ghost use Rattle.actor_ports.specs.Real.{Counted};
+
+    ghost Value = { Counted W };
+
+    ghost view = { λ s. record { inner = s.writer; faults = s.faults } };
+}
+
+impl<W: Write + Drop> WriterSink<W> {
+    /// A sink over this writer.
+    pub fn new(writer: W) -> WriterSink<W>
+        ensures { result ≡ record { inner = writer; faults = 0 } }
+    {
+        WriterSink { writer, faults: 0 }
+    }
+}
+
+impl<W: Write + Drop> Sink for WriterSink<W> {
+    ghost contents = { λ _. None };
+
+    ghost write_faults = { λ s. s.faults };
+
+    /// Writes until all is written, again after each interruption, and flushes. Each failure is counted.
+    /// After 2^64 - 1 failures no further one can be counted: only then it answers `OutOfMemory`, and writes nothing.
+    fn write(&mut self, bytes: &[u8]) -> Result<(), PortError>
+        ensures cause { HasCause self.old.faults self.new.faults result }
+
+        ensures counted { self.new.faults ≡ faults_after self.old.faults result }
+        ensures spent { IsErrOf result PortError.OutOfMemory ↔ (self.old.faults ≡ u64.MAX) }
+        ensures through { WritesThrough (W.contents self.old.inner) (W.contents self.new.inner) bytes.now result }
+    {
+        if self.faults == u64::MAX {
+            return Err(PortError::OutOfMemory);
+        }
+        if !write_whole(&mut self.writer, bytes) {
+            self.faults += 1;
+            return Err(PortError::Failed);
+        }
+        Ok(())
+    }
+}
+
+// Writes all of the bytes and flushes, or answers false after a front of them.
+fn write_whole<W: Write>(writer: &mut W, bytes: &[u8]) -> bool
+    ensures whole { IsTrue result → Appends (W.contents writer.old) (W.contents writer.new) bytes.now }
+    ensures front { WritesKnownFront (W.contents writer.old) (W.contents writer.new) bytes.now }
+{
+    let mut done = 0;
+    for _ in 0..u64::MAX {
+        if done == bytes.len() {
+            return writer.flush().is_ok();
+        }
+        let Some(count) = write_piece(writer, &bytes[done..]) else {
+            return false;
+        };
+        done += count;
+    }
+    false
+}
+
+// One write of the library, again after each interruption. Where nothing is taken it has failed.
+fn write_piece<W: Write>(writer: &mut W, bytes: &[u8]) -> Option<usize>
+    ensures bound { IfSome result (λ n. n ≤ length bytes.now) }
+    ensures written { IfSome result (λ n. Appends (W.contents writer.old) (W.contents writer.new) (take n bytes.now)) }
+    ensures failed { IfNone result (Keeps (W.contents writer.old) (W.contents writer.new)) }
+{
+    for _ in 0..u64::MAX {
+        match writer.write(bytes) {
+            Ok(0) => return None,
+            Ok(count) => return Some(count),
+            Err(error) => {
+                if error.kind() != ErrorKind::Interrupted {
+                    return None;
+                }
+            }
+        }
+    }
+    None
+}
+
+#[cfg(test)]
+mod tests {
+    use super::*;
+    use std::alloc::Global;
+    use std::io;
+    use std::test::Fail;
+
+    // Takes one byte a call; the first call is interrupted, the fifth fails and the seventh takes nothing.
+    #[derive(Drop)]
+    struct Narrow {
+        held: Vec<u8>,
+        calls: u8,
+        may_flush: bool,
+    }
+
+    impl Write for Narrow {
+        fn write(&mut self, buf: &[u8]) -> io::Result<usize> {
+            self.calls = self.calls.wrapping_add(1);
+            match self.calls {
+                1 => return Err(io::Error::from(ErrorKind::Interrupted)),
+                5 => return Err(io::Error::from(ErrorKind::BrokenPipe)),
+                7 => return Ok(0),
+                _ => {}
+            }
+            let Some(first) = buf.first() else {
+                return Ok(0);
+            };
+            self.held.push(*first)?;
+            Ok(1)
+        }
+
+        fn flush(&mut self) -> io::Result<()> {
+            if self.may_flush {
+                Ok(())
+            } else {
+                Err(io::Error::from(ErrorKind::BrokenPipe))
+            }
+        }
+    }
+
+    fn make_narrow(alloc: Global, may_flush: bool) -> Narrow {
+        Narrow {
+            held: Vec::new(alloc),
+            calls: 0,
+            may_flush,
+        }
+    }
+
+    #[test]
+    fn writes_front_until_failure(rt: HostRuntime) -> Result<(), Fail> {
+        let mut sink = WriterSink::new(make_narrow(rt.alloc(), true));
+        let wanted = [
+            Ok(()),
+            Err(PortError::Failed),
+            Err(PortError::Failed),
+            Ok(()),
+        ];
+        for answer in wanted {
+            assert_eq!(rt; sink.write(b"ab"), answer);
+        }
+        assert_eq!(rt; sink.writer.held.as_slice(), b"abaaab".as_slice());
+        Ok(())
+    }
+
+    #[test]
+    fn refused_flush_is_failure(rt: HostRuntime) {
+        let mut sink = WriterSink::new(make_narrow(rt.alloc(), false));
+        assert_eq!(rt; sink.write(b"a"), Err(PortError::Failed));
+    }
+}
