@@ -6,6 +6,8 @@
 
 mod answer;
 mod cell;
+mod law;
 
 pub use answer::{Asked, CellEnd, CellError, CellPoll, NotHeld};
 pub use cell::Cell;
+pub use law::turns_isolated_law;

@@ -1,0 +1,5 @@
+pub mod Elements
+pub mod Overlaps
+pub mod CellSteps
+pub mod CellKeeps
+pub mod CellRuns
