@@ -5,7 +5,7 @@ use Rattle.std.proofs.lemmas.Bool.{and_parts, eq-eqb, ltb-true, cond_both, cond-
 use Rattle.turn_core.specs.declared.cell.Turn.{Turn}
 use Rattle.turn_core.specs.declared.cell.Waiter.{Waiter}
 use Rattle.turn_core.specs.declared.answer.CellEnd.TheVariants as ending
-use Rattle.turn_core.specs.Cell.{CellState, AskStep, EndStep, PollStep, new_cell, is_free, is_first_chain, is_open_chain, kept_chain, has_turn, without_turn, waiter_of, first_unmoved, without_first_unmoved, with_turn, admit_call, begun_next, cell_begin_next, next_call, call_of, without_call, not_open, cell_end, poll_waiter, cell_poll, with_line_moved, without_turns}
+use Rattle.turn_core.specs.Cell.{CellState, AskStep, EndStep, PollStep, new_cell, is_free, is_first_chain, is_open_chain, kept_chain, has_turn, without_turn, waiter_of, first_unmoved, without_first_unmoved, with_turn, with_waiter, admit_call, begun_next, cell_begin_next, next_call, call_of, without_call, not_open, cell_end, poll_waiter, cell_poll, with_line_moved, without_turns}
 use Rattle.turn_core.specs.CellMarks.{TurnMark, Began, Ended, open_after, asked_marks, ask_marks, next_marks, end_marks, begin_marks, ended_marks, end_all_marks}
 use Rattle.turn_core.specs.CellSound.{In, FitsDepth, IsCellSound}
 use Rattle.turn_core.proofs.Elements.{In-push, In-without_turn, In-without_waiter, In-without_first, chain-all_moved, length-without_turn}
@@ -24,13 +24,13 @@ new_cell_sound depth = record { one_chain = λ t u i j. absurd i; within = omega
 
 -- ---- soundness by parts
 
-line_sound : (c : CellState) (line : List Waiter) → IsCellSound c → ((w : Waiter) → In w line → FitsDepth c.depth w.chain) → IsCellSound (record c { line = line })
+pub line_sound : (c : CellState) (line : List Waiter) → IsCellSound c → ((w : Waiter) → In w line → FitsDepth c.depth w.chain) → IsCellSound (record c { line = line })
 line_sound c line s fits = record { one_chain = s.one_chain; within = s.within; turns_fit = s.turns_fit; line_fit = fits }
 
 holds_sound : (c : CellState) (holds : ℕ) → IsCellSound c → IsCellSound (record c { holds = holds })
 holds_sound c holds s = record { one_chain = s.one_chain; within = s.within; turns_fit = s.turns_fit; line_fit = s.line_fit }
 
-without_call_sound : (c : CellState) (call : ℕ) → IsCellSound c → IsCellSound (without_call c call)
+pub without_call_sound : (c : CellState) (call : ℕ) → IsCellSound c → IsCellSound (without_call c call)
 without_call_sound c call s =
     record {
       one_chain = λ t u i j. s.one_chain t u (In-without_turn call c.turns t i) (In-without_turn call c.turns u j);
@@ -47,7 +47,7 @@ without_first-fits c s w i = s.line_fit w (In-without_first c.line w i)
 pub stays : (c : CellState) → IsCellSound c → KeepsTurns c.depth c.turns c []
 stays c s = record { same_depth = refl; sound = s; enters = tt; opens = refl }
 
-turn_begins : (c : CellState) (call : ℕ) (chain : Option (List ℕ)) → IsCellSound c → FitsDepth c.depth chain → Enters c.depth c.turns chain
+pub turn_begins : (c : CellState) (call : ℕ) (chain : Option (List ℕ)) → IsCellSound c → FitsDepth c.depth chain → Enters c.depth c.turns chain
     → KeepsTurns c.depth c.turns (with_turn c call chain) (Began call chain ∷ [])
 turn_begins c call chain s fits e =
     let new : Turn = record { call = call; chain = chain } in
@@ -66,11 +66,25 @@ turn_begins c call chain s fits e =
     }
 
 -- any turn may begin where none is open
-enters_free : (depth : ℕ) (turns : List Turn) (chain : Option (List ℕ)) → turns ≡ [] → Enters depth turns chain
+pub enters_free : (depth : ℕ) (turns : List Turn) (chain : Option (List ℕ)) → turns ≡ [] → Enters depth turns chain
 enters_free depth turns chain free =
     subst (λ (ts : List Turn). Enters depth ts chain) (sym free) (record { same = λ t i. absurd i; few = omega arith })
 
 -- ---- the calls
+
+-- a call enters beside the turns of its own chain, where the depth allows it
+pub enters_beside : (c : CellState) (chain : Option (List ℕ)) → IsCellSound c → FitsDepth c.depth chain → is_open_chain c chain ≡ true → length c.turns < c.depth → Enters c.depth c.turns chain
+enters_beside c chain s fits o l =
+    let h = and_parts (nat_lt 0 c.depth) (is_first_chain c.turns chain) o in
+    let first = first_chain c.turns chain h.1 in
+    record {
+      same = λ t i. (s.one_chain t first.0 i first.1 ∙ first.2, fits ∙ h.0, ltb-true 0 c.depth h.0);
+      few = omega arith;
+    }
+
+pub waits_sound : (c : CellState) (call : ℕ) (chain : Option (List ℕ)) → IsCellSound c → FitsDepth c.depth chain → IsCellSound (with_waiter c call chain)
+waits_sound c call chain s fits =
+    line_sound c _ s (λ w i. elim (In-push c.line _ w i) [ inl old ↦ s.line_fit w old | inr new ↦ subst (λ (z : Option (List ℕ)). FitsDepth c.depth z) (sym (ap (λ (z : Waiter). z.chain) new)) fits ])
 
 pub ask_keeps : (c : CellState) (call : ℕ) (chain : Option (List ℕ)) (may_begin : Bool) → IsCellSound c → (0 < c.depth → IsSome chain)
     → KeepsTurns c.depth c.turns (admit_call c call chain may_begin).cell (ask_marks c call chain may_begin)
@@ -78,28 +92,14 @@ ask_keeps c call chain may_begin s given =
     let kept = kept_chain c chain in
     let fits = kept_chain-fits c chain given in
     ask_cases c call chain may_begin (λ (a : AskStep). KeepsTurns c.depth c.turns a.cell (asked_marks call (kept_chain c chain) a.answer))
-    (λ o l. turn_begins c call kept s fits (beside o l))
+    (λ o l. turn_begins c call kept s fits (enters_beside c kept s fits o l))
     (stays c s)
     (λ free m. turn_begins c call kept s fits (enters_free c.depth c.turns kept free))
-    (λ l. record {
-      same_depth = refl;
-      sound = line_sound c _ s (λ w i. elim (In-push c.line _ w i) [ inl old ↦ s.line_fit w old | inr new ↦ subst (λ (z : Option (List ℕ)). FitsDepth c.depth z) (sym (ap (λ (z : Waiter). z.chain) new)) fits ]);
-      enters = tt;
-      opens = refl;
-    })
+    (λ l. record { same_depth = refl; sound = waits_sound c call kept s fits; enters = tt; opens = refl })
     (stays c s)
-  where
-    beside : is_open_chain c (kept_chain c chain) ≡ true → length c.turns < c.depth → Enters c.depth c.turns (kept_chain c chain)
-    beside o l =
-        let h = and_parts (nat_lt 0 c.depth) (is_first_chain c.turns (kept_chain c chain)) o in
-        let first = first_chain c.turns (kept_chain c chain) h.1 in
-        record {
-          same = λ t i. (s.one_chain t first.0 i first.1 ∙ first.2, kept_chain-fits c chain given ∙ h.0, ltb-true 0 c.depth h.0);
-          few = omega arith;
-        }
 
 -- the next call begins in a free cell
-next_begins : (c : CellState) (next : Option Waiter) → IsCellSound c → c.turns ≡ [] → first_unmoved c.line ≡ next
+pub next_begins : (c : CellState) (next : Option Waiter) → IsCellSound c → c.turns ≡ [] → first_unmoved c.line ≡ next
     → KeepsTurns c.depth c.turns (begun_next c next) (next_marks next)
 next_begins c None s free e = stays c s
 next_begins c (Some w) s free e =

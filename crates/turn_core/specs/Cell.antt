@@ -118,6 +118,11 @@ admit_call c call chain may_begin =
     )
     )
 
+-- the turn of the call that begins, if there is one
+abbrev pub begun_turns : Option Waiter → List Turn
+begun_turns None = []
+begun_turns (Some w) = record { call = w.call; chain = w.chain } ∷ []
+
 abbrev pub begun_next : CellState → Option Waiter → CellState
 begun_next c None = c
 begun_next c (Some w) = record c { turns = c.turns ++ record { call = w.call; chain = w.chain } ∷ []; line = without_first_unmoved c.line }

@@ -1,8 +1,8 @@
 -- What stays true of a cell, whatever calls it takes. Own.
-use Rattle.std.specs.Prelude.{◌≡◌, ◌≤◌, ℕ, ◌⊎◌, nat_lt, List, [], ◌∷◌, length, Option, is_some}
+use Rattle.std.specs.Prelude.{◌≡◌, ◌≤◌, ◌^◌, ℕ, ◌⊎◌, nat_lt, List, [], ◌∷◌, length, Option, is_some}
 use Rattle.turn_core.specs.declared.cell.Turn.{Turn}
 use Rattle.turn_core.specs.declared.cell.Waiter.{Waiter}
-use Rattle.turn_core.specs.Cell.{CellState}
+use Rattle.turn_core.specs.Cell.{CellState, greatest_depth, longest_line}
 use Rattle.turn_core.specs.CellMarks.{most_turns}
 
 -- x is an element of the list
@@ -20,3 +20,10 @@ pub record IsCellSound (c : CellState) : Type 0 where
   pub within : length c.turns ≤ most_turns c.depth
   pub turns_fit : (t : Turn) → In t c.turns → FitsDepth c.depth t.chain
   pub line_fit : (w : Waiter) → In w c.line → FitsDepth c.depth w.chain
+
+-- and besides the depth, the line and the holds are in their ranges
+pub record IsCellKept (c : CellState) : Type 0 where
+  pub sound : IsCellSound c
+  pub depth_fits : c.depth ≤ greatest_depth
+  pub line_fits : length c.line ≤ longest_line
+  pub holds_fit : c.holds ≤ 2 ^ 62

@@ -7,6 +7,8 @@
 mod answer;
 mod cell;
 mod law;
+mod line;
+mod turns;
 
 pub use answer::{Asked, CellEnd, CellError, CellPoll, NotHeld};
 pub use cell::Cell;
