@@ -6,3 +6,4 @@ pub mod Overlaps
 pub mod CellSteps
 pub mod CellKeeps
 pub mod CellRuns
+mod Rows
