@@ -56,3 +56,7 @@ In-first_unmoved [] w e = absurd (cc)
 In-first_unmoved (v ∷ ws) w e =
     let more = In-first_unmoved ws w in
     cond_both v.moved _ _ (λ r. r ≡ Some w → In w (v ∷ ws)) (λ _ q. inr (more q)) (λ _ q. inl (cc)) e
+
+pub depth-admit_call : (c : CellState) (call : ℕ) (chain : Option (List ℕ)) (may_begin : Bool) → (admit_call c call chain may_begin).cell.depth ≡ c.depth
+depth-admit_call c call chain may_begin =
+    ask_cases c call chain may_begin (λ (s : AskStep). s.cell.depth ≡ c.depth) (λ _ _. refl) refl (λ _ _. refl) (λ _. refl) refl

@@ -6,4 +6,5 @@ pub mod Overlaps
 pub mod CellSteps
 pub mod CellKeeps
 pub mod CellRuns
+pub mod FreshCalls
 mod Rows

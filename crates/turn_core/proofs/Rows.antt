@@ -1,5 +1,5 @@
 -- Worked examples of the cell rule.
-use Rattle.std.proofs.Common.{◌≡◌, ℕ, true, List, [], ◌∷◌, Option, None, Some, refl}
+use Rattle.std.proofs.Common.{◌≡◌, ℕ, true, false, List, [], ◌∷◌, Option, None, Some, refl}
 use Rattle.std.specs.declared.result.Result.TheVariants.{Ok, Err}
 use Rattle.turn_core.specs.declared.answer.Asked.TheVariants as asked
 use Rattle.turn_core.specs.declared.answer.CellError.TheVariants as refused
