@@ -1,7 +1,7 @@
 -- Turn admission: one actor's open turns, the line of calls that wait, and its holds.
 -- From the description of turns and reentrancy in Dapr's "Actor runtime features"; the line's length, the
 -- depth's range, polls, holds and moved calls are own.
-use Rattle.std.specs.Prelude.{ℕ, ◌+◌, ◌-◌, Bool, true, false, ◌&&◌, ◌||◌, ◌==◌, nat_lt, if◌then◌else◌, List, [], ◌∷◌, ◌++◌, length, bytes_eq, Option, None, Some, is_some, option_map}
+use Rattle.std.specs.Prelude.{◌≡◌, ℕ, ◌+◌, ◌-◌, Bool, true, false, ◌&&◌, ◌||◌, ◌==◌, nat_lt, if◌then◌else◌, List, [], ◌∷◌, ◌++◌, length, bytes_eq, Option, None, Some, is_some, option_map}
 use Rattle.std.specs.declared.result.Result.{Result}
 use Rattle.std.specs.declared.result.Result.TheVariants.{Ok, Err}
 use Rattle.turn_core.specs.declared.cell.Turn.{Turn}
@@ -24,6 +24,10 @@ pub record CellState : Type 0 where
 
 abbrev pub longest_line : ℕ
 longest_line = 1024
+
+-- the depth's own range ends here
+abbrev pub greatest_depth : ℕ
+greatest_depth = 1024
 
 abbrev pub new_cell : ℕ → CellState
 new_cell depth = record { depth = depth; turns = []; line = []; holds = 0 }
@@ -114,6 +118,11 @@ admit_call c call chain may_begin =
     )
     )
 
+-- the turn of the call that begins, if there is one
+abbrev pub begun_turns : Option Waiter → List Turn
+begun_turns None = []
+begun_turns (Some w) = record { call = w.call; chain = w.chain } ∷ []
+
 abbrev pub begun_next : CellState → Option Waiter → CellState
 begun_next c None = c
 begun_next c (Some w) = record c { turns = c.turns ++ record { call = w.call; chain = w.chain } ∷ []; line = without_first_unmoved c.line }
@@ -163,6 +172,21 @@ poll_waiter c call (Some w) =
 abbrev pub cell_poll : CellState → ℕ → PollStep
 cell_poll c call = if has_turn call c.turns then record { cell = c; answer = polled.Begun } else poll_waiter c call (waiter_of call c.line)
 
+-- one hold more, and one less where there is one
+abbrev pub with_hold : CellState → CellState
+with_hold c = record c { holds = c.holds + 1 }
+
+abbrev pub without_hold : CellState → CellState
+without_hold c = record c { holds = c.holds - 1 }
+
+-- every call in the line is moved
+abbrev pub with_line_moved : CellState → CellState
+with_line_moved c = record c { line = all_moved c.line }
+
+-- every open turn has ended, and none begins
+abbrev pub without_turns : CellState → CellState
+without_turns c = record c { turns = [] }
+
 -- the chain of the open turns
 abbrev pub chain_of : List Turn → Option (List ℕ)
 chain_of [] = None
@@ -171,3 +195,10 @@ chain_of (t ∷ ts) = t.chain
 -- whether the call is open or in the line
 abbrev pub is_in_cell : ℕ → CellState → Bool
 is_in_cell call c = has_turn call c.turns || is_some (waiter_of call c.line)
+
+-- what an ask gives: at want of memory the cell is as before, else it is the rule's step
+abbrev pub GivesStep : Result Asked CellError → CellState → CellState → AskStep → Type 0
+GivesStep (Ok a) old new step = (Ok a ≡ step.answer) × (new ≡ step.cell)
+GivesStep (Err (refused.Depth n)) old new step = (Err (refused.Depth n) ≡ step.answer) × (new ≡ step.cell)
+GivesStep (Err (refused.QueueFull n)) old new step = (Err (refused.QueueFull n) ≡ step.answer) × (new ≡ step.cell)
+GivesStep (Err refused.OutOfMemory) old new step = new ≡ old

@@ -1,8 +1,12 @@
-// The cell of one actor.
-ghost use Rattle.std.specs.Prelude.{◌≡◌, ◌+◌, ◌^◌, ◌<◌, ◌≤◌, length, IfOk};
-ghost use Rattle.turn_core.specs.Cell.{CellState, new_cell, longest_line};
+// The cell of one actor: which call begins, which waits and which is refused.
+ghost use Rattle.std.specs.Prelude.{◌≡◌, ◌+◌, ◌^◌, ◌<◌, ◌≤◌, ◌↔◌, max, length, false, [], IfOk, IfErr, IsSome, OnOk, OnErr, option_map};
+ghost use Rattle.std.specs.Option.{option_copied};
+ghost use Rattle.turn_core.specs.Cell.{new_cell, greatest_depth, longest_line, admit_call, cell_end, cell_poll, cell_begin_next, first_unmoved, call_of, unmoved, chain_of, is_in_cell, with_hold, without_hold, with_line_moved, without_turns, GivesStep};
+ghost use Rattle.turn_core.specs.CellSound.{IsCellSound};
 
 use crate::answer::{Asked, CellEnd, CellError, CellPoll, NotHeld};
+use crate::line::{begin_first, end_in_line, join_line, move_line, take_at, waiter_place};
+use crate::turns::{carry_chain, chain_at, end_turn, is_open, open_turn};
 use actor_names::ChainId;
 use std::alloc::Global;
 use std::collections::VecDeque;
@@ -32,18 +36,197 @@ pub struct Cell {
     holds: u64,
 }
 
+/// The greatest number of calls in a line.
+const LONGEST_LINE: usize = 1024;
+
 impl Model for Cell {
+    ghost use Rattle.std.specs.Prelude.{◌<◌, vec_capacity};
     ghost use Rattle.turn_core.specs.Cell.{CellState};
+    ghost use Rattle.turn_core.specs.CellSound.{IsCellKept};
 
     ghost Value = { CellState };
 
     ghost view = { λ a. record { depth = a.depth; turns = a.turns.items; line = a.line.items; holds = a.holds } };
+
+    ghost invariant = { λ a. IsCellKept (record { depth = a.depth; turns = a.turns.items; line = a.line.items; holds = a.holds }) × (0 < vec_capacity a.turns) };
 }
 
 impl Cell {
-    /// How many holds there are.
+    /// A cell with no turn, no call in the line and no hold. A `depth` of 0 is reentrancy off, else it is the
+    /// greatest number of turns of one chain that are open at once, from 1 to 1,024.
+    pub fn new(alloc: Global, depth: u32) -> Result<Cell, CellError>
+        requires { depth ≤ greatest_depth }
+        ensures ok { IfOk result (λ cell. cell ≡ new_cell depth) }
+        ensures err { IfErr result (λ e. e ≡ CellError.OutOfMemory) }
+    {
+        match Vec::with_capacity(alloc, 1) {
+            Ok(turns) => Ok(Cell {
+                depth,
+                turns,
+                line: VecDeque::new(alloc),
+                holds: 0,
+            }),
+            Err(_) => Err(CellError::OutOfMemory),
+        }
+    }
+
+    /// Begins the call, puts it at the end of the line or refuses it. A chain that is open enters again up to the
+    /// depth, whatever `may_begin` says; any other call begins only where no turn is open and `may_begin` holds.
+    /// At depth 0 the chain is ignored.
+    pub fn ask(
+        &mut self,
+        alloc: Global,
+        call: u64,
+        chain: Option<&ChainId>,
+        may_begin: bool,
+    ) -> Result<Asked, CellError>
+        requires absent { is_in_cell call self.old ≡ false }
+        requires chained { 0 < self.old.depth → IsSome chain }
+        ensures { GivesStep result self.old self.new (admit_call self.old call (option_copied chain.entry) may_begin) }
+    {
+        let chain = chain_at(self.depth, chain);
+        if self.depth > 0 && carry_chain(&self.turns, chain) {
+            if self.turns.len() >= self.depth as usize {
+                return Err(CellError::Depth {
+                    turns: self.turns.len() as u64,
+                });
+            }
+            open_turn(alloc, &mut self.turns, call, chain)?;
+            return Ok(Asked::Begun);
+        }
+        if self.turns.is_empty() && may_begin {
+            open_turn(alloc, &mut self.turns, call, chain)?;
+            return Ok(Asked::Begun);
+        }
+        if self.line.len() >= LONGEST_LINE {
+            return Err(CellError::QueueFull {
+                n: self.line.len() as u64,
+            });
+        }
+        join_line(alloc, &mut self.line, call, chain)?;
+        Ok(Asked::Waits {
+            place: self.line.len() as u64,
+        })
+    }
+
+    /// Ends the call's turn; where no turn is open afterwards and `may_begin` holds, the first call in the line
+    /// that isn't moved begins.
+    pub fn end(&mut self, call: u64, may_begin: bool) -> CellEnd
+        ensures answer { result ≡ (cell_end self.old call may_begin).answer }
+        ensures cell { self.new ≡ (cell_end self.old call may_begin).cell }
+    {
+        if !end_turn(&mut self.turns, call) {
+            return end_in_line(&self.line, call);
+        }
+        if !may_begin || !self.turns.is_empty() {
+            return CellEnd::Ended { next: None };
+        }
+        CellEnd::Ended {
+            next: begin_first(&mut self.turns, &mut self.line),
+        }
+    }
+
+    /// Where the call stands; a moved one is taken off the line.
+    pub fn poll(&mut self, call: u64) -> CellPoll
+        ensures answer { result ≡ (cell_poll self.old call).answer }
+        ensures cell { self.new ≡ (cell_poll self.old call).cell }
+    {
+        if is_open(&self.turns, call) {
+            return CellPoll::Begun;
+        }
+        match waiter_place(&self.line, call) {
+            None => CellPoll::Gone,
+            Some(at) => {
+                if self.line[at].moved {
+                    let _moved = take_at(&mut self.line, at);
+                    return CellPoll::Moved;
+                }
+                CellPoll::Waits {
+                    place: at as u64 + 1,
+                }
+            }
+        }
+    }
+
+    /// Begins the first call in the line that isn't moved, and gives its number.
+    pub fn begin_next(&mut self) -> Option<u64>
+        requires { self.old.turns ≡ [] }
+        ensures answer { result ≡ option_map call_of (first_unmoved self.old.line) }
+        ensures cell { self.new ≡ cell_begin_next self.old }
+    {
+        begin_first(&mut self.turns, &mut self.line)
+    }
+
+    /// Holds the actor once more.
+    pub fn hold(&mut self)
+        requires { self.old.holds < 2 ^ 62 }
+        ensures { self.new ≡ with_hold self.old }
+    {
+        self.holds += 1;
+    }
+
+    /// Takes one hold off.
+    pub fn release(&mut self) -> Result<(), NotHeld>
+        ensures answer { OnErr result (self.old.holds ≡ 0) }
+        ensures held { OnOk result (0 < self.old.holds) }
+        ensures cell { self.new ≡ without_hold self.old }
+    {
+        if self.holds == 0 {
+            return Err(NotHeld);
+        }
+        self.holds -= 1;
+        Ok(())
+    }
+
+    /// Marks every call in the line as moved, and gives how many weren't.
+    pub fn move_waiting(&mut self) -> u32
+        ensures answer { result ≡ unmoved self.old.line }
+        ensures cell { self.new ≡ with_line_moved self.old }
+    {
+        move_line(&mut self.line)
+    }
+
+    /// Ends the open turns, and gives how many there were; no call begins.
+    pub fn end_all(&mut self) -> u32
+        ensures answer { result ≡ length self.old.turns }
+        ensures cell { self.new ≡ without_turns self.old }
+    {
+        let count = self.turns.len() as u32;
+        self.turns.clear();
+        count
+    }
+
+    /// The chain of the open turns, where reentrancy is on.
+    pub fn chain(&self) -> Option<&ChainId>
+        ensures { option_copied result ≡ chain_of self.now.turns }
+    {
+        match self.turns.first() {
+            None => None,
+            Some(turn) => turn.chain.as_ref(),
+        }
+    }
+
+    /// How many turns are open: at most the depth, and at depth 0 at most one.
+    pub fn turns(&self) -> u32
+        ensures count { result ≡ length self.now.turns }
+        ensures within { result ≤ max self.now.depth 1 }
+        ensures sound { IsCellSound self.now }
+    {
+        self.turns.len() as u32
+    }
+
+    /// How many calls are in the line, moved ones among them: at most 1,024.
+    pub fn waiting(&self) -> u32
+        ensures count { result ≡ length self.now.line }
+        ensures within { result ≤ longest_line }
+    {
+        self.line.len() as u32
+    }
+
+    /// How many holds there are, at most 2^62.
     pub fn holds(&self) -> u64
-        ensures { result ≡ self.now.holds }
+        ensures count { result ≡ self.now.holds }
+        ensures within { result ≤ 2 ^ 62 }
     {
         self.holds
     }

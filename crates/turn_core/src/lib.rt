@@ -6,6 +6,12 @@
 
 mod answer;
 mod cell;
+mod law;
+mod line;
+#[cfg(test)]
+mod tests;
+mod turns;
 
 pub use answer::{Asked, CellEnd, CellError, CellPoll, NotHeld};
 pub use cell::Cell;
+pub use law::turns_isolated_law;

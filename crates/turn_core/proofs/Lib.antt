@@ -1,0 +1,10 @@
+mod CellBounds
+mod MovedLine
+mod Places
+pub mod Elements
+pub mod Overlaps
+pub mod CellSteps
+pub mod CellKeeps
+pub mod CellRuns
+pub mod FreshCalls
+mod Rows
