@@ -1,5 +1,5 @@
 // Why a text is no name.
-use std::alloc::AllocError;
+use std::alloc::{AllocError, AllocFailed};
 use thiserror::Error;
 
 /// There was no memory for the answer; everything is as before the call.
@@ -44,5 +44,17 @@ impl From<OutOfMemory> for NameError {
 
     fn from(_: OutOfMemory) -> NameError {
         NameError::OutOfMemory
+    }
+}
+
+impl From<AllocError> for OutOfMemory {
+    fn from(_: AllocError) -> OutOfMemory {
+        OutOfMemory
+    }
+}
+
+impl<T: Drop> From<AllocFailed<T>> for OutOfMemory {
+    fn from(_: AllocFailed<T>) -> OutOfMemory {
+        OutOfMemory
     }
 }

@@ -196,6 +196,13 @@ impl Cell {
         count
     }
 
+    /// The depth that the cell was made with; 0 is reentrancy off.
+    pub fn depth(&self) -> u32
+        ensures { result ≡ self.now.depth }
+    {
+        self.depth
+    }
+
     /// The chain of the open turns, where reentrancy is on.
     pub fn chain(&self) -> Option<&ChainId>
         ensures { option_copied result ≡ chain_of self.now.turns }
