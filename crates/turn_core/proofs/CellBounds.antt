@@ -1,5 +1,5 @@
 -- What the bodies of a cell's calls leave, against the rule: the cell after each, and that it keeps its ranges.
-use Rattle.std.proofs.Common.{◌≡◌, ◌⊎◌, ℕ, Bool, true, false, ◌&&◌, ◌+◌, ◌<◌, ◌≤◌, List, [], ◌∷◌, ◌++◌, length, get_or, Option, None, Some, IsSome, refl, sym, ap, subst, ◌∙◌, inl, inr, arith, position, length-append}
+use Rattle.std.proofs.Common.{◌≡◌, ℕ, Bool, true, false, ◌&&◌, ◌+◌, ◌<◌, ◌≤◌, List, [], ◌∷◌, ◌++◌, length, get_or, Option, None, Some, IsSome, refl, sym, ap, subst, ◌∙◌, arith, position, length-append}
 use Rattle.std.specs.Prelude.{◌==◌, remove, option_map}
 use Rattle.std.proofs.lemmas.Bool.{cond_both, cond-true, cond-false, or_parts}
 use Rattle.std.proofs.lemmas.List.{append-nil}
@@ -11,7 +11,7 @@ use Rattle.turn_core.specs.Cell.{CellState, EndStep, PollStep, longest_line, is_
 use Rattle.turn_core.specs.CellSound.{FitsDepth, IsCellSound, IsCellKept}
 use Rattle.turn_core.proofs.Elements.{In-without_waiter}
 use Rattle.turn_core.proofs.CellSteps.{kept_chain-fits}
-use Rattle.turn_core.proofs.CellKeeps.{line_sound, turn_begins, enters_free, enters_beside, waits_sound, without_call_sound, next_begins, moves_keep}
+use Rattle.turn_core.proofs.CellKeeps.{line_sound, turn_begins, enters_beside, waits_sound, without_call_sound, next_begins, moves_keep}
 use Rattle.turn_core.proofs.Places.{of_waiter, waiter_of-found, waiter_of-missed, without_waiter-found, place_of-found}
 
 -- ---- the first call in the line begins
@@ -91,14 +91,6 @@ asked_kept c call chain kept turns k given same o l p =
     subst (λ (ts : List Turn). IsCellKept (record c { turns = ts })) (sym p)
     (record { sound = begun.sound; depth_fits = k.depth_fits; line_fits = k.line_fits; holds_fit = k.holds_fit })
 
-pub fresh_kept : (c : CellState) (call : ℕ) (chain kept : Option (List ℕ)) (turns : List Turn) → IsCellKept c → (0 < c.depth → IsSome chain) → kept ≡ kept_chain c chain
-    → c.turns ≡ [] → turns ≡ c.turns ++ record { call = call; chain = kept } ∷ [] → IsCellKept (record c { turns = turns })
-fresh_kept c call chain kept turns k given same free p =
-    let fits : FitsDepth c.depth kept = subst (λ (z : Option (List ℕ)). FitsDepth c.depth z) (sym same) (kept_chain-fits c chain given) in
-    let begun = turn_begins c call kept k.sound fits (enters_free c.depth c.turns kept free) in
-    subst (λ (ts : List Turn). IsCellKept (record c { turns = ts })) (sym p)
-    (record { sound = begun.sound; depth_fits = k.depth_fits; line_fits = k.line_fits; holds_fit = k.holds_fit })
-
 pub waits_kept : (c : CellState) (call : ℕ) (chain kept : Option (List ℕ)) (line : List Waiter) → IsCellKept c → (0 < c.depth → IsSome chain) → kept ≡ kept_chain c chain
     → length c.line < longest_line → line ≡ c.line ++ record { call = call; chain = kept; moved = false } ∷ [] → IsCellKept (record c { line = line })
 waits_kept c call chain kept line k given same l p =
@@ -127,9 +119,6 @@ ended_kept c call turns k p =
 end_of_absent : (c : CellState) (call : ℕ) (may_begin : Bool) → has_turn call c.turns ≡ false → cell_end c call may_begin ≡ record { cell = c; answer = not_open (waiter_of call c.line) }
 end_of_absent c call may_begin e = cond-false (has_turn call c.turns) _ _ e
 
-pub absent_answer : (c : CellState) (call : ℕ) (may_begin : Bool) → has_turn call c.turns ≡ false → not_open (waiter_of call c.line) ≡ (cell_end c call may_begin).answer
-absent_answer c call may_begin e = sym (ap (λ (s : EndStep). s.answer) (end_of_absent c call may_begin e))
-
 pub absent_cell : (c : CellState) (call : ℕ) (may_begin : Bool) (turns : List Turn) → has_turn call c.turns ≡ false → turns ≡ without_turn call c.turns → record c { turns = turns } ≡ (cell_end c call may_begin).cell
 absent_cell c call may_begin turns e p =
     let q = p ∙ without_turn-absent call c.turns e in
@@ -142,31 +131,11 @@ end_of_open c call may_begin next e n =
     cond-true (has_turn call c.turns) _ _ e
     ∙ ap (λ (r : Option Waiter). let s : EndStep = record { cell = begun_next (without_call c call) r; answer = ending.Ended (option_map call_of r) } in s) n
 
-no_next : (c : CellState) (call : ℕ) (may_begin : Bool) → (may_begin ≡ false) ⊎ (is_free (without_call c call) ≡ false) → next_call may_begin (without_call c call) ≡ None
-no_next c call may_begin (inl e) = cond-false (may_begin && is_free (without_call c call)) _ _ (ap (λ (b : Bool). b && is_free (without_call c call)) e)
-no_next c call may_begin (inr e) = cond-false (may_begin && is_free (without_call c call)) _ _ (both may_begin (is_free (without_call c call)) e)
-  where
-    both : (a b : Bool) → b ≡ false → (a && b) ≡ false
-    both true b f = f
-    both false b f = refl
-
-pub alone_answer : (c : CellState) (call : ℕ) (may_begin : Bool) → has_turn call c.turns ≡ true → (may_begin ≡ false) ⊎ (is_free (without_call c call) ≡ false) → ending.Ended None ≡ (cell_end c call may_begin).answer
-alone_answer c call may_begin e f = sym (ap (λ (s : EndStep). s.answer) (end_of_open c call may_begin None e (no_next c call may_begin f)))
-
-pub alone_cell : (c : CellState) (call : ℕ) (may_begin : Bool) (turns : List Turn) → has_turn call c.turns ≡ true → (may_begin ≡ false) ⊎ (is_free (without_call c call) ≡ false) → turns ≡ without_turn call c.turns
-    → record c { turns = turns } ≡ (cell_end c call may_begin).cell
-alone_cell c call may_begin turns e f p =
-    ap (λ (ts : List Turn). record c { turns = ts }) p ∙ sym (ap (λ (s : EndStep). s.cell) (end_of_open c call may_begin None e (no_next c call may_begin f)))
-
 next_first : (c : CellState) (call : ℕ) (may_begin : Bool) → may_begin ≡ true → without_turn call c.turns ≡ [] → next_call may_begin (without_call c call) ≡ first_unmoved c.line
 next_first c call may_begin m free =
     let t = ap (λ (b : Bool). b && is_free (without_call c call)) m in
     let f = ap (λ (ts : List Turn). length ts == 0) free in
     cond-true (may_begin && is_free (without_call c call)) _ _ (t ∙ f)
-
-pub next_answer : (c : CellState) (call : ℕ) (may_begin : Bool) → has_turn call c.turns ≡ true → may_begin ≡ true → without_turn call c.turns ≡ []
-    → ending.Ended (option_map call_of (first_unmoved c.line)) ≡ (cell_end c call may_begin).answer
-next_answer c call may_begin e m free = sym (ap (λ (s : EndStep). s.answer) (end_of_open c call may_begin (first_unmoved c.line) e (next_first c call may_begin m free)))
 
 pub next_cell : (c : CellState) (call : ℕ) (may_begin : Bool) (ended turns : List Turn) (line : List Waiter) → has_turn call c.turns ≡ true → may_begin ≡ true → ended ≡ without_turn call c.turns → ended ≡ []
     → turns ≡ ended ++ begun_turns (first_unmoved c.line) → line ≡ without_first_unmoved c.line
