@@ -1,0 +1,145 @@
+-- How a replay ends, from how its lines ended and what was written.
+use Rattle.std.proofs.Common.{◌≡◌, ◌⊎◌, inl, inr, ◌<◌, ◌≤◌, ℕ, List, [], ◌++◌, length, take, Option, None, Some, Ok, refl, sym, ap, subst, ◌∙◌, arith, length-append}
+use Rattle.std.specs.Prelude.{codes}
+use Rattle.std.proofs.lemmas.Bool.{cases_lt, lt-ltb, le-ltb}
+use Rattle.std.proofs.lemmas.List.{take-take, take_all, length-take, append-nil}
+use Rattle.actor_ports.specs.declared.port.PortError.{PortError}
+use Rattle.actors_top.specs.declared.status.Status.{Status}
+use Rattle.actors_top.specs.declared.status.Status.TheVariants as status
+use Rattle.actors_top.specs.Lines.{lines_of}
+use Rattle.actors_top.specs.Replay.{ReplayRun, replay_of, limit_run, run_lines, new_script, most_bytes, most_lines}
+use Rattle.actors_top.specs.ReplayTold.{IsFront, Prints, Writes, WritesFrontOf, WritesAs, RunEnds, EndsAs, ReadsAll, AreAllOf, IsAtEnd, Replays}
+use Rattle.actors_top.proofs.NeverMix.{replay_never_mixes}
+
+-- a front of a front is a front
+front_front : (a b c : List ℕ) → IsFront a b → IsFront b c → IsFront a c
+front_front a b c p q = by (cases_lt p.0 q.0)
+  where
+    by : (p.0 < q.0) ⊎ (q.0 ≤ p.0) → IsFront a c
+    by (inl less) = (p.0, p.1 ∙ ap (λ (l : List ℕ). take p.0 l) q.1 ∙ take-take p.0 q.0 c (omega arith))
+    by (inr more) = (q.0, p.1 ∙ take_all p.0 b (omega (arith, ap length q.1, length-take q.0 c)) ∙ q.1)
+
+wider_front : (before after : Option (List ℕ)) (text all : List ℕ) → IsFront text all → WritesFrontOf before after text → WritesFrontOf before after all
+wider_front None after text all front written = tt
+wider_front (Some held) after text all front written = (written.0, front_front written.0 text all written.1 front, written.2)
+
+-- what was printed is a front of the run
+printed_front : (run : ReplayRun) (ended : Status) (text : List ℕ) → Prints run ended text → IsFront text run.text
+printed_front run status.OutOfMemory text p = p
+printed_front run status.Done text p = (length text, sym (take_all (length text) text (omega arith)) ∙ ap (λ (l : List ℕ). take (length text) l) p.1)
+printed_front run status.Refused text p = (length text, sym (take_all (length text) text (omega arith)) ∙ ap (λ (l : List ℕ). take (length text) l) p.1)
+printed_front run status.Limit text p = (length text, sym (take_all (length text) text (omega arith)) ∙ ap (λ (l : List ℕ). take (length text) l) p.1)
+printed_front run status.Usage text p = absurd p
+printed_front run status.SourceFault text p = absurd p
+printed_front run status.SinkFault text p = absurd p
+
+-- the lines ended so and the text was written so
+pub run_ends : (run : ReplayRun) (before after : Option (List ℕ)) (text : List ℕ) (ended result : Status) → Prints run ended text → WritesAs before after text ended result → RunEnds run result before after
+run_ends run before after text ended status.SinkFault p w = wider_front before after text run.text (printed_front run ended text p) w
+run_ends run before after text ended status.OutOfMemory p w = wider_front before after text run.text (printed_front run ended text p) w
+run_ends run before after text ended status.Done p w =
+    let q : Prints run status.Done text = subst (λ (s : Status). Prints run s text) w.0 p in (q.0, subst (λ (l : List ℕ). Writes before after l) q.1 w.1)
+run_ends run before after text ended status.Refused p w =
+    let q : Prints run status.Refused text = subst (λ (s : Status). Prints run s text) w.0 p in (q.0, subst (λ (l : List ℕ). Writes before after l) q.1 w.1)
+run_ends run before after text ended status.Limit p w =
+    let q : Prints run status.Limit text = subst (λ (s : Status). Prints run s text) w.0 p in (q.0, subst (λ (l : List ℕ). Writes before after l) q.1 w.1)
+run_ends run before after text ended status.Usage p w = absurd (subst (λ (s : Status). Prints run s text) w.0 p)
+run_ends run before after text ended status.SourceFault p w = absurd (subst (λ (s : Status). Prints run s text) w.0 p)
+
+-- a script within both limits is its lines' run
+pub replay-within : (bytes : List ℕ) → length bytes ≤ most_bytes → length (lines_of bytes) ≤ most_lines → replay_of bytes ≡ run_lines 1 new_script (lines_of bytes)
+replay-within bytes few short = rw (le-ltb most_bytes (length bytes) few, le-ltb most_lines (length (lines_of bytes)) short)
+
+replay-past : (bytes : List ℕ) → most_bytes < length bytes → replay_of bytes ≡ limit_run (codes "limit bytes\n")
+replay-past bytes many = rw (lt-ltb most_bytes (length bytes) many)
+
+-- ---- the whole replay
+
+-- all bytes of the source, or those that were read where it doesn't tell
+abbrev whole_of : Option (List ℕ) → List ℕ → List ℕ
+whole_of None bytes = bytes
+whole_of (Some left) bytes = left
+
+whole_all : (left : Option (List ℕ)) (bytes : List ℕ) → AreAllOf left (whole_of left bytes)
+whole_all None bytes = tt
+whole_all (Some left) bytes = refl
+
+-- a source above the limit is replayed as its front is, and any other was read to its end
+read_whole : (left rest : Option (List ℕ)) (bytes : List ℕ) → ReadsAll {X = Unit {0}} {E = PortError} left rest bytes (Ok tt) → replay_of (whole_of left bytes) ≡ replay_of bytes
+read_whole None rest bytes reads = refl
+read_whole (Some left) rest bytes reads = by (cases_lt most_bytes (length bytes))
+  where
+    by : (most_bytes < length bytes) ⊎ (length bytes ≤ most_bytes) → replay_of left ≡ replay_of bytes
+    by (inl many) = replay-past left (omega (arith, ap length reads.1, length-append bytes reads.0)) ∙ sym (replay-past bytes many)
+    by (inr few) = ap replay_of (reads.1 ∙ ap (λ (r : List ℕ). bytes ++ r) (reads.3 few) ∙ append-nil bytes)
+
+-- a run that isn't above the limit of bytes has read the source to its end
+run_at_end : (left : List ℕ) (rest : Option (List ℕ)) (bytes : List ℕ) → ReadsAll {X = Unit {0}} {E = PortError} (Some left) rest bytes (Ok tt) → ((replay_of bytes).status ≡ 10 → ⊥) → rest ≡ Some []
+run_at_end left rest bytes reads other = by (cases_lt most_bytes (length bytes))
+  where
+    by : (most_bytes < length bytes) ⊎ (length bytes ≤ most_bytes) → rest ≡ Some []
+    by (inl many) = absurd (other (ap (λ (r : ReplayRun). r.status) (replay-past bytes many)))
+    by (inr few) = reads.2 ∙ ap (λ (r : List ℕ). Some r) (reads.3 few)
+
+at_end : (left rest : Option (List ℕ)) (bytes : List ℕ) (before after : Option (List ℕ)) (ended : Status) → ReadsAll {X = Unit {0}} {E = PortError} left rest bytes (Ok tt) → RunEnds (replay_of bytes) ended before after → IsAtEnd left rest ended
+at_end None rest bytes before after ended reads ends = tt
+at_end (Some left) rest bytes before after status.Done reads ends = run_at_end left rest bytes reads (λ ten. absurd (omega (arith, ten, ends.0)))
+at_end (Some left) rest bytes before after status.Refused reads ends = run_at_end left rest bytes reads (λ ten. absurd (omega (arith, ten, ends.0)))
+at_end (Some left) rest bytes before after status.Limit reads ends = tt
+at_end (Some left) rest bytes before after status.SourceFault reads ends = tt
+at_end (Some left) rest bytes before after status.SinkFault reads ends = tt
+at_end (Some left) rest bytes before after status.OutOfMemory reads ends = tt
+at_end (Some left) rest bytes before after status.Usage reads ends = tt
+
+ends_as : (run : ReplayRun) (before after : Option (List ℕ)) (ended : Status) → RunEnds run ended before after → EndsAs run ended before after
+ends_as run before after status.Done ends = ends
+ends_as run before after status.Refused ends = ends
+ends_as run before after status.Limit ends = ends
+ends_as run before after status.SinkFault ends = ends
+ends_as run before after status.OutOfMemory ends = ends
+ends_as run before after status.Usage ends = absurd ends
+ends_as run before after status.SourceFault ends = absurd ends
+
+-- the source was read, and its bytes were run
+pub replays_run : (left rest : Option (List ℕ)) (bytes : List ℕ) (before after : Option (List ℕ)) (ended : Status) → ReadsAll {X = Unit {0}} {E = PortError} left rest bytes (Ok tt)
+    → RunEnds (replay_of bytes) ended before after → Replays left rest ended before after
+replays_run left rest bytes before after ended reads ends =
+    record {
+      bytes = whole_of left bytes;
+      all = whole_all left bytes;
+      at_end = at_end left rest bytes before after ended reads ends;
+      ends = subst (λ (r : ReplayRun). EndsAs r ended before after) (sym (read_whole left rest bytes reads)) (ends_as (replay_of bytes) before after ended ends);
+      never_mix = replay_never_mixes (whole_of left bytes);
+    }
+
+source_at_end : (left rest : Option (List ℕ)) → IsAtEnd left rest status.SourceFault
+source_at_end None rest = tt
+source_at_end (Some left) rest = tt
+
+-- the source failed
+pub replays_fault : (left rest before : Option (List ℕ)) → Replays left rest status.SourceFault before before
+replays_fault left rest before =
+    record { bytes = whole_of left []; all = whole_all left []; at_end = source_at_end left rest; ends = refl; never_mix = replay_never_mixes (whole_of left []) }
+
+memory_at_end : (left rest : Option (List ℕ)) → IsAtEnd left rest status.OutOfMemory
+memory_at_end None rest = tt
+memory_at_end (Some left) rest = tt
+
+nothing_written : (before : Option (List ℕ)) (text : List ℕ) → WritesFrontOf before before text
+nothing_written None text = tt
+nothing_written (Some held) text = ([], (0, refl), ap (λ (r : List ℕ). Some r) (sym (append-nil held)))
+
+-- there was no memory for the source's bytes
+pub replays_no_memory : (left rest before : Option (List ℕ)) → Replays left rest status.OutOfMemory before before
+replays_no_memory left rest before =
+    record {
+      bytes = whole_of left [];
+      all = whole_all left [];
+      at_end = memory_at_end left rest;
+      ends = nothing_written before (replay_of (whole_of left [])).text;
+      never_mix = replay_never_mixes (whole_of left []);
+    }
+
+-- no run of bytes ends by a fault of the source
+pub run_no_source : (run : ReplayRun) (before after : Option (List ℕ)) (ended : Status) → RunEnds run ended before after → ended ≡ status.SourceFault → ⊥
+run_no_source run before after ended ends is = subst (λ (s : Status). RunEnds run s before after) is ends

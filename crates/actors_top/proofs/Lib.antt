@@ -1,0 +1,13 @@
+pub mod LineLemmas
+pub mod RosterLemmas
+pub mod PlaceLemmas
+pub mod TypeLemmas
+pub mod ActorLemmas
+pub mod WorldLemmas
+pub mod CellWithin
+pub mod CallLemmas
+pub mod RunLemmas
+pub mod EndLemmas
+pub mod ActorMarks
+pub mod NeverMix
+pub mod Rows

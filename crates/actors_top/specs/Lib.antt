@@ -1,0 +1,12 @@
+pub mod Lines
+pub mod Reading
+pub mod World
+pub mod Outcomes
+pub mod Replay
+pub mod Told
+pub mod Roster
+pub mod TypesTold
+pub mod WorldTold
+pub mod Steps
+pub mod Status
+pub mod ReplayTold

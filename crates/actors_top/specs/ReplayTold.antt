@@ -1,0 +1,120 @@
+-- What the program's replay tells against the defined one: a line, all lines, and the whole command.
+use Rattle.std.specs.Prelude.{◌≡◌, ◌≤◌, ◌++◌, ℕ, List, [], length, take, Option, None, Some, Result, Ok, Err}
+use Rattle.actors_top.specs.Replay.{ScriptState, LineStep, Goes, Stops, ReplayRun, replay_of, TurnsNeverMix, most_bytes}
+use Rattle.actors_top.specs.declared.script.LineEnd.{LineEnd}
+use Rattle.actors_top.specs.declared.script.LineEnd.TheVariants as ending
+use Rattle.actors_top.specs.declared.status.Status.{Status}
+use Rattle.actors_top.specs.declared.status.Status.TheVariants as status
+use Rattle.actors_top.specs.Outcomes.{bad_line_text}
+
+-- the step goes on to this script and appends its text
+abbrev pub GoesTo : LineStep → ScriptState → List ℕ → List ℕ → Type 0
+GoesTo (Goes script text marks) new before after = (new ≡ script) × (after ≡ before ++ text)
+GoesTo (Stops column) new before after = ⊥
+
+-- Ok is the step that goes on, Refused the step that stops at this column; an error appends nothing
+abbrev pub GivesLine : {X : Type 0} → Result X LineEnd → LineStep → ScriptState → List ℕ → List ℕ → Type 0
+GivesLine (Ok x) step new before after = GoesTo step new before after
+GivesLine (Err (ending.Refused column)) step new before after = (step ≡ Stops column) × (after ≡ before)
+GivesLine (Err ending.OutOfMemory) step new before after = after ≡ before
+
+-- a front of the text, and no more
+abbrev pub IsFront : List ℕ → List ℕ → Type 0
+IsFront front text = (n : ℕ) × (front ≡ take n text)
+
+-- the lines printed all of the run and end with its status; with no memory, a front of it
+abbrev pub Prints : ReplayRun → Status → List ℕ → Type 0
+Prints run status.OutOfMemory text = IsFront text run.text
+Prints run status.Done text = (0 ≡ run.status) × (text ≡ run.text)
+Prints run status.Refused text = (3 ≡ run.status) × (text ≡ run.text)
+Prints run status.Limit text = (10 ≡ run.status) × (text ≡ run.text)
+Prints run status.Usage text = ⊥
+Prints run status.SourceFault text = ⊥
+Prints run status.SinkFault text = ⊥
+
+-- where the sink tells its bytes, this text was written, and nothing else
+abbrev pub Writes : Option (List ℕ) → Option (List ℕ) → List ℕ → Type 0
+Writes None after text = Unit {0}
+Writes (Some held) after text = after ≡ Some (held ++ text)
+
+-- where the sink tells its bytes, a front of this text was written, and nothing else
+abbrev pub WritesFrontOf : Option (List ℕ) → Option (List ℕ) → List ℕ → Type 0
+WritesFrontOf None after text = Unit {0}
+WritesFrontOf (Some held) after text = (front : List ℕ) × IsFront front text × (after ≡ Some (held ++ front))
+
+-- What the run of a script's bytes wrote. Without a fault or want of memory it is all of the run, and the
+-- status is the run's; after a fault of the sink or want of memory it is a front.
+abbrev pub RunEnds : ReplayRun → Status → Option (List ℕ) → Option (List ℕ) → Type 0
+RunEnds run status.Done before after = (0 ≡ run.status) × Writes before after run.text
+RunEnds run status.Refused before after = (3 ≡ run.status) × Writes before after run.text
+RunEnds run status.Limit before after = (10 ≡ run.status) × Writes before after run.text
+RunEnds run status.SinkFault before after = WritesFrontOf before after run.text
+RunEnds run status.OutOfMemory before after = WritesFrontOf before after run.text
+RunEnds run status.Usage before after = ⊥
+RunEnds run status.SourceFault before after = ⊥
+
+-- The same of a replay, which a fault of the source ends before anything is written.
+abbrev pub EndsAs : ReplayRun → Status → Option (List ℕ) → Option (List ℕ) → Type 0
+EndsAs run status.SourceFault before after = after ≡ before
+EndsAs run status.Done before after = RunEnds run status.Done before after
+EndsAs run status.Refused before after = RunEnds run status.Refused before after
+EndsAs run status.Limit before after = RunEnds run status.Limit before after
+EndsAs run status.SinkFault before after = RunEnds run status.SinkFault before after
+EndsAs run status.OutOfMemory before after = RunEnds run status.OutOfMemory before after
+EndsAs run status.Usage before after = ⊥
+
+-- the bytes are all that the source has, where it tells them
+abbrev pub AreAllOf : Option (List ℕ) → List ℕ → Type 0
+AreAllOf None bytes = Unit {0}
+AreAllOf (Some left) bytes = bytes ≡ left
+
+-- a replay that ran the lines has read the source to its end, where the source tells that
+abbrev pub IsAtEnd : Option (List ℕ) → Option (List ℕ) → Status → Type 0
+IsAtEnd None rest ended = Unit {0}
+IsAtEnd (Some left) rest status.Done = rest ≡ Some []
+IsAtEnd (Some left) rest status.Refused = rest ≡ Some []
+IsAtEnd (Some left) rest status.Limit = Unit {0}
+IsAtEnd (Some left) rest status.SourceFault = Unit {0}
+IsAtEnd (Some left) rest status.SinkFault = Unit {0}
+IsAtEnd (Some left) rest status.OutOfMemory = Unit {0}
+IsAtEnd (Some left) rest status.Usage = Unit {0}
+
+-- A replay: there are bytes, all that the source has, whose replay is what was written, and whose turns
+-- never mix.
+pub record Replays (left rest : Option (List ℕ)) (ended : Status) (before after : Option (List ℕ)) : Type 0 where
+  pub bytes : List ℕ
+  pub all : AreAllOf left bytes
+  pub at_end : IsAtEnd left rest ended
+  pub ends : EndsAs (replay_of bytes) ended before after
+  pub never_mix : TurnsNeverMix (replay_of bytes)
+
+-- A front of the source was read: all of it, or one byte more than the limit; with an error nothing is said.
+abbrev pub ReadsAll : {X E : Type 0} → Option (List ℕ) → Option (List ℕ) → List ℕ → Result X E → Type 0
+ReadsAll None rest bytes result = Unit {0}
+ReadsAll (Some left) rest bytes (Ok x) = (behind : List ℕ) × (left ≡ bytes ++ behind) × (rest ≡ Some behind) × (length bytes ≤ most_bytes → behind ≡ [])
+ReadsAll (Some left) rest bytes (Err e) = Unit {0}
+
+-- the line of a refused line was added, or there was no memory and nothing was
+abbrev pub RefusesLine : ℕ → ℕ → List ℕ → List ℕ → Status → Type 0
+RefusesLine number column before after status.Refused = after ≡ before ++ bad_line_text number column
+RefusesLine number column before after status.OutOfMemory = after ≡ before
+RefusesLine number column before after status.Done = ⊥
+RefusesLine number column before after status.Usage = ⊥
+RefusesLine number column before after status.SourceFault = ⊥
+RefusesLine number column before after status.SinkFault = ⊥
+RefusesLine number column before after status.Limit = ⊥
+
+-- The status stays where all of the text was written, or where it was want of memory; else it is the sink's.
+abbrev pub WritesAs : Option (List ℕ) → Option (List ℕ) → List ℕ → Status → Status → Type 0
+WritesAs before after text run status.SinkFault = WritesFrontOf before after text
+WritesAs before after text run status.OutOfMemory = WritesFrontOf before after text
+WritesAs before after text run status.Done = (run ≡ status.Done) × Writes before after text
+WritesAs before after text run status.Refused = (run ≡ status.Refused) × Writes before after text
+WritesAs before after text run status.Limit = (run ≡ status.Limit) × Writes before after text
+WritesAs before after text run status.Usage = (run ≡ status.Usage) × Writes before after text
+WritesAs before after text run status.SourceFault = (run ≡ status.SourceFault) × Writes before after text
+
+-- these bytes came of the source, and the rest is left
+abbrev pub HasRead : Option (List ℕ) → Option (List ℕ) → List ℕ → Type 0
+HasRead None rest bytes = Unit {0}
+HasRead (Some left) rest bytes = (behind : List ℕ) × (left ≡ bytes ++ behind) × (rest ≡ Some behind)

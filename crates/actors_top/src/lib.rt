@@ -1,0 +1,28 @@
+// The top call: the words of the command line, the replay of a script, and the status.
+//
+// Promise: `run` writes what the script's replay is defined to write (`specs/Replay`), ends with its status,
+// and answers a fault or a limit only by its cause; over every script the turns of one actor never mix.
+// Stands on actor_names, actor_ports and turn_core.
+#![tactic(auto)]
+
+mod calling;
+mod depth;
+mod event;
+mod lines;
+mod outcomes;
+mod reading;
+mod replay;
+mod roster;
+mod script;
+mod status;
+#[cfg(test)]
+mod tests;
+mod top;
+mod transcript;
+mod turns;
+mod types;
+mod words;
+mod world;
+
+pub use status::Status;
+pub use top::{Outside, run};

@@ -1,0 +1,30 @@
+// The lines of a script and the words of a line, lent from its bytes.
+ghost use Rattle.std.specs.Prelude.{◌≡◌, ◌<◌, ◌∷◌, length, IfSome, IfNone};
+ghost use Rattle.actors_top.specs.Lines.{IsFirstByte, LacksByte, lines_of};
+
+const LINE_FEED: u8 = 10;
+
+/// The place, from 0, of the first such byte.
+pub(crate) fn find_byte(text: &[u8], byte: u8) -> Option<usize>
+    ensures found { IfSome result (λ i. IsFirstByte byte text.now i) }
+    ensures missing { IfNone result (LacksByte byte text.now) }
+{
+    for (i, b) in text.iter().enumerate() {
+        if *b == byte {
+            return Some(i);
+        }
+    }
+    None
+}
+
+/// The first line of a text that isn't empty, and what stands behind its line feed.
+pub(crate) fn next_line(text: &[u8]) -> (&[u8], &[u8])
+    requires { 0 < length text.now }
+    ensures lines { lines_of text.now ≡ result.0.now ∷ lines_of result.1.now }
+    ensures shorter { length result.1.now < length text.now }
+{
+    match find_byte(text, LINE_FEED) {
+        Some(end) => (&text[..end], &text[end + 1..]),
+        None => (text, &text[text.len()..]),
+    }
+}

@@ -1,0 +1,218 @@
+// Worked scripts from outside, and what comes of faults and limits.
+use crate::{Outside, run};
+use actor_ports::{MemSink, MemSource};
+use std::alloc::Global;
+use std::test::Fail;
+
+/// The status of a run with the one word `replay`, and what it wrote; the reads and writes whose numbers are
+/// listed fail.
+fn replay(
+    alloc: Global,
+    script: &[u8],
+    reads: &[u64],
+    writes: &[u64],
+) -> Result<(u8, MemSink), Fail> {
+    let mut out = Outside {
+        input: MemSource::new(alloc, script, reads)?,
+        output: MemSink::new(alloc, writes)?,
+    };
+    let mut words = Vec::new(alloc);
+    words.push(String::from_str(alloc, "replay")?)?;
+    let status = run(alloc, words.as_slice(), &mut out);
+    Ok((status, out.output))
+}
+
+#[test]
+fn empty_script_prints_nothing(rt: HostRuntime) -> Result<(), Fail> {
+    let (status, output) = replay(rt.alloc(), b"", &[], &[])?;
+    assert_eq!(rt; status, 0);
+    assert_eq!(rt; output.bytes(), b"".as_slice());
+    Ok(())
+}
+
+#[test]
+fn second_call_waits_for_first(rt: HostRuntime) -> Result<(), Fail> {
+    let script = b"call 1 counter/7\ncall 2 counter/7\nend 1\n";
+    let (status, output) = replay(rt.alloc(), script, &[], &[])?;
+    assert_eq!(rt; status, 0);
+    assert_eq!(rt;
+        output.bytes(),
+        b"begin 1\nwait 2 1\nend 1 begin 2\n".as_slice()
+    );
+    Ok(())
+}
+
+#[test]
+fn depth_limits_calls_of_one_chain(rt: HostRuntime) -> Result<(), Fail> {
+    let script =
+        b"reentrant counter 2\ncall 1 counter/7 chain x\ncall 2 counter/7 chain x\ncall 3 counter/7 chain x\ncall 4 counter/8 chain x\n";
+    let (status, output) = replay(rt.alloc(), script, &[], &[])?;
+    assert_eq!(rt; status, 0);
+    assert_eq!(rt;
+        output.bytes(),
+        b"begin 1\nbegin 2\ndepth 3 2\nbegin 4\n".as_slice()
+    );
+    Ok(())
+}
+
+#[test]
+fn other_chain_waits_until_chain_ends(rt: HostRuntime) -> Result<(), Fail> {
+    let script =
+        b"reentrant counter 2\ncall 1 counter/7 chain x\ncall 2 counter/7 chain x\ncall 3 counter/7 chain y\nend 1\nend 2\nend 2\nend 4\n";
+    let (status, output) = replay(rt.alloc(), script, &[], &[])?;
+    assert_eq!(rt; status, 0);
+    assert_eq!(rt;
+        output.bytes(),
+        b"begin 1\nbegin 2\nwait 3 1\nend 1\nend 2 begin 3\nalready-ended 2\nnone\n".as_slice()
+    );
+    Ok(())
+}
+
+#[test]
+fn refused_word_is_named_by_column(rt: HostRuntime) -> Result<(), Fail> {
+    let table: [(&[u8], &[u8]); 40] = [
+        (b"call 2 counter/7", b"bad line 1 column 6\n"),
+        (b"call 1 counter", b"bad line 1 column 8\n"),
+        (b"call", b"bad line 1 column 5\n"),
+        (b"call ", b"bad line 1 column 6\n"),
+        (b"call 1", b"bad line 1 column 7\n"),
+        (b"call  1 counter/7", b"bad line 1 column 6\n"),
+        (b"call 01 counter/7", b"bad line 1 column 6\n"),
+        (b"call 1000000000000 counter/7", b"bad line 1 column 6\n"),
+        (b"call 1 counter/", b"bad line 1 column 8\n"),
+        (b"call 1 counter/7/8", b"bad line 1 column 8\n"),
+        (b"call 1 counter/7 ", b"bad line 1 column 18\n"),
+        (b"call 1 counter/7 x", b"bad line 1 column 18\n"),
+        (b"call 1 counter/7 chain", b"bad line 1 column 23\n"),
+        (b"call 1 counter/7 chain ", b"bad line 1 column 24\n"),
+        (b"call 1 counter/7 chain x y", b"bad line 1 column 26\n"),
+        (b"call 2 counter", b"bad line 1 column 8\n"),
+        (b"end", b"bad line 1 column 4\n"),
+        (b"end x", b"bad line 1 column 5\n"),
+        (b"end 1 2", b"bad line 1 column 7\n"),
+        (b"end 1\r", b"bad line 1 column 5\n"),
+        (b"poll", b"bad line 1 column 5\n"),
+        (b"poll 1 1", b"bad line 1 column 8\n"),
+        (b"hold counter", b"bad line 1 column 6\n"),
+        (b"hold counter/7 8", b"bad line 1 column 16\n"),
+        (b"release", b"bad line 1 column 8\n"),
+        (b"release counter/7 ", b"bad line 1 column 19\n"),
+        (b"reentrant", b"bad line 1 column 10\n"),
+        (b"reentrant counter", b"bad line 1 column 18\n"),
+        (b"reentrant counter 0", b"bad line 1 column 19\n"),
+        (b"reentrant counter 1025", b"bad line 1 column 19\n"),
+        (b"reentrant counter 2 3", b"bad line 1 column 21\n"),
+        (b"reentrant coun/ter 2", b"bad line 1 column 11\n"),
+        (b"reentrant a 2\nreentrant a 3", b"bad line 2 column 11\n"),
+        (b"idle", b"bad line 1 column 5\n"),
+        (b"drain 1 2", b"bad line 1 column 9\n"),
+        (b"end 1\nidle 1", b"none\nbad line 2 column 1\n"),
+        (b"cluster 2", b"bad line 1 column 1\n"),
+        (b"ends 1", b"bad line 1 column 1\n"),
+        (b" ", b"bad line 1 column 1\n"),
+        (b"# text\n\n\tend 1", b"bad line 3 column 1\n"),
+    ];
+    for (script, written) in table {
+        let (status, output) = replay(rt.alloc(), script, &[], &[])?;
+        assert_eq!(rt; status, 3, "{script:?}");
+        assert_eq!(rt; output.bytes(), written, "{script:?}");
+    }
+    Ok(())
+}
+
+#[test]
+fn longest_line_has_4096_bytes(rt: HostRuntime) -> Result<(), Fail> {
+    let mut script = Vec::new(rt.alloc());
+    for _ in 0..4096 {
+        script.push(b'#')?;
+    }
+    let (status, _) = replay(rt.alloc(), script.as_slice(), &[], &[])?;
+    assert_eq!(rt; status, 0);
+    script.push(b'#')?;
+    let (status, output) = replay(rt.alloc(), script.as_slice(), &[], &[])?;
+    assert_eq!(rt; status, 3);
+    assert_eq!(rt; output.bytes(), b"bad line 1 column 4097\n".as_slice());
+    Ok(())
+}
+
+#[test]
+fn too_many_lines_are_refused(rt: HostRuntime) -> Result<(), Fail> {
+    let mut script = Vec::new(rt.alloc());
+    for _ in 0..1_000_000 {
+        script.push(b'\n')?;
+    }
+    let (status, output) = replay(rt.alloc(), script.as_slice(), &[], &[])?;
+    assert_eq!(rt; status, 0);
+    assert_eq!(rt; output.bytes(), b"".as_slice());
+    script.push(b'\n')?;
+    let (status, output) = replay(rt.alloc(), script.as_slice(), &[], &[])?;
+    assert_eq!(rt; status, 10);
+    assert_eq!(rt; output.bytes(), b"limit lines\n".as_slice());
+    Ok(())
+}
+
+#[test]
+fn too_many_bytes_are_refused(rt: HostRuntime) -> Result<(), Fail> {
+    let mut script = Vec::new(rt.alloc());
+    for _ in 0..67_108_865 {
+        script.push(b'#')?;
+    }
+    let (status, output) = replay(rt.alloc(), script.as_slice(), &[], &[])?;
+    assert_eq!(rt; status, 10);
+    assert_eq!(rt; output.bytes(), b"limit bytes\n".as_slice());
+    Ok(())
+}
+
+#[test]
+fn line_holds_1024_calls(rt: HostRuntime) -> Result<(), Fail> {
+    let mut script = Vec::new(rt.alloc());
+    for call in 1..1027u64 {
+        let line = format!(in rt.alloc(); "call {call} counter/7\n")?;
+        script.extend_from_slice(line.as_bytes())?;
+    }
+    let (status, output) = replay(rt.alloc(), script.as_slice(), &[], &[])?;
+    assert_eq!(rt; status, 0);
+    assert!(rt; output.bytes().starts_with(b"begin 1\nwait 2 1\n"));
+    assert!(rt;
+        output
+            .bytes()
+            .ends_with(b"\nwait 1025 1024\nqueue-full 1026\n")
+    );
+    Ok(())
+}
+
+#[test]
+fn extra_word_is_usage(rt: HostRuntime) -> Result<(), Fail> {
+    let table: [&[&str]; 4] = [&[], &["replay", "replay"], &["Replay"], &["replay "]];
+    for row in table {
+        let mut words = Vec::new(rt.alloc());
+        for word in row {
+            words.push(String::from_str(rt.alloc(), word)?)?;
+        }
+        let mut out = Outside {
+            input: MemSource::new(rt.alloc(), b"end 1\n", &[])?,
+            output: MemSink::new(rt.alloc(), &[])?,
+        };
+        assert_eq!(rt; run(rt.alloc(), words.as_slice(), &mut out), 2);
+        assert_eq!(rt; out.output.bytes(), b"".as_slice());
+    }
+    Ok(())
+}
+
+#[test]
+fn faults_of_outside_are_told_apart(rt: HostRuntime) -> Result<(), Fail> {
+    let script = b"end 1\n";
+    let (status, output) = replay(rt.alloc(), script, &[1], &[])?;
+    assert_eq!(rt; status, 4);
+    assert_eq!(rt; output.bytes(), b"".as_slice());
+    let (status, output) = replay(rt.alloc(), script, &[2], &[])?;
+    assert_eq!(rt; status, 4);
+    assert_eq!(rt; output.bytes(), b"".as_slice());
+    let (status, output) = replay(rt.alloc(), script, &[], &[1])?;
+    assert_eq!(rt; status, 5);
+    assert_eq!(rt; output.bytes(), b"".as_slice());
+    let (status, output) = replay(rt.alloc(), script, &[], &[2])?;
+    assert_eq!(rt; status, 0);
+    assert_eq!(rt; output.bytes(), b"none\n".as_slice());
+    Ok(())
+}

@@ -1,0 +1,72 @@
+// The words of a line, one after another.
+ghost use Rattle.std.specs.Prelude.{◌+◌, ◌≤◌, length};
+ghost use Rattle.std.specs.Option.{ForSome};
+
+use crate::lines::find_byte;
+
+const SPACE: u8 = b' ';
+
+/// A word of a line and its column, from 1 and in bytes.
+#[derive(Clone, Copy)]
+pub(crate) struct Token<'a> {
+    pub(crate) text: &'a [u8],
+    pub(crate) column: u64,
+}
+
+/// The words that are left of a line of at most 4,096 bytes: those of what stands behind the last space that
+/// was passed, and none behind the line's last word.
+#[derive(Clone, Copy)]
+pub(crate) struct Words<'a> {
+    pub(crate) rest: Option<&'a [u8]>,
+    pub(crate) column: u64,
+    ghost short: { ForSome rest (λ r. column + length r.now ≤ 4097) },
+}
+
+impl<'a> Words<'a> {
+    ghost use Rattle.std.specs.Prelude.{◌≡◌, ◌≤◌, ◌∷◌, [], length, MatchOption};
+    ghost use Rattle.actors_top.specs.Lines.{words_from};
+    ghost use Rattle.actors_top.specs.Told.{words_left, word_told};
+
+    /// The words of a whole line.
+    pub(crate) fn new(line: &'a [u8]) -> Words<'a>
+        requires { length line.now ≤ 4096 }
+        ensures { words_left result ≡ words_from 1 line.now }
+    {
+        Words {
+            rest: Some(line),
+            column: 1,
+        }
+    }
+
+    /// The next word and the words behind it.
+    pub(crate) fn next(self) -> Option<(Token<'a>, Words<'a>)>
+        ensures { MatchOption result (words_left self.entry ≡ [])
+            (λ next. words_left self.entry ≡ word_told next.0 ∷ words_left next.1) }
+    {
+        let rest = self.rest?;
+        match find_byte(rest, SPACE) {
+            Some(end) => {
+                let token = Token {
+                    text: &rest[..end],
+                    column: self.column,
+                };
+                let behind = Words {
+                    rest: Some(&rest[end + 1..]),
+                    column: self.column + end as u64 + 1,
+                };
+                Some((token, behind))
+            }
+            None => {
+                let token = Token {
+                    text: rest,
+                    column: self.column,
+                };
+                let behind = Words {
+                    rest: None,
+                    column: self.column,
+                };
+                Some((token, behind))
+            }
+        }
+    }
+}

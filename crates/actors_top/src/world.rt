@@ -1,0 +1,184 @@
+// The world of a solo script: what happens in it and what comes of it.
+ghost use Rattle.std.specs.Prelude.{◌≡◌, ◌<◌, ◌≤◌, ◌^◌, ◌++◌, ◌∷◌, [], false, OnOk, OnErr, option_copied};
+ghost use Rattle.turn_core.specs.Cell.{greatest_depth};
+ghost use Rattle.actors_top.specs.World.{SoloEvent, Call, End, Poll, Hold, Release, new_world, has_depth};
+ghost use Rattle.actors_top.specs.WorldTold.{place_of_call};
+ghost use Rattle.actors_top.specs.Told.{event_told};
+ghost use Rattle.actors_top.specs.Steps.{GivesStep, GivesOutcome};
+
+use crate::calling::ask_actor;
+use crate::event::{Event, Outcome, WorldError};
+use crate::roster::Roster;
+use crate::turns::{end_call, poll_call, release_hold};
+use crate::types::Types;
+use actor_names::OutOfMemory;
+use std::alloc::Global;
+use std::marker::Model;
+use turn_core::Cell;
+
+/// The greatest number of events of a world, 2^62.
+const MOST_EVENTS: u64 = 1 << 62;
+
+/// The cells of the actors that were called, and the depths of their types.
+#[derive(Drop)]
+pub(crate) struct World {
+    types: Types,
+    keys: Roster,
+    cells: Vec<Cell>,
+    calls: Vec<Option<usize>>,
+    events: u64,
+}
+
+impl Model for World {
+    ghost use Rattle.actors_top.specs.World.{SoloWorld};
+
+    ghost Value = { SoloWorld };
+
+    ghost use Rattle.actors_top.specs.WorldTold.{actors_told, calls_told, IsWorldKept};
+
+    ghost view = { λ a. record { depths = a.types; actors = actors_told a.keys a.cells.items; calls = calls_told a.keys a.calls.items; events = a.events } };
+
+    ghost invariant = { λ a. IsWorldKept a.keys a.cells.items a.calls.items a.events };
+}
+
+impl World {
+    /// A world in which nothing has happened.
+    pub(crate) fn new(alloc: Global) -> World
+        ensures { result ≡ new_world }
+    {
+        World {
+            types: Types::new(alloc),
+            keys: Roster::new(alloc),
+            cells: Vec::new(alloc),
+            calls: Vec::new(alloc),
+            events: 0,
+        }
+    }
+
+    /// Whether a type has reentrancy on.
+    pub(crate) fn has_depth(&self, kind: &[u8]) -> bool
+        ensures { result ≡ has_depth kind.now self.now.depths }
+    {
+        self.types.has(kind)
+    }
+
+    /// Turns reentrancy on for a type, with a depth of 1 to 1,024.
+    pub(crate) fn set_depth(
+        &mut self,
+        alloc: Global,
+        kind: &[u8],
+        depth: u32,
+    ) -> Result<(), OutOfMemory>
+        requires fresh { has_depth kind.now self.old.depths ≡ false }
+        requires shallow { depth ≤ greatest_depth }
+        ensures set { OnOk result (self.new ≡ record self.old { depths = self.old.depths ++ record { kind = kind.now; depth = depth } ∷ [] }) }
+        ensures unchanged { OnErr result (self.new ≡ self.old) }
+    {
+        self.types.add(alloc, kind, depth)
+    }
+
+    /// What comes of an event, or why it is refused, which changes nothing.
+    pub(crate) fn step(&mut self, alloc: Global, event: Event<'_>) -> Result<Outcome, WorldError>
+        ensures { GivesStep result self.old self.new (event_told event.entry) }
+    {
+        if self.events == MOST_EVENTS {
+            return Err(WorldError::Spent { count: MOST_EVENTS });
+        }
+        match event {
+            Event::Call { number, key, chain } => self.call(alloc, number, key, chain),
+            Event::End { call } => Ok(self.end(call)),
+            Event::Poll { call } => Ok(self.poll(call)),
+            Event::Hold { key } => Ok(self.hold(key)),
+            Event::Release { key } => Ok(self.release(key)),
+        }
+    }
+
+    /// A call of an actor, whose number has to be one more than the calls so far.
+    fn call(
+        &mut self,
+        alloc: Global,
+        number: u64,
+        key: &[u8],
+        chain: Option<&[u8]>,
+    ) -> Result<Outcome, WorldError>
+        requires { self.old.events < 2 ^ 62 }
+        ensures { GivesStep result self.old self.new (Call number key.now (option_copied chain.entry)) }
+    {
+        let next = self.calls.len() as u64 + 1;
+        if number != next {
+            return Err(WorldError::WrongNumber { next });
+        }
+        self.calls.reserve(1)?;
+        let (place, admission) = ask_actor(
+            alloc,
+            &self.types,
+            &mut self.keys,
+            &mut self.cells,
+            number,
+            key,
+            chain,
+        )?;
+        self.calls.push(admission.actor(place)).unwrap();
+        self.events += 1;
+        Ok(admission.outcome)
+    }
+
+    /// The end of a call's turn.
+    fn end(&mut self, call: u64) -> Outcome
+        requires { self.old.events < 2 ^ 62 }
+        ensures { GivesOutcome result self.old self.new (End call) }
+    {
+        self.events += 1;
+        let Some(place) = place_of_call(&self.calls, call) else {
+            return Outcome::NotThere;
+        };
+        end_call(&mut self.cells[place], call)
+    }
+
+    /// Where a call stands.
+    fn poll(&mut self, call: u64) -> Outcome
+        requires { self.old.events < 2 ^ 62 }
+        ensures { GivesOutcome result self.old self.new (Poll call) }
+    {
+        self.events += 1;
+        let Some(place) = place_of_call(&self.calls, call) else {
+            return Outcome::NotThere;
+        };
+        poll_call(&mut self.cells[place], call)
+    }
+
+    /// One more hold of an actor that was called.
+    fn hold(&mut self, key: &[u8]) -> Outcome
+        requires { self.old.events < 2 ^ 62 }
+        ensures { GivesOutcome result self.old self.new (Hold key.now) }
+    {
+        self.events += 1;
+        let Some(place) = self.keys.find(key) else {
+            return Outcome::NotActive;
+        };
+        self.cells[place].hold();
+        Outcome::Held
+    }
+
+    /// One hold of an actor less.
+    fn release(&mut self, key: &[u8]) -> Outcome
+        requires { self.old.events < 2 ^ 62 }
+        ensures { GivesOutcome result self.old self.new (Release key.now) }
+    {
+        self.events += 1;
+        let Some(place) = self.keys.find(key) else {
+            return Outcome::NotHeld;
+        };
+        release_hold(&mut self.cells[place])
+    }
+}
+
+/// The place of a call's actor, none where the call was refused or never asked.
+fn place_of_call(calls: &[Option<usize>], call: u64) -> Option<usize>
+    ensures { result ≡ place_of_call call calls.now }
+{
+    if call == 0 || call > calls.len() as u64 {
+        return None;
+    }
+    calls[call as usize - 1]
+}
