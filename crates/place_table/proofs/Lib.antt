@@ -1,0 +1,4 @@
+pub mod PointOrder
+pub mod Owners
+pub mod RingSteps
+pub mod Picks

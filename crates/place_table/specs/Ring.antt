@@ -1,8 +1,9 @@
 -- The ring: points in order, and the point that owns a place. Own, after the hash tables of Dapr's placement.
-use Rattle.std.specs.Prelude.{◌≡◌, ℕ, ◌<◌, ◌≤◌, ◌⊎◌, Bool, false, nat_le, if◌then◌else◌, List, [], ◌∷◌, Option, Some, None, filter, Contains}
+use Rattle.std.specs.Prelude.{◌≡◌, ℕ, ◌<◌, ◌≤◌, ◌⊎◌, Bool, false, ◌&&◌, ◌==◌, nat_le, if◌then◌else◌, List, [], ◌∷◌, Option, Some, None, filter, Contains}
 use Rattle.std.specs.declared.cmp.Ordering.{Ordering}
 use Rattle.std.specs.Ordering.{nat_cmp, is_lt, on, then_cmp}
 use Rattle.std.specs.Cmp.Lexicographic.{slice_cmp}
+use Rattle.std.specs.Str.{bytes_eq}
 use Rattle.place_table.specs.declared.point.Point.{Point}
 
 -- points in order of place, and at one place in byte order of node
@@ -11,6 +12,10 @@ point_cmp = then_cmp (on (λ p. p.place) nat_cmp) (on (λ p. p.node) (slice_cmp 
 
 abbrev pub is_before : Point → Point → Bool
 is_before p q = is_lt (point_cmp p q)
+
+-- the same place and the same node
+abbrev pub is_point : Point → Point → Bool
+is_point p q = (p.place == q.place) && bytes_eq p.node q.node
 
 -- the lesser of a point and another, if there is one
 abbrev pub lesser : Point → Option Point → Option Point

@@ -6,12 +6,16 @@
 
 mod ack_stage;
 mod error;
+mod hash;
 mod host;
 mod point;
+mod ring;
 mod table;
 
 pub use ack_stage::AckStage;
 pub use error::TableError;
+pub use hash::{key_hash, part_of};
 pub use host::{ActorTypes, HostInfo};
 pub use point::Point;
+pub use ring::ring_pick;
 pub use table::Table;
