@@ -2,3 +2,4 @@ pub mod PointOrder
 pub mod Owners
 pub mod RingSteps
 pub mod Picks
+pub mod TableOwners

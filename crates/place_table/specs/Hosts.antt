@@ -1,5 +1,5 @@
 -- Hosts on the ring, the tables that are refused, and the owner of an actor in a table. Own.
-use Rattle.std.specs.Prelude.{ℕ, suc, zero, Bool, nat_lt, if◌then◌else◌, List, [], ◌∷◌, ◌++◌, length, Option, Some, None, option_map, option_and_then, find}
+use Rattle.std.specs.Prelude.{ℕ, suc, zero, Bool, nat_lt, if◌then◌else◌, List, [], ◌∷◌, ◌++◌, length, Option, Some, None, option_map, option_and_then, find, map}
 use Rattle.std.specs.List.{list_any, flat_map}
 use Rattle.std.specs.declared.cmp.Ordering.{Ordering}
 use Rattle.std.specs.Ordering.{nat_cmp}
@@ -17,18 +17,21 @@ use Rattle.place_table.specs.Ring.{owner_point}
 abbrev pub key_place : List ℕ → ℕ
 key_place id = place_of id
 
--- point i of a node
-abbrev pub point_of : List ℕ → ℕ → Point
-point_of node i = record { place = place_of (point_text node i); node = node }
+-- the places of the points of a node with numbers below n
+abbrev pub first_places : ℕ → List ℕ → List ℕ
+first_places zero node = []
+first_places (suc n) node = first_places n node ++ place_of (point_text node n) ∷ []
 
--- the points of a node with numbers below n
-abbrev pub first_points : ℕ → List ℕ → List Point
-first_points zero node = []
-first_points (suc n) node = first_points n node ++ point_of node n ∷ []
+-- the places of the 100 points of a node
+unfoldable pub node_places : List ℕ → List ℕ
+node_places node = first_places 100 node
+
+abbrev pub point_at : List ℕ → ℕ → Point
+point_at node place = record { place = place; node = node }
 
 -- the 100 points of a node
-unfoldable pub node_points : List ℕ → List Point
-node_points node = first_points 100 node
+abbrev pub node_points : List ℕ → List Point
+node_points node = map (point_at node) (node_places node)
 
 abbrev pub node_of : HostInfo → List ℕ
 node_of host = host.member.node

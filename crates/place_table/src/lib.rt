@@ -10,6 +10,7 @@ mod hash;
 mod host;
 mod point;
 mod ring;
+mod slots;
 mod table;
 
 pub use ack_stage::AckStage;

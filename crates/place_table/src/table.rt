@@ -1,9 +1,16 @@
 // Placement tables.
-ghost use Rattle.std.specs.Prelude.{◌≡◌};
-ghost use Rattle.place_table.specs.Tables.{IsNodeSorted};
+ghost use Rattle.std.specs.Prelude.{◌≡◌, ◌↔◌, false, IsNone, IfSome, Contains, option_and_then};
+ghost use Rattle.std.specs.List.{list_any};
+ghost use Rattle.std.specs.Option.{option_copied};
+ghost use Rattle.place_table.specs.Hosts.{node_of, serves, ring_points, key_place, host_of, owner_of, table_owner};
+ghost use Rattle.place_table.specs.Ring.{IsOwner};
+ghost use Rattle.place_table.specs.Tables.{IsNodeSorted, IsTableKept};
+ghost use Rattle.place_table.specs.declared.point.Point.{Point};
 
+use crate::hash::key_hash;
 use crate::host::HostInfo;
-use actor_names::ActorType;
+use crate::slots::{owner_slot, ring_slots};
+use actor_names::{ActorKey, ActorType};
 use std::marker::Model;
 
 /// A point in 16 bytes: its place, and the number of its host in the table.
@@ -53,5 +60,31 @@ impl Table {
         ensures order { IsNodeSorted self.now.hosts }
     {
         self.hosts.as_slice()
+    }
+
+    /// The host that owns the actor; None where no host serves the type. The actor's id is hashed once, only the
+    /// points of its type are looked at, and no memory is asked for.
+    pub fn owner(&self, key: &ActorKey) -> Option<&HostInfo>
+        ensures owner { option_copied result ≡ table_owner self.now key.now }
+        ensures point { IfSome result (λ h. (p : Point) × IsOwner (ring_points self.now.hosts key.now.kind) (key_place key.now.id) p × (p.node ≡ node_of h.now)) }
+        ensures among { IfSome result (λ h. Contains self.now.hosts h.now) }
+        ensures none { IsNone result ↔ (list_any (λ h. serves h key.now.kind) self.now.hosts ≡ false) }
+    {
+        owner_host(self.hosts.as_slice(), self.rings.as_slice(), key)
+    }
+}
+
+// The host that owns the actor among those of a table.
+fn owner_host<'a>(hosts: &'a [HostInfo], rings: &[TypeRing], key: &ActorKey) -> Option<&'a HostInfo>
+    requires { IsTableKept hosts.now rings.now }
+    ensures owner { option_copied result ≡ option_and_then (host_of hosts.now) (owner_of hosts.now key.now) }
+    ensures point { IfSome result (λ h. (p : Point) × IsOwner (ring_points hosts.now key.now.kind) (key_place key.now.id) p × (p.node ≡ node_of h.now)) }
+    ensures among { IfSome result (λ h. Contains hosts.now h.now) }
+    ensures none { IsNone result ↔ (list_any (λ h. serves h key.now.kind) hosts.now ≡ false) }
+{
+    let slots = ring_slots(rings, &key.kind);
+    match owner_slot(hosts, slots, key_hash(&key.id)) {
+        None => None,
+        Some(slot) => Some(&hosts[slot.host]),
     }
 }
