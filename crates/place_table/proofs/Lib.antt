@@ -3,3 +3,4 @@ pub mod Owners
 pub mod RingSteps
 pub mod Picks
 pub mod TableOwners
+pub mod RingBuilds

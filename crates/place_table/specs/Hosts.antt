@@ -1,5 +1,5 @@
 -- Hosts on the ring, the tables that are refused, and the owner of an actor in a table. Own.
-use Rattle.std.specs.Prelude.{ℕ, suc, zero, Bool, nat_lt, if◌then◌else◌, List, [], ◌∷◌, ◌++◌, length, Option, Some, None, option_map, option_and_then, find, map}
+use Rattle.std.specs.Prelude.{◌≡◌, ℕ, suc, zero, Bool, nat_lt, if◌then◌else◌, List, [], ◌∷◌, ◌++◌, length, Option, Some, None, option_map, option_and_then, find, map, Result, Err, IsOkUnless}
 use Rattle.std.specs.List.{list_any, flat_map}
 use Rattle.std.specs.declared.cmp.Ordering.{Ordering}
 use Rattle.std.specs.Ordering.{nat_cmp}
@@ -9,7 +9,7 @@ use Rattle.actor_names.specs.declared.actor_key.ActorKey.{ActorKey}
 use Rattle.place_table.specs.declared.point.Point.{Point}
 use Rattle.place_table.specs.declared.host.HostInfo.{HostInfo}
 use Rattle.place_table.specs.declared.error.TableError.{TableError}
-use Rattle.place_table.specs.declared.error.TableError.TheVariants.{TooManyMembers, TooManyTypes, SameNode}
+use Rattle.place_table.specs.declared.error.TableError.TheVariants.{TooManyMembers, TooManyTypes, SameNode, OutOfMemory}
 use Rattle.place_table.specs.Hash.{place_of, point_text}
 use Rattle.place_table.specs.Ring.{owner_point}
 
@@ -84,3 +84,8 @@ first_fault (Some e) second = Some e
 -- why no table of these hosts is built, memory apart
 abbrev pub table_fault : List HostInfo → Option TableError
 table_fault hosts = if nat_lt 256 (length hosts) then Some (TooManyMembers (length hosts)) else first_fault (types_fault hosts) (same_node_fault [] hosts)
+
+-- hosts with a fault are refused with that very fault; of any others a table is built, unless there is no memory for it
+abbrev pub BuildsTable : {A : Type 0} → Option TableError → Result A TableError → Type 0
+BuildsTable None answer = IsOkUnless answer OutOfMemory
+BuildsTable (Some fault) answer = answer ≡ Err fault

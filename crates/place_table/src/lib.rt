@@ -5,18 +5,22 @@
 #![tactic(auto)]
 
 mod ack_stage;
+mod build;
 mod error;
+mod faults;
 mod hash;
 mod host;
 mod point;
 mod ring;
 mod slots;
+mod sort;
 mod table;
 
 pub use ack_stage::AckStage;
 pub use error::TableError;
+pub use faults::{MOST_HOSTS, MOST_TYPES};
 pub use hash::{key_hash, part_of};
 pub use host::{ActorTypes, HostInfo};
 pub use point::Point;
 pub use ring::ring_pick;
-pub use table::Table;
+pub use table::{Table, build_table};

@@ -1,16 +1,21 @@
 // Placement tables.
-ghost use Rattle.std.specs.Prelude.{◌≡◌, ◌↔◌, false, IsNone, IfSome, Contains, option_and_then};
+ghost use Rattle.std.specs.Prelude.{◌≡◌, ◌↔◌, false, IsNone, None, IfSome, IfOk, OnOk, Contains, IsPermutation, option_and_then};
 ghost use Rattle.std.specs.List.{list_any};
 ghost use Rattle.std.specs.Option.{option_copied};
-ghost use Rattle.place_table.specs.Hosts.{node_of, serves, ring_points, key_place, host_of, owner_of, table_owner};
+ghost use Rattle.place_table.specs.Hosts.{node_of, serves, ring_points, key_place, host_of, owner_of, table_owner, table_fault, BuildsTable};
 ghost use Rattle.place_table.specs.Ring.{IsOwner};
 ghost use Rattle.place_table.specs.Tables.{IsNodeSorted, IsTableKept};
 ghost use Rattle.place_table.specs.declared.point.Point.{Point};
 
+use crate::build::{all_places, all_rings};
+use crate::error::TableError;
+use crate::faults::table_fault;
 use crate::hash::key_hash;
 use crate::host::HostInfo;
 use crate::slots::{owner_slot, ring_slots};
+use crate::sort::sorted_hosts;
 use actor_names::{ActorKey, ActorType};
+use std::alloc::Global;
 use std::marker::Model;
 
 /// A point in 16 bytes: its place, and the number of its host in the table.
@@ -71,6 +76,30 @@ impl Table {
         ensures none { IsNone result ↔ (list_any (λ h. serves h key.now.kind) self.now.hosts ≡ false) }
     {
         owner_host(self.hosts.as_slice(), self.rings.as_slice(), key)
+    }
+}
+
+/// The table of the hosts at the version, its hosts equal to the given ones and in byte order of node. A fault of
+/// the hosts is answered before memory is asked for; the points of each host are hashed once.
+pub fn build_table(alloc: Global, version: u64, hosts: &[HostInfo]) -> Result<Table, TableError>
+    ensures version { IfOk result (λ t. t.version ≡ version) }
+    ensures hosts { IfOk result (λ t. IsPermutation hosts.now t.hosts) }
+    ensures order { IfOk result (λ t. IsNodeSorted t.hosts) }
+    ensures sound { OnOk result (table_fault hosts.now ≡ None) }
+    ensures refused { BuildsTable (table_fault hosts.now) result }
+{
+    match table_fault(hosts) {
+        Some(fault) => Err(fault),
+        None => {
+            let hosts = sorted_hosts(alloc, hosts)?;
+            let rows = all_places(alloc, hosts.as_slice())?;
+            let rings = all_rings(alloc, hosts.as_slice(), rows.as_slice())?;
+            Ok(Table {
+                version,
+                hosts,
+                rings,
+            })
+        }
     }
 }
 
