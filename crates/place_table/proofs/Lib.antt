@@ -4,3 +4,4 @@ pub mod RingSteps
 pub mod Picks
 pub mod TableOwners
 pub mod RingBuilds
+pub mod NodeOrder
