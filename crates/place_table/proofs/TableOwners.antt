@@ -101,3 +101,11 @@ none_owns hosts kind slots place ring e = unserved_from_empty hosts kind (sym ri
 
 pub some_owns : (hosts : List HostInfo) (kind : List ℕ) (place : ℕ) (p : Point) → Some p ≡ owner_point (ring_points hosts kind) place → list_any (λ h. serves h kind) hosts ≡ false → true ≡ false
 some_owns hosts kind place p owns unserved = ap is_some (owns ∙ ap (λ ps. owner_point ps place) (empty_from_unserved hosts kind unserved))
+
+pub owner_node_is : (hosts : List HostInfo) (key : ActorKey) (slot : Slot) (h : HostInfo) → slice_get hosts slot.host ≡ Some h → Some (slot_point hosts slot) ≡ owner_point (ring_points hosts key.kind) (key_place key.id) → Some (node_of h) ≡ owner_of hosts key
+owner_node_is hosts key slot h found owns =
+    ap (λ o. Some (found_node o)) (sym found) ∙ ap (λ o. option_map (λ (p : Point). p.node) o) owns
+
+pub no_owner_node : (hosts : List HostInfo) (key : ActorKey) (slots : List Slot) (place : ℕ) → IsRingOf hosts key.kind slots → place ≡ key_place key.id → None ≡ owner_point (map (slot_point hosts) slots) place → None ≡ owner_of hosts key
+no_owner_node hosts key slots place ring e owns =
+    ap (λ o. option_map (λ (p : Point). p.node) o) (owns ∙ ap (λ ps. owner_point ps place) ring.points ∙ ap (λ n. owner_point (ring_points hosts key.kind) n) e)

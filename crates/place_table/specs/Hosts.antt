@@ -1,5 +1,5 @@
 -- Hosts on the ring, the tables that are refused, and the owner of an actor in a table. Own.
-use Rattle.std.specs.Prelude.{◌≡◌, ℕ, suc, zero, Bool, nat_lt, if◌then◌else◌, List, [], ◌∷◌, ◌++◌, length, Option, Some, None, option_map, option_and_then, find, map, Result, Err, IsOkUnless}
+use Rattle.std.specs.Prelude.{◌≡◌, ◌⊎◌, ℕ, suc, zero, Bool, nat_lt, if◌then◌else◌, List, [], ◌∷◌, ◌++◌, length, Option, Some, None, option_map, option_and_then, find, map, Result, Err, IsOkUnless}
 use Rattle.std.specs.List.{list_any, flat_map}
 use Rattle.std.specs.declared.cmp.Ordering.{Ordering}
 use Rattle.std.specs.Ordering.{nat_cmp}
@@ -89,3 +89,9 @@ table_fault hosts = if nat_lt 256 (length hosts) then Some (TooManyMembers (leng
 abbrev pub BuildsTable : {A : Type 0} → Option TableError → Result A TableError → Type 0
 BuildsTable None answer = IsOkUnless answer OutOfMemory
 BuildsTable (Some fault) answer = answer ≡ Err fault
+
+-- of two tables the first fault is answered, the smaller table's before the larger one's
+abbrev pub RefusesTables : {A : Type 0} → Option TableError → Option TableError → Result A TableError → Type 0
+RefusesTables (Some fault) larger answer = answer ≡ Err fault
+RefusesTables None (Some fault) answer = (answer ≡ Err fault) ⊎ (answer ≡ Err OutOfMemory)
+RefusesTables None None answer = IsOkUnless answer OutOfMemory

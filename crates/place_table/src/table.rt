@@ -1,5 +1,5 @@
 // Placement tables.
-ghost use Rattle.std.specs.Prelude.{◌≡◌, ◌↔◌, false, IsNone, None, IfSome, IfOk, OnOk, Contains, IsPermutation, option_and_then};
+ghost use Rattle.std.specs.Prelude.{◌≡◌, ◌↔◌, false, IsNone, None, IfSome, IfOk, OnOk, Contains, IsPermutation, option_map, option_and_then};
 ghost use Rattle.std.specs.List.{list_any};
 ghost use Rattle.std.specs.Option.{option_copied};
 ghost use Rattle.place_table.specs.Hosts.{node_of, serves, ring_points, key_place, host_of, owner_of, table_owner, table_fault, BuildsTable};
@@ -71,6 +71,7 @@ impl Table {
     /// points of its type are looked at, and no memory is asked for.
     pub fn owner(&self, key: &ActorKey) -> Option<&HostInfo>
         ensures owner { option_copied result ≡ table_owner self.now key.now }
+        ensures node { option_map node_of (option_copied result) ≡ owner_of self.now.hosts key.now }
         ensures point { IfSome result (λ h. (p : Point) × IsOwner (ring_points self.now.hosts key.now.kind) (key_place key.now.id) p × (p.node ≡ node_of h.now)) }
         ensures among { IfSome result (λ h. Contains self.now.hosts h.now) }
         ensures none { IsNone result ↔ (list_any (λ h. serves h key.now.kind) self.now.hosts ≡ false) }
@@ -107,6 +108,7 @@ pub fn build_table(alloc: Global, version: u64, hosts: &[HostInfo]) -> Result<Ta
 fn owner_host<'a>(hosts: &'a [HostInfo], rings: &[TypeRing], key: &ActorKey) -> Option<&'a HostInfo>
     requires { IsTableKept hosts.now rings.now }
     ensures owner { option_copied result ≡ option_and_then (host_of hosts.now) (owner_of hosts.now key.now) }
+    ensures node { option_map node_of (option_copied result) ≡ owner_of hosts.now key.now }
     ensures point { IfSome result (λ h. (p : Point) × IsOwner (ring_points hosts.now key.now.kind) (key_place key.now.id) p × (p.node ≡ node_of h.now)) }
     ensures among { IfSome result (λ h. Contains hosts.now h.now) }
     ensures none { IsNone result ↔ (list_any (λ h. serves h key.now.kind) hosts.now ≡ false) }
