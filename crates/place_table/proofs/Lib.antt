@@ -5,3 +5,4 @@ pub mod Picks
 pub mod TableOwners
 pub mod RingBuilds
 pub mod NodeOrder
+pub mod Moves

@@ -4,12 +4,11 @@ use Rattle.std.proofs.Common.{refl, sym, ◌∙◌, ap, subst, true≢false, ari
 use Rattle.std.proofs.lemmas.List.Elements.{All-head, All-tail}
 use Rattle.std.specs.declared.cmp.Ordering.{Ordering}
 use Rattle.std.specs.declared.cmp.Ordering.TheVariants.{Less, Equal, Greater}
-use Rattle.std.specs.Ordering.{nat_cmp, is_lt, is_gt, ordering_reverse}
+use Rattle.std.specs.Ordering.{is_lt, ordering_reverse}
 use Rattle.std.specs.Cmp.{IsStrictWeakOrder, IsTotalOrder}
-use Rattle.std.specs.Cmp.Lexicographic.{slice_cmp}
 use Rattle.std.specs.FinMap.{nat_cmp-IsAntisymmetric, slice_cmp-IsAntisymmetric}
 use Rattle.std.specs.List.{list_any, AllByRecursion}
-use Rattle.std.specs.List.Sorted.{IsStrictlySortedBy, IsSortedBy}
+use Rattle.std.specs.List.Sorted.{IsStrictlySortedBy}
 use Rattle.std.specs.Str.{bytes_eq}
 use Rattle.std.proofs.lemmas.Cmp.{nat_list_cmp_total, on_total}
 use Rattle.std.proofs.lemmas.List.MinMax.{ranks_by}
@@ -150,8 +149,7 @@ none_later x xs distinct =
 pub strictly_sorted : (hosts : List HostInfo) → IsSorted node_cmp hosts → IsDistinct hosts → IsNodeSorted hosts
 unfolding IsStrictlySortedBy
 strictly_sorted [] up distinct = tt
-strictly_sorted (x ∷ xs) up distinct =
-    (
-      rises x xs (λ k d h. sorted_far (λ (a b : HostInfo). is_lt (node_cmp a b)) node_order (x ∷ xs) up 0 (suc k) d (omega arith) (omega arith)) (none_later x xs distinct),
-      strictly_sorted xs (sorted_rest x xs up) (distinct_rest x xs distinct)
-    )
+strictly_sorted (x ∷ xs) up distinct = (
+  rises x xs (λ k d h. sorted_far (λ (a b : HostInfo). is_lt (node_cmp a b)) node_order (x ∷ xs) up 0 (suc k) d (omega arith) (omega arith)) (none_later x xs distinct),
+  strictly_sorted xs (sorted_rest x xs up) (distinct_rest x xs distinct),
+)

@@ -1,5 +1,5 @@
 -- The owner of a place is the one point that the relation describes.
-use Rattle.std.specs.Prelude.{◌≡◌, ◌≢◌, ℕ, ◌<◌, ◌≤◌, ◌⊎◌, Bool, true, false, nat_le, if◌then◌else◌, List, [], ◌∷◌, ◌++◌, length, Option, Some, None, filter, Contains, MatchOption}
+use Rattle.std.specs.Prelude.{◌≡◌, ℕ, ◌<◌, ◌≤◌, ◌⊎◌, Bool, true, false, nat_le, if◌then◌else◌, List, [], ◌∷◌, Option, Some, None, filter, Contains, MatchOption}
 use Rattle.std.proofs.Common.{refl, sym, ◌∙◌, ap, subst, true≢false, inl, inr, arith}
 use Rattle.std.proofs.lemmas.List.Elements.{Contains-append_left, Contains-append_right, Contains-push, Contains-push_cases, Contains-append_cases}
 use Rattle.place_table.specs.declared.point.Point.{Point}
@@ -35,16 +35,16 @@ lesser_case : (p : Point) (ps : List Point) (q : Point) → IsLeast ps q → (b 
 lesser_case p ps q h true e = record {
   among = Contains-tail p ps q h.among;
   first = λ r member. elim (Contains-cons_cases p ps r member) [
-      | inl same ↦ let P : Point → Type 0 = λ x. is_before x q ≡ false in subst P same (before_one_way q p e)
-      | inr later ↦ h.first r later
-    ];
+    | inl same ↦ let P : Point → Type 0 = λ x. is_before x q ≡ false in subst P same (before_one_way q p e)
+    | inr later ↦ h.first r later
+  ];
 }
 lesser_case p ps q h false e = record {
   among = Contains-head p ps;
   first = λ r member. elim (Contains-cons_cases p ps r member) [
-      | inl same ↦ let P : Point → Type 0 = λ x. is_before x p ≡ false in subst P same (not_before_itself p)
-      | inr later ↦ not_before_chain p q r e (h.first r later)
-    ];
+    | inl same ↦ let P : Point → Type 0 = λ x. is_before x p ≡ false in subst P same (not_before_itself p)
+    | inr later ↦ not_before_chain p q r e (h.first r later)
+  ];
 }
 
 least_step : (p : Point) (ps : List Point) (q : Point) → IsLeast ps q → (b : Bool) → is_before q p ≡ b → MatchOption (if b then Some q else Some p) (p ∷ ps ≡ []) (IsLeast (p ∷ ps))

@@ -1,12 +1,12 @@
 -- The first place of the owner's point in a list.
-use Rattle.std.specs.Prelude.{◌≡◌, ℕ, ◌<◌, Bool, true, false, ◌&&◌, ◌==◌, List, [], length, Option, Some, None, Contains, slice_get, position, option_and_then, IfSome, IsSomeAnd, IsNone, ◌↔◌, MatchOption}
-use Rattle.std.proofs.Common.{refl, sym, ◌∙◌, ap, subst, true≢false, arith, get_or, eqb-true, eqb→eq}
+use Rattle.std.specs.Prelude.{◌≡◌, ℕ, Bool, true, false, ◌&&◌, ◌==◌, List, [], Option, Some, None, Contains, slice_get, position, IfSome, IsSomeAnd, IsNone, ◌↔◌, MatchOption}
+use Rattle.std.proofs.Common.{refl, sym, ◌∙◌, ap, subst, true≢false, arith, get_or, eqb-true}
 use Rattle.std.specs.Str.{bytes_eq}
 use Rattle.std.proofs.lemmas.List.Quantifiers.{position-Some}
 use Rattle.std.proofs.lemmas.Option.{slice_get-get_or}
 use Rattle.std.proofs.lemmas.Slice.Eq.{bytes_eq-Decides}
 use Rattle.place_table.specs.declared.point.Point.{Point}
-use Rattle.place_table.specs.Ring.{is_point, owner_point, IsOwner, IsLeast, IsLeastFrom}
+use Rattle.place_table.specs.Ring.{is_point, owner_point, IsOwner}
 use Rattle.std.specs.List.{position_from}
 use Rattle.std.specs.Prelude.{IsSome, is_some, ◌∷◌, ◌+◌, false, if◌then◌else◌}
 use Rattle.std.proofs.Common.{inl, inr}
@@ -47,7 +47,7 @@ is_point_itself p =
     let nodes : bytes_eq p.node p.node ≡ true = (bytes_eq-Decides p.node p.node).1 refl in
     ap (λ a. a && bytes_eq p.node p.node) places ∙ nodes
 
-among_from_owner : (xs : List Point) (place : ℕ) (p : Point) → IsOwner xs place p → Contains xs p
+pub among_from_owner : (xs : List Point) (place : ℕ) (p : Point) → IsOwner xs place p → Contains xs p
 among_from_owner xs place p (inl h) = h.among
 among_from_owner xs place p (inr h) = h.1.among
 
@@ -70,8 +70,7 @@ picks_owner xs place p owns (Some i) e =
 
 pub picks_some : (xs : List Point) (place : ℕ) (p : Point) → Some p ≡ owner_point xs place → (r : Option ℕ) → r ≡ position (is_point p) xs → IsNone r ↔ (xs ≡ [])
 picks_some xs place p owns r e =
-    let among = among_from_owner xs place p (owner_from_some xs place p owns) in
-    (
+    let among = among_from_owner xs place p (owner_from_some xs place p owns) in (
       λ none. absurd (true≢false (sym (found xs p among r e) ∙ none)),
-      λ nil. absurd (none_in_nil p (subst (λ (ys : List Point). Contains ys p) nil among))
+      λ nil. absurd (none_in_nil p (subst (λ (ys : List Point). Contains ys p) nil among)),
     )

@@ -1,9 +1,9 @@
 -- Points are totally ordered.
-use Rattle.std.specs.Prelude.{◌≡◌, ℕ, Bool, true, false}
-use Rattle.std.proofs.Common.{refl, sym, ◌∙◌, ap, subst, true≢false}
+use Rattle.std.specs.Prelude.{◌≡◌, true, false}
+use Rattle.std.proofs.Common.{refl, sym, ◌∙◌, ap, true≢false}
 use Rattle.std.specs.declared.cmp.Ordering.{Ordering}
 use Rattle.std.specs.declared.cmp.Ordering.TheVariants.{Less, Equal, Greater}
-use Rattle.std.specs.Ordering.{nat_cmp, is_lt, is_gt, on, then_cmp, ordering_then, ordering_reverse}
+use Rattle.std.specs.Ordering.{nat_cmp, is_lt, is_gt, ordering_then, ordering_reverse}
 use Rattle.std.specs.Cmp.{IsTotalOrder}
 use Rattle.std.specs.Cmp.Lexicographic.{slice_cmp}
 use Rattle.std.specs.FinMap.{nat_cmp-IsAntisymmetric, slice_cmp-IsAntisymmetric}

@@ -1,6 +1,6 @@
 -- The points that are kept of a type are those of the hosts that serve it.
-use Rattle.std.specs.Prelude.{◌≡◌, ℕ, ◌+◌, ◌<◌, ◌≤◌, ◌⊎◌, Bool, true, false, ◌||◌, if◌then◌else◌, List, [], ◌∷◌, ◌++◌, length, map, take, All, Vec}
-use Rattle.std.proofs.Common.{refl, sym, ◌∙◌, ap, subst, true≢false, inl, inr, arith, get_or, append-nil, Some, slice_get, take_all}
+use Rattle.std.specs.Prelude.{◌≡◌, ℕ, ◌+◌, ◌<◌, ◌⊎◌, Bool, true, false, ◌||◌, if◌then◌else◌, List, [], ◌∷◌, ◌++◌, length, map, take, All, Vec}
+use Rattle.std.proofs.Common.{refl, sym, ◌∙◌, ap, subst, true≢false, inl, inr, arith, get_or, append-nil, Some, slice_get}
 use Rattle.std.specs.declared.alloc.Global.{Global}
 use Rattle.std.specs.List.{list_any}
 use Rattle.std.specs.Str.{bytes_eq}
@@ -8,11 +8,10 @@ use Rattle.std.proofs.lemmas.List.{map-append, length-map, get_or-map, take_more
 use Rattle.std.proofs.lemmas.Grind.{flat_map-append}
 use Rattle.std.proofs.lemmas.List.Elements.{All-append, All-map, All-nil, All-head, All-tail}
 use Rattle.std.proofs.lemmas.Slice.Eq.{bytes_eq-Decides}
-use Rattle.place_table.specs.declared.point.Point.{Point}
 use Rattle.place_table.specs.declared.host.HostInfo.{HostInfo}
 use Rattle.place_table.specs.declared.table.Slot.{Slot}
 use Rattle.place_table.specs.declared.table.TypeRing.{TypeRing}
-use Rattle.place_table.specs.Hosts.{node_of, serves, node_places, node_points, point_at, host_points, ring_points}
+use Rattle.place_table.specs.Hosts.{node_of, serves, node_points, point_at, host_points, ring_points}
 use Rattle.place_table.specs.Tables.{slot_point, slot_at, found_node, places_of, row_items, is_known, kept_slots, IsRingOf}
 use Rattle.place_table.proofs.TableOwners.{found_host, empty_from_unserved}
 
@@ -117,10 +116,10 @@ rings_kept hosts rings all covered kind =
       | true ↦ λ e. ring_of_known hosts kind rings all e
       | false ↦ λ e.
           let unserved : list_any (λ h. serves h kind) hosts ≡ false =
-              elim (list_any (λ h. serves h kind) hosts) as (λ b. list_any (λ h. serves h kind) hosts ≡ b → b ≡ false) [
-                | true ↦ λ s. absurd (true≢false (sym (covered kind s) ∙ e))
-                | false ↦ λ _. refl
-              ] refl
+          elim (list_any (λ h. serves h kind) hosts) as (λ b. list_any (λ h. serves h kind) hosts ≡ b → b ≡ false) [
+            | true ↦ λ s. absurd (true≢false (sym (covered kind s) ∙ e))
+            | false ↦ λ _. refl
+          ] refl
           in
           subst (λ (slots : List Slot). IsRingOf hosts kind slots) (sym (nothing_kept kind rings e)) (empty_ring hosts kind (empty_from_unserved hosts kind unserved))
     ] refl

@@ -1,6 +1,6 @@
 -- From the kept point that owns a place to the host that owns the actor.
-use Rattle.std.specs.Prelude.{◌≡◌, ℕ, ◌+◌, ◌<◌, Bool, true, false, ◌||◌, if◌then◌else◌, List, [], ◌∷◌, ◌++◌, length, map, Option, Some, None, option_map, option_and_then, Contains, find, slice_get, ◌↔◌, suc, zero}
-use Rattle.std.proofs.Common.{refl, sym, ◌∙◌, ap, subst, true≢false, arith, get_or, length-append, is_some, MatchOption}
+use Rattle.std.specs.Prelude.{◌≡◌, ℕ, ◌<◌, Bool, true, false, ◌||◌, if◌then◌else◌, List, [], ◌∷◌, ◌++◌, length, map, Some, None, option_map, option_and_then, slice_get, suc, zero}
+use Rattle.std.proofs.Common.{refl, sym, ◌∙◌, ap, subst, true≢false, arith, get_or, length-append, is_some}
 use Rattle.std.specs.List.{list_any, AllByRecursion}
 use Rattle.std.specs.List.Sorted.{IsStrictlySortedBy}
 use Rattle.std.specs.Str.{bytes_eq}
@@ -9,7 +9,6 @@ use Rattle.std.specs.declared.cmp.Ordering.TheVariants.{Less, Equal}
 use Rattle.std.specs.Cmp.Lexicographic.{slice_cmp}
 use Rattle.std.proofs.lemmas.Cmp.{nat_list_cmp_total, tied_itself}
 use Rattle.std.proofs.lemmas.List.{length-map}
-use Rattle.std.proofs.lemmas.List.Elements.{Contains-get_or}
 use Rattle.std.proofs.lemmas.Option.{slice_get_read}
 use Rattle.std.proofs.lemmas.Slice.Eq.{bytes_eq-Decides}
 use Rattle.actor_names.specs.declared.actor_key.ActorKey.{ActorKey}
@@ -17,10 +16,9 @@ use Rattle.place_table.specs.declared.point.Point.{Point}
 use Rattle.place_table.specs.declared.host.HostInfo.{HostInfo}
 use Rattle.place_table.specs.declared.table.Slot.{Slot}
 use Rattle.place_table.specs.Ring.{owner_point, IsOwner}
-use Rattle.place_table.specs.Hosts.{node_of, node_cmp, serves, node_places, node_points, point_at, host_points, ring_points, owner_of, host_of, key_place}
+use Rattle.place_table.specs.Hosts.{node_of, node_cmp, serves, node_places, node_points, point_at, ring_points, owner_of, host_of, key_place}
 use Rattle.place_table.specs.Tables.{IsNodeSorted, slot_point, found_node, IsRingOf}
 use Rattle.place_table.proofs.Picks.{owner_from_some, empty_from_none}
-use Rattle.place_table.proofs.Owners.{none_in_nil}
 
 -- ---- a host found again by its node
 

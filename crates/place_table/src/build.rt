@@ -38,7 +38,10 @@ pub(crate) fn all_places(alloc: Global, hosts: &[HostInfo]) -> Result<Vec<Vec<u6
 fn serves(host: &HostInfo, kind: &ActorType) -> bool
     ensures { result ≡ serves host.now kind.now }
 {
-    host.kinds.as_slice().iter().any(|k| k.as_slice() == kind.as_slice())
+    host.kinds
+        .as_slice()
+        .iter()
+        .any(|k| k.as_slice() == kind.as_slice())
 }
 
 // Keeps the points of a host.
@@ -46,7 +49,10 @@ fn push_points(slots: &mut Vec<Slot>, places: &[u64], host: usize) -> Result<(),
     ensures { OnOk result (slots.new.items ≡ slots.old.items ++ map (slot_at host) places.now) }
 {
     for place in places {
-        slots.push(Slot { place: *place, host })?;
+        slots.push(Slot {
+            place: *place,
+            host,
+        })?;
     }
     Ok(())
 }
@@ -68,7 +74,12 @@ fn push_host(
 }
 
 // The points of the hosts that serve the type.
-fn ring_of(alloc: Global, hosts: &[HostInfo], rows: &[Vec<u64>], kind: &ActorType) -> Result<Vec<Slot>, OutOfMemory>
+fn ring_of(
+    alloc: Global,
+    hosts: &[HostInfo],
+    rows: &[Vec<u64>],
+    kind: &ActorType,
+) -> Result<Vec<Slot>, OutOfMemory>
     requires { map row_items rows.now ≡ map places_of hosts.now }
     ensures { IfOk result (λ v. IsRingOf hosts.now kind.now v.items) }
 {
@@ -83,7 +94,9 @@ fn ring_of(alloc: Global, hosts: &[HostInfo], rows: &[Vec<u64>], kind: &ActorTyp
 fn is_known(rings: &[TypeRing], kind: &ActorType) -> bool
     ensures { result ≡ is_known kind.now rings.now }
 {
-    rings.iter().any(|ring| ring.kind.as_slice() == kind.as_slice())
+    rings
+        .iter()
+        .any(|ring| ring.kind.as_slice() == kind.as_slice())
 }
 
 // Keeps the points of the type, unless they are kept.

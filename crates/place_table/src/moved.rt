@@ -11,7 +11,11 @@ use actor_names::{ActorKey, OutOfMemory};
 use std::alloc::Global;
 
 // Equal hosts, and one more.
-fn larger_hosts(alloc: Global, hosts: &[HostInfo], more: &HostInfo) -> Result<Vec<HostInfo>, OutOfMemory>
+fn larger_hosts(
+    alloc: Global,
+    hosts: &[HostInfo],
+    more: &HostInfo,
+) -> Result<Vec<HostInfo>, OutOfMemory>
     ensures { IfOk result (λ v. v.items ≡ hosts.now ++ more.now ∷ []) }
 {
     let mut both = copy_hosts(alloc, hosts)?;

@@ -23,13 +23,7 @@ fn lesser(p: &Point, best: Option<Point>) -> Option<Point>
 {
     match best {
         None => Some(*p),
-        Some(q) => {
-            if is_before(&q, p) {
-                Some(q)
-            } else {
-                Some(*p)
-            }
-        }
+        Some(q) => { if is_before(&q, p) { Some(q) } else { Some(*p) } }
     }
 }
 

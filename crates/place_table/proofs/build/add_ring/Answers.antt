@@ -1,4 +1,4 @@
-use Rattle.std.proofs.Common.{◌≡◌, ◌∙◌, ap, true}
+use Rattle.std.proofs.Common.{◌∙◌, ap}
 use Rattle.place_table.specs.Tables.{is_known}
 use Rattle.place_table.proofs.RingBuilds.{known_pushed}
 use Rattle.place_table.proofs.build.add_ring.Goals as goal

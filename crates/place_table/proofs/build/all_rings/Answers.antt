@@ -1,8 +1,7 @@
-use Rattle.std.proofs.Common.{◌≡◌, ℕ, ◌∙◌, sym, ap, subst, true, ◌≤◌, length, take, take_all, arith, List}
+use Rattle.std.proofs.Common.{◌∙◌, ap, ◌≤◌, length, take_all, List}
 use Rattle.std.specs.List.{list_any}
 use Rattle.place_table.specs.declared.host.HostInfo.{HostInfo}
 use Rattle.place_table.specs.Hosts.{serves}
-use Rattle.place_table.specs.Tables.{is_known}
 use Rattle.place_table.proofs.RingBuilds.{rings_kept}
 use Rattle.place_table.proofs.build.all_rings.Goals as goal
 

@@ -1,4 +1,3 @@
-use Rattle.std.proofs.Common.{sym}
 use Rattle.place_table.proofs.Picks.{empty_from_none, picks_owner, picks_some}
 use Rattle.place_table.proofs.ring.ring_pick.Goals as goal
 

@@ -1,4 +1,4 @@
-use Rattle.std.proofs.Common.{◌≡◌, sym, ap, subst, List, IsPermutation}
+use Rattle.std.proofs.Common.{subst, List, IsPermutation}
 use Rattle.place_table.specs.declared.host.HostInfo.{HostInfo}
 use Rattle.place_table.proofs.NodeOrder.{strictly_sorted, distinct_permuted, distinct_allowed}
 use Rattle.place_table.proofs.sort.sorted_hosts.Goals as goal

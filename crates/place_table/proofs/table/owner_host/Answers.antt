@@ -1,4 +1,4 @@
-use Rattle.std.proofs.Common.{◌≡◌, sym, ◌∙◌, ap, subst, Some, None, refl}
+use Rattle.std.proofs.Common.{◌≡◌, sym, ◌∙◌, ap, subst, Some, refl}
 use Rattle.place_table.specs.Ring.{owner_point}
 use Rattle.place_table.specs.Tables.{IsRingOf, slot_point}
 use Rattle.place_table.specs.Hosts.{key_place, ring_points}
