@@ -26,3 +26,6 @@ pub use moved::moved_law;
 pub use point::Point;
 pub use ring::ring_pick;
 pub use table::{Table, build_table};
+
+#[cfg(test)]
+mod tests;
