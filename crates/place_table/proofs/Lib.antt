@@ -6,3 +6,5 @@ pub mod TableOwners
 pub mod RingBuilds
 pub mod NodeOrder
 pub mod Moves
+pub mod Causes
+mod Examples

@@ -1,8 +1,8 @@
 // Placement tables.
-ghost use Rattle.std.specs.Prelude.{◌≡◌, ◌↔◌, false, IsNone, None, IfSome, IfOk, OnOk, Contains, IsPermutation, option_map, option_and_then};
+ghost use Rattle.std.specs.Prelude.{◌≡◌, ◌↔◌, ◌<◌, ◌≤◌, ℕ, List, [], length, false, IsNone, None, IfSome, IfOk, OnOk, Contains, IsPermutation, option_map, option_and_then};
 ghost use Rattle.std.specs.List.{list_any};
 ghost use Rattle.std.specs.Option.{option_copied};
-ghost use Rattle.place_table.specs.Hosts.{node_of, serves, ring_points, key_place, host_of, owner_of, table_owner, table_fault, BuildsTable};
+ghost use Rattle.place_table.specs.Hosts.{node_of, serves, ring_points, key_place, host_of, owner_of, table_owner, table_fault, types_fault, same_node_fault, BuildsTable};
 ghost use Rattle.place_table.specs.Ring.{IsOwner};
 ghost use Rattle.place_table.specs.Tables.{IsNodeSorted, IsTableKept};
 ghost use Rattle.place_table.specs.declared.point.Point.{Point};
@@ -80,9 +80,8 @@ impl Table {
     }
 }
 
-/// The table of the hosts at the version, its hosts equal to the given ones and in byte order of node. A fault of
-/// the hosts is answered before memory is asked for; the points of each host are hashed once.
-pub fn build_table(alloc: Global, version: u64, hosts: &[HostInfo]) -> Result<Table, TableError>
+// The table of the hosts at the version.
+fn make_table(alloc: Global, version: u64, hosts: &[HostInfo]) -> Result<Table, TableError>
     ensures version { IfOk result (λ t. t.version ≡ version) }
     ensures hosts { IfOk result (λ t. IsPermutation hosts.now t.hosts) }
     ensures order { IfOk result (λ t. IsNodeSorted t.hosts) }
@@ -102,6 +101,21 @@ pub fn build_table(alloc: Global, version: u64, hosts: &[HostInfo]) -> Result<Ta
             })
         }
     }
+}
+
+/// The table of the hosts at the version, its hosts equal to the given ones and in byte order of node. A fault of
+/// the hosts is answered before memory is asked for; the points of each host are hashed once.
+pub fn build_table(alloc: Global, version: u64, hosts: &[HostInfo]) -> Result<Table, TableError>
+    ensures version { IfOk result (λ t. t.version ≡ version) }
+    ensures hosts { IfOk result (λ t. IsPermutation hosts.now t.hosts) }
+    ensures order { IfOk result (λ t. IsNodeSorted t.hosts) }
+    ensures sound { OnOk result (table_fault hosts.now ≡ None) }
+    ensures refused { BuildsTable (table_fault hosts.now) result }
+    ensures members { (n : ℕ) → (result ≡ Err (TableError.TooManyMembers n)) ↔ ((n ≡ length hosts.now) × (256 < n)) }
+    ensures types { (node : List ℕ) (n : ℕ) → (result ≡ Err (TableError.TooManyTypes node n)) ↔ ((length hosts.now ≤ 256) × (types_fault hosts.now ≡ Some (TableError.TooManyTypes node n))) }
+    ensures same { (name : List ℕ) → (result ≡ Err (TableError.SameNode name)) ↔ ((length hosts.now ≤ 256) × (types_fault hosts.now ≡ None) × (same_node_fault [] hosts.now ≡ Some (TableError.SameNode name))) }
+{
+    make_table(alloc, version, hosts)
 }
 
 // The host that owns the actor among those of a table.

@@ -1,5 +1,8 @@
 use super::*;
-use actor_names::{ActorKey, read_actor_id, read_actor_type, read_address, read_app_id, read_key, read_member, read_node};
+use actor_names::{
+    ActorKey, read_actor_id, read_actor_type, read_address, read_app_id, read_key, read_member,
+    read_node,
+};
 use std::alloc::Global;
 use std::test::Fail;
 
@@ -48,15 +51,32 @@ fn key_hash_of_known_texts(rt: HostRuntime) -> Result<(), Fail> {
 fn ring_pick_takes_successor(rt: HostRuntime) -> Result<(), Fail> {
     let node = |text: &[u8]| read_node(text);
     let points = [
-        Point { place: 10, node: node(b"b")? },
-        Point { place: 10, node: node(b"a")? },
-        Point { place: 90, node: node(b"c")? },
+        Point {
+            place: 10,
+            node: node(b"b")?,
+        },
+        Point {
+            place: 10,
+            node: node(b"a")?,
+        },
+        Point {
+            place: 90,
+            node: node(b"c")?,
+        },
     ];
     assert_eq!(rt; ring_pick(&points, 10), Some(1));
     assert_eq!(rt; ring_pick(&points, 11), Some(2));
     assert_eq!(rt; ring_pick(&points, 91), Some(1));
     assert_eq!(rt; ring_pick(&[], 10), None);
     Ok(())
+}
+
+// The node that stands twice, or nothing.
+fn same_node(fault: &TableError) -> &[u8] {
+    match fault {
+        TableError::SameNode { name } => name.as_slice(),
+        _ => &[],
+    }
 }
 
 #[test]
@@ -66,8 +86,8 @@ fn build_table_refuses_same_node(rt: HostRuntime) -> Result<(), Fail> {
     hosts.push(host(alloc, b"c/2", &[])?)?;
     hosts.push(host(alloc, b"a/2", &[])?)?;
     match build_table(alloc, 1, hosts.as_slice()) {
-        Err(TableError::SameNode { name }) => assert_eq!(rt; name.as_slice(), b"c".as_slice()),
-        _ => assert!(rt; false),
+        Ok(_) => assert!(rt; false),
+        Err(fault) => assert_eq!(rt; same_node(&fault), b"c".as_slice()),
     }
     Ok(())
 }
