@@ -85,10 +85,10 @@ fn build_table_refuses_same_node(rt: HostRuntime) -> Result<(), Fail> {
     let mut hosts = some_hosts(alloc)?;
     hosts.push(host(alloc, b"c/2", &[])?)?;
     hosts.push(host(alloc, b"a/2", &[])?)?;
-    match build_table(alloc, 1, hosts.as_slice()) {
-        Ok(_) => assert!(rt; false),
-        Err(fault) => assert_eq!(rt; same_node(&fault), b"c".as_slice()),
-    }
+    let fault = build_table(alloc, 1, hosts.as_slice())
+        .err()
+        .ok_or("a table")?;
+    assert_eq!(rt; same_node(&fault), b"c".as_slice());
     Ok(())
 }
 
