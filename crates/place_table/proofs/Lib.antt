@@ -1,0 +1,10 @@
+pub mod PointOrder
+pub mod Owners
+pub mod RingSteps
+pub mod Picks
+pub mod TableOwners
+pub mod RingBuilds
+pub mod NodeOrder
+pub mod Moves
+pub mod Causes
+mod Examples

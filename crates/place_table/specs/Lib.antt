@@ -1,0 +1,4 @@
+pub mod Hash
+pub mod Ring
+pub mod Hosts
+pub mod Tables

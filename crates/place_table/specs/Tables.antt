@@ -1,0 +1,53 @@
+-- What a table keeps beside its hosts: the points of each type. Own.
+use Rattle.std.specs.Prelude.{◌≡◌, ℕ, ◌<◌, if◌then◌else◌, List, [], ◌∷◌, length, All, map, Option, Some, None, Bool, Vec}
+use Rattle.std.specs.List.{slice_get, list_any}
+use Rattle.std.specs.declared.alloc.Global.{Global}
+use Rattle.std.specs.List.Sorted.{IsStrictlySortedBy}
+use Rattle.std.specs.Str.{bytes_eq}
+use Rattle.place_table.specs.declared.point.Point.{Point}
+use Rattle.place_table.specs.declared.host.HostInfo.{HostInfo}
+use Rattle.place_table.specs.declared.table.Slot.{Slot}
+use Rattle.place_table.specs.declared.table.TypeRing.{TypeRing}
+use Rattle.place_table.specs.Hosts.{node_of, node_cmp, node_places, ring_points}
+
+-- in byte order of node, no node twice
+abbrev pub IsNodeSorted : List HostInfo → Type 0
+IsNodeSorted hosts = IsStrictlySortedBy node_cmp hosts
+
+abbrev pub found_node : Option HostInfo → List ℕ
+found_node None = []
+found_node (Some host) = node_of host
+
+-- the point that is kept as a place and the number of its host
+abbrev pub slot_point : List HostInfo → Slot → Point
+slot_point hosts slot = record { place = slot.place; node = found_node (slice_get hosts slot.host) }
+
+-- a point of the host with this number
+abbrev pub slot_at : ℕ → ℕ → Slot
+slot_at host place = record { place = place; host = host }
+
+-- the places of a host's points
+abbrev pub places_of : HostInfo → List ℕ
+places_of host = node_places (node_of host)
+
+abbrev pub row_items : Vec ℕ Global → List ℕ
+row_items row = row.items
+
+-- whether the points of a type are kept
+abbrev pub is_known : List ℕ → List TypeRing → Bool
+is_known kind rings = list_any (λ r. bytes_eq r.kind kind) rings
+
+-- what is kept of a type
+abbrev pub kept_slots : List ℕ → List TypeRing → List Slot
+kept_slots kind [] = []
+kept_slots kind (ring ∷ rings) = if bytes_eq ring.kind kind then ring.slots.items else kept_slots kind rings
+
+-- these are the points of the type among the hosts
+pub record IsRingOf (hosts : List HostInfo) (kind : List ℕ) (slots : List Slot) : Type 0 where
+  pub points : map (slot_point hosts) slots ≡ ring_points hosts kind
+  pub numbers : All (λ s. s.host < length hosts) slots
+
+-- the hosts are in order, and the points of each type are kept
+pub record IsTableKept (hosts : List HostInfo) (rings : List TypeRing) : Type 0 where
+  pub ordered : IsNodeSorted hosts
+  pub kept : (kind : List ℕ) → IsRingOf hosts kind (kept_slots kind rings)

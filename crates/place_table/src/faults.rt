@@ -1,0 +1,67 @@
+// Why no table is built of some hosts.
+ghost use Rattle.std.specs.Prelude.{◌≡◌, [], if◌then◌else◌};
+ghost use Rattle.std.specs.List.{list_any};
+ghost use Rattle.std.specs.Str.{bytes_eq};
+ghost use Rattle.place_table.specs.Hosts.{node_of, types_fault, same_node_fault, table_fault};
+
+use crate::error::TableError;
+use crate::host::HostInfo;
+use actor_names::Node;
+
+/// The most hosts of a table.
+pub const MOST_HOSTS: usize = 256;
+
+/// The most types of a host.
+pub const MOST_TYPES: usize = 32;
+
+// The first host with too many types.
+fn types_fault(hosts: &[HostInfo]) -> Option<TableError>
+    ensures { result ≡ types_fault hosts.now }
+{
+    for host in hosts {
+        let n = host.kinds.as_slice().len();
+        if n > MOST_TYPES {
+            return Some(TableError::TooManyTypes {
+                node: host.member.node,
+                n: n as u64,
+            });
+        }
+    }
+    None
+}
+
+// Tests whether a host has the node.
+fn has_node(hosts: &[HostInfo], node: &Node) -> bool
+    ensures { result ≡ list_any (λ e. bytes_eq (node_of e) node.now) hosts.now }
+{
+    hosts
+        .iter()
+        .any(|host| host.member.node.as_slice() == node.as_slice())
+}
+
+// The first host whose node stood before.
+fn same_node_fault(hosts: &[HostInfo]) -> Option<TableError>
+    ensures { result ≡ same_node_fault [] hosts.now }
+{
+    for i in 0..hosts.len() {
+        let node = &hosts[i].member.node;
+        if has_node(&hosts[..i], node) {
+            return Some(TableError::SameNode { name: *node });
+        }
+    }
+    None
+}
+
+// Why no table of these hosts is built, memory apart.
+pub(crate) fn table_fault(hosts: &[HostInfo]) -> Option<TableError>
+    ensures { result ≡ table_fault hosts.now }
+{
+    let n = hosts.len();
+    if n > MOST_HOSTS {
+        return Some(TableError::TooManyMembers { n: n as u64 });
+    }
+    match types_fault(hosts) {
+        Some(fault) => Some(fault),
+        None => same_node_fault(hosts),
+    }
+}

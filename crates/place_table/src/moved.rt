@@ -1,0 +1,62 @@
+// Which host takes an actor when a host is added.
+ghost use Rattle.std.specs.Prelude.{◌≡◌, ◌≢◌, ◌↔◌, ◌∷◌, ◌++◌, [], None, IfOk, OnOk, IsTrue, option_map};
+ghost use Rattle.std.specs.Option.{option_copied};
+ghost use Rattle.place_table.specs.Hosts.{node_of, owner_of, table_fault, RefusesTables};
+
+use crate::error::TableError;
+use crate::host::HostInfo;
+use crate::sort::copy_hosts;
+use crate::table::{Table, build_table};
+use actor_names::{ActorKey, OutOfMemory};
+use std::alloc::Global;
+
+// Equal hosts, and one more.
+fn larger_hosts(
+    alloc: Global,
+    hosts: &[HostInfo],
+    more: &HostInfo,
+) -> Result<Vec<HostInfo>, OutOfMemory>
+    ensures { IfOk result (λ v. v.items ≡ hosts.now ++ more.now ∷ []) }
+{
+    let mut both = copy_hosts(alloc, hosts)?;
+    both.push(more.copy(alloc)?)?;
+    Ok(both)
+}
+
+// Tests whether two hosts, or no host and no host, have one node.
+fn is_same_node(first: Option<&HostInfo>, second: Option<&HostInfo>) -> bool
+    ensures { IsTrue result ↔ (option_map node_of (option_copied first.entry) ≡ option_map node_of (option_copied second.entry)) }
+{
+    match (first, second) {
+        (None, None) => true,
+        (Some(a), Some(b)) => a.member.node.as_slice() == b.member.node.as_slice(),
+        _ => false,
+    }
+}
+
+// Tests whether the tables give the actor to hosts of different nodes.
+fn has_moved(before: &Table, after: &Table, key: &ActorKey) -> bool
+    ensures { IsTrue result ↔ (owner_of after.now.hosts key.now ≢ owner_of before.now.hosts key.now) }
+{
+    !is_same_node(after.owner(key), before.owner(key))
+}
+
+/// Whether the actor has another owner among the hosts and one more than among the hosts alone, in tables of
+/// version 1; its owner is then the new host. A fault is that of the smaller table, or else of the larger.
+pub fn moved_law(
+    alloc: Global,
+    hosts: &[HostInfo],
+    more: &HostInfo,
+    key: &ActorKey,
+) -> Result<bool, TableError>
+    ensures moved { IfOk result (λ moved. IsTrue moved ↔ (owner_of (hosts.now ++ more.now ∷ []) key.now ≢ owner_of hosts.now key.now)) }
+    ensures law { IfOk result (λ moved. IsTrue moved → owner_of (hosts.now ++ more.now ∷ []) key.now ≡ Some (node_of more.now)) }
+    ensures smaller { OnOk result (table_fault hosts.now ≡ None) }
+    ensures larger { OnOk result (table_fault (hosts.now ++ more.now ∷ []) ≡ None) }
+    ensures refused { RefusesTables (table_fault hosts.now) (table_fault (hosts.now ++ more.now ∷ [])) result }
+{
+    let before = build_table(alloc, 1, hosts)?;
+    let both = larger_hosts(alloc, hosts, more)?;
+    let after = build_table(alloc, 1, both.as_slice())?;
+    Ok(has_moved(&before, &after, key))
+}

@@ -1,0 +1,11 @@
+// Points of the ring.
+use actor_names::Node;
+
+/// A point of a node on the ring.
+#[derive(Clone, Copy, Debug)]
+pub struct Point {
+    /// Where the point stands on the ring.
+    pub place: u64,
+    /// The node whose point it is.
+    pub node: Node,
+}

@@ -1,0 +1,135 @@
+// Placement tables.
+ghost use Rattle.std.specs.Prelude.{◌≡◌, ◌↔◌, ◌<◌, ◌≤◌, ℕ, List, [], length, false, IsNone, None, IfSome, IfOk, OnOk, Contains, IsPermutation, option_map, option_and_then};
+ghost use Rattle.std.specs.List.{list_any};
+ghost use Rattle.std.specs.Option.{option_copied};
+ghost use Rattle.place_table.specs.Hosts.{node_of, serves, ring_points, key_place, host_of, owner_of, table_owner, table_fault, types_fault, same_node_fault, BuildsTable};
+ghost use Rattle.place_table.specs.Ring.{IsOwner};
+ghost use Rattle.place_table.specs.Tables.{IsNodeSorted, IsTableKept};
+ghost use Rattle.place_table.specs.declared.point.Point.{Point};
+
+use crate::build::{all_places, all_rings};
+use crate::error::TableError;
+use crate::faults::table_fault;
+use crate::hash::key_hash;
+use crate::host::HostInfo;
+use crate::slots::{owner_slot, ring_slots};
+use crate::sort::sorted_hosts;
+use actor_names::{ActorKey, ActorType};
+use std::alloc::Global;
+use std::marker::Model;
+
+/// A point in 16 bytes: its place, and the number of its host in the table.
+#[derive(Clone, Copy)]
+pub(crate) struct Slot {
+    pub(crate) place: u64,
+    pub(crate) host: usize,
+}
+
+/// The points of one type.
+#[derive(Drop)]
+pub(crate) struct TypeRing {
+    pub(crate) kind: ActorType,
+    pub(crate) slots: Vec<Slot>,
+}
+
+/// The hosts of a cluster in byte order of node, at one version.
+#[derive(Drop)]
+pub struct Table {
+    version: u64,
+    hosts: Vec<HostInfo>,
+    rings: Vec<TypeRing>,
+}
+
+impl Model for Table {
+    ghost use Rattle.place_table.specs.Hosts.{PlacementTable};
+    ghost use Rattle.place_table.specs.Tables.{IsTableKept};
+
+    ghost Value = { PlacementTable };
+
+    ghost view = { λ a. record { version = a.version; hosts = a.hosts.items } };
+
+    ghost invariant = { λ a. IsTableKept a.hosts.items a.rings.items };
+}
+
+impl Table {
+    /// The table's version.
+    pub fn version(&self) -> u64
+        ensures { result ≡ self.now.version }
+    {
+        self.version
+    }
+
+    /// The hosts, in byte order of node.
+    pub fn hosts(&self) -> &[HostInfo]
+        ensures hosts { result.now ≡ self.now.hosts }
+        ensures order { IsNodeSorted self.now.hosts }
+    {
+        self.hosts.as_slice()
+    }
+
+    /// The host that owns the actor; None where no host serves the type. The actor's id is hashed once, only the
+    /// points of its type are looked at, and no memory is asked for.
+    pub fn owner(&self, key: &ActorKey) -> Option<&HostInfo>
+        ensures owner { option_copied result ≡ table_owner self.now key.now }
+        ensures node { option_map node_of (option_copied result) ≡ owner_of self.now.hosts key.now }
+        ensures point { IfSome result (λ h. (p : Point) × IsOwner (ring_points self.now.hosts key.now.kind) (key_place key.now.id) p × (p.node ≡ node_of h.now)) }
+        ensures among { IfSome result (λ h. Contains self.now.hosts h.now) }
+        ensures none { IsNone result ↔ (list_any (λ h. serves h key.now.kind) self.now.hosts ≡ false) }
+    {
+        owner_host(self.hosts.as_slice(), self.rings.as_slice(), key)
+    }
+}
+
+// The table of the hosts at the version.
+fn make_table(alloc: Global, version: u64, hosts: &[HostInfo]) -> Result<Table, TableError>
+    ensures version { IfOk result (λ t. t.version ≡ version) }
+    ensures hosts { IfOk result (λ t. IsPermutation hosts.now t.hosts) }
+    ensures order { IfOk result (λ t. IsNodeSorted t.hosts) }
+    ensures sound { OnOk result (table_fault hosts.now ≡ None) }
+    ensures refused { BuildsTable (table_fault hosts.now) result }
+{
+    match table_fault(hosts) {
+        Some(fault) => Err(fault),
+        None => {
+            let hosts = sorted_hosts(alloc, hosts)?;
+            let rows = all_places(alloc, hosts.as_slice())?;
+            let rings = all_rings(alloc, hosts.as_slice(), rows.as_slice())?;
+            Ok(Table {
+                version,
+                hosts,
+                rings,
+            })
+        }
+    }
+}
+
+/// The table of the hosts at the version, its hosts equal to the given ones and in byte order of node. A fault of
+/// the hosts is answered before memory is asked for; the points of each host are hashed once.
+pub fn build_table(alloc: Global, version: u64, hosts: &[HostInfo]) -> Result<Table, TableError>
+    ensures version { IfOk result (λ t. t.version ≡ version) }
+    ensures hosts { IfOk result (λ t. IsPermutation hosts.now t.hosts) }
+    ensures order { IfOk result (λ t. IsNodeSorted t.hosts) }
+    ensures sound { OnOk result (table_fault hosts.now ≡ None) }
+    ensures refused { BuildsTable (table_fault hosts.now) result }
+    ensures members { (n : ℕ) → (result ≡ Err (TableError.TooManyMembers n)) ↔ ((n ≡ length hosts.now) × (256 < n)) }
+    ensures types { (node : List ℕ) (n : ℕ) → (result ≡ Err (TableError.TooManyTypes node n)) ↔ ((length hosts.now ≤ 256) × (types_fault hosts.now ≡ Some (TableError.TooManyTypes node n))) }
+    ensures same { (name : List ℕ) → (result ≡ Err (TableError.SameNode name)) ↔ ((length hosts.now ≤ 256) × (types_fault hosts.now ≡ None) × (same_node_fault [] hosts.now ≡ Some (TableError.SameNode name))) }
+{
+    make_table(alloc, version, hosts)
+}
+
+// The host that owns the actor among those of a table.
+fn owner_host<'a>(hosts: &'a [HostInfo], rings: &[TypeRing], key: &ActorKey) -> Option<&'a HostInfo>
+    requires { IsTableKept hosts.now rings.now }
+    ensures owner { option_copied result ≡ option_and_then (host_of hosts.now) (owner_of hosts.now key.now) }
+    ensures node { option_map node_of (option_copied result) ≡ owner_of hosts.now key.now }
+    ensures point { IfSome result (λ h. (p : Point) × IsOwner (ring_points hosts.now key.now.kind) (key_place key.now.id) p × (p.node ≡ node_of h.now)) }
+    ensures among { IfSome result (λ h. Contains hosts.now h.now) }
+    ensures none { IsNone result ↔ (list_any (λ h. serves h key.now.kind) hosts.now ≡ false) }
+{
+    let slots = ring_slots(rings, &key.kind);
+    match owner_slot(hosts, slots, key_hash(&key.id)) {
+        None => None,
+        Some(slot) => Some(&hosts[slot.host]),
+    }
+}
