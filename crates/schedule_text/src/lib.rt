@@ -1,0 +1,14 @@
+// Schedules: the texts of moments, durations and repetitions, and when a schedule fires.
+//
+// Promise: a reader accepts exactly the texts of its form and names the first fault of any other; `advance` is
+// the definition of the firing moments. Stands on nothing.
+#![tactic(auto)]
+
+mod advance;
+mod calendar;
+mod error;
+mod moment;
+
+pub use advance::{Next, Period, Schedule, add_period};
+pub use error::ScheduleError;
+pub use moment::Moment;
