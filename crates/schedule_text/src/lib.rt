@@ -7,7 +7,10 @@
 mod advance;
 mod calendar;
 mod error;
+mod go_duration;
+mod iso_duration;
 mod moment;
+mod numbers;
 
 pub use advance::{Next, Period, Schedule, add_period};
 pub use error::ScheduleError;
