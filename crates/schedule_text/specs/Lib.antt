@@ -5,3 +5,5 @@ pub mod Numbers
 pub mod Reading
 pub mod GoDurations
 pub mod IsoDurations
+pub mod Moments
+pub mod Schedules

@@ -21,12 +21,12 @@ pub(crate) const DAY: u64 = 86_400_000_000_000;
 // The date of a day of the year that begins on 1 March of `year` - 10,000.
 fn date_in(year: u64, day: u64) -> Date
     requires since { 10_000 ≤ year }
-    requires until { year < 30_000 }
+    requires until { year < 19_999 }
     requires day { day < 366 }
     ensures date { result ≡ date_in year day }
     ensures month { (1 ≤ result.month) × (result.month ≤ 12) }
     ensures day { (1 ≤ result.day) × (result.day ≤ 31) }
-    ensures year { result.year < 30_000 }
+    ensures year { result.year < 10_000 }
 {
     let scaled = 5 * day + 461;
     let month = scaled / 153;
@@ -49,11 +49,11 @@ fn date_in(year: u64, day: u64) -> Date
 /// The date of a day, which is counted from 1970.
 #[tactic(auto, unfolding(crate::specs::Calendar::date_of))]
 pub(crate) fn date_of(day: u64) -> Date
-    requires { day < 3_000_000 }
+    requires { day < 2_932_532 }
     ensures date { result ≡ date_of day }
     ensures month { (1 ≤ result.month) × (result.month ≤ 12) }
     ensures day { (1 ≤ result.day) × (result.day ≤ 31) }
-    ensures year { result.year < 30_000 }
+    ensures year { result.year < 10_000 }
 {
     let scaled = 4 * (day + DAYS_TO_1970 - 60) + 3;
     let century = scaled / 146_097;
@@ -109,7 +109,7 @@ pub(crate) fn days_to(year: u64, month: u64, day: u64) -> u64
 // A date some months later, the day cut to the month's last.
 #[tactic(auto, unfolding(crate::specs::Calendar::date_after))]
 fn date_after(date: Date, months: u32) -> Date
-    requires year { date.year < 30_000 }
+    requires year { date.year < 10_000 }
     requires month { (1 ≤ date.month) × (date.month ≤ 12) }
     requires day { (1 ≤ date.day) × (date.day ≤ 31) }
     ensures date { result ≡ date_after date months }

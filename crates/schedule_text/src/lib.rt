@@ -10,8 +10,14 @@ mod error;
 mod go_duration;
 mod iso_duration;
 mod moment;
+mod moment_printing;
+mod moment_reading;
 mod numbers;
+mod reading;
 
 pub use advance::{Next, Period, Schedule, add_period};
 pub use error::ScheduleError;
 pub use moment::Moment;
+pub use moment_printing::print_moment;
+pub use moment_reading::read_moment;
+pub use reading::read_schedule;
