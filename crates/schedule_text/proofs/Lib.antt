@@ -1,2 +1,4 @@
 pub mod Jumps
 pub mod Walks
+pub mod Calendars
+mod Examples

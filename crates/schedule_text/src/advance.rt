@@ -15,7 +15,7 @@ pub struct Period {
 }
 
 /// When something fires.
-#[derive(Debug, PartialEq, Eq)]
+#[derive(Clone, Copy, Debug, PartialEq, Eq)]
 pub struct Schedule {
     /// The first moment; None where there is none at all.
     pub first: Option<Moment>,
@@ -28,7 +28,7 @@ pub struct Schedule {
 }
 
 /// What follows a firing.
-#[derive(Debug, PartialEq, Eq)]
+#[derive(Clone, Copy, Debug, PartialEq, Eq)]
 pub enum Next {
     /// The next firing, and how many are allowed from it on.
     At { moment: Moment, left: Option<u32> },
@@ -147,6 +147,13 @@ fn next_at(end: Option<Moment>, left: Option<u32>, next: Option<Moment>) -> Next
 }
 
 impl Schedule {
+    /// An equal schedule.
+    pub fn copy(&self) -> Schedule
+        ensures { result ≡ self.now }
+    {
+        *self
+    }
+
     /// What follows the firing of `moment` at `now`: the first moment after `now` of those that follow it by
     /// one period each, with one firing fewer left, however many moments were missed. It takes no memory.
     pub fn advance(&self, moment: Moment, now: Moment) -> Next

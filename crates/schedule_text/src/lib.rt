@@ -21,3 +21,6 @@ pub use moment::Moment;
 pub use moment_printing::print_moment;
 pub use moment_reading::read_moment;
 pub use reading::read_schedule;
+
+#[cfg(test)]
+mod tests;
