@@ -1,7 +1,8 @@
 // The printer of moments.
-ghost use Rattle.std.specs.Prelude.{◌≡◌, ◌≤◌, ◌<◌, ◌+◌, ◌/◌, ◌%◌, ◌∷◌, ◌++◌, [], IfOk, IfErr, OnOk, string_bytes};
+ghost use Rattle.std.specs.Prelude.{◌≡◌, ◌≤◌, ◌<◌, ◌+◌, ◌/◌, ◌%◌, ◌∷◌, ◌++◌, [], Ok, IfOk, IfErr, OnOk, string_bytes};
 ghost use Rattle.schedule_text.specs.declared.error.ScheduleError.TheVariants.{OutOfMemory};
-ghost use Rattle.schedule_text.specs.Moments.{two_digits, nine_digits, date_text, clock_text, subsecond_text, moment_text};
+ghost use Rattle.schedule_text.specs.Range.{end_of_time};
+ghost use Rattle.schedule_text.specs.Moments.{two_digits, nine_digits, date_text, clock_text, subsecond_text, moment_text, read_moment};
 
 use crate::calendar::{DAY, Date, date_of};
 use crate::error::ScheduleError;
@@ -81,11 +82,11 @@ fn push_subsecond(text: &mut String, nanos: u64) -> Result<(), ScheduleError>
     push_two(text, nanos % 100)
 }
 
-/// Prints a moment in UTC, as `YYYY-MM-DDThh:mm:ssZ`, with nine digits of nanoseconds where they aren't 0. Only
-/// want of memory is an error.
+// The text of a moment.
 #[tactic(auto, unfolding(crate::specs::Moments::moment_text))]
-pub fn print_moment(alloc: Global, moment: Moment) -> Result<String, ScheduleError>
+fn moment_string(alloc: Global, moment: Moment) -> Result<String, ScheduleError>
     ensures text { IfOk result (λ text. string_bytes text ≡ moment_text moment) }
+    ensures range { moment < end_of_time }
     ensures err { IfErr result (λ e. e ≡ OutOfMemory) }
 {
     let nanos = moment.nanos();
@@ -97,4 +98,18 @@ pub fn print_moment(alloc: Global, moment: Moment) -> Result<String, ScheduleErr
     push_subsecond(&mut text, in_day % 1_000_000_000)?;
     text.push('Z')?;
     Ok(text)
+}
+
+/// Prints a moment in UTC, as `YYYY-MM-DDThh:mm:ssZ`, with nine digits of nanoseconds where they aren't 0. Only
+/// want of memory is an error.
+pub fn print_moment(alloc: Global, moment: Moment) -> Result<String, ScheduleError>
+    ensures text { IfOk result (λ text. string_bytes text ≡ moment_text moment) }
+    // Reading it again gives the moment.
+    ensures reads_back { IfOk result (λ text. read_moment (string_bytes text) ≡ Ok moment) }
+    ensures err { IfErr result (λ e. e ≡ OutOfMemory) }
+{
+    match moment_string(alloc, moment) {
+        Err(error) => Err(error),
+        Ok(text) => Ok(text),
+    }
 }

@@ -208,8 +208,8 @@ fn schedule_ends_at_last_moment(rt: HostRuntime) -> Result<(), ScheduleError> {
     assert_eq!(rt; endless.advance(last, last), Next::OutOfRange);
     let ended = read_schedule("", "1s", "1ns", last)?;
     assert_eq!(rt; ended.advance(last, last), Next::Done);
-    let once = read_schedule("", "R1/PT1S", "", at(0)?)?;
-    assert_eq!(rt; once.advance(at(0)?, at(0)?), Next::Done);
+    let once = read_schedule("", "R1/PT1S", "", last)?;
+    assert_eq!(rt; once.advance(last, last), Next::Done);
     Ok(())
 }
 
