@@ -1,8 +1,7 @@
 -- Worked examples of the definitions.
-use Rattle.std.proofs.Common.{◌≡◌, ℕ, ◌+◌, ◌*◌, Option, Some, None, refl}
+use Rattle.std.proofs.Common.{◌≡◌, Some, None, refl}
 use Rattle.std.specs.Prelude.{codes, Ok, Err}
-use Rattle.schedule_text.specs.declared.error.ScheduleError.TheVariants.{BadMoment, BadDuration, Negative, ZeroRepeats, OutOfRange}
-use Rattle.schedule_text.specs.declared.advance.Period.{Period}
+use Rattle.schedule_text.specs.declared.error.ScheduleError.TheVariants.{BadMoment, BadDuration, Negative, ZeroRepeats}
 use Rattle.schedule_text.specs.declared.advance.Schedule.{Schedule}
 use Rattle.schedule_text.specs.declared.advance.Next.TheVariants as next
 use Rattle.schedule_text.specs.Calendar.{date_of, date_after, days_to, months_on}

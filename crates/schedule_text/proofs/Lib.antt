@@ -2,4 +2,5 @@ pub mod Jumps
 pub mod Walks
 pub mod Calendars
 pub mod RoundTrips
+pub mod Progress
 mod Examples

@@ -1,16 +1,16 @@
 -- What is printed of a moment reads as that moment.
-use Rattle.std.proofs.Common.{◌≡◌, ℕ, zero, suc, ◌+◌, ◌-◌, ◌*◌, ◌/◌, ◌%◌, ◌<◌, ◌≤◌, ◌&&◌, nat_le, nat_lt, Bool, true, false, inl, inr, List, [], ◌∷◌, ◌++◌, length, arith, refl, ap, sym, ◌∙◌, pos, Some, None, Result, Ok, Err, if◌then◌else◌, ◌==◌, eq-eqb}
+use Rattle.std.proofs.Common.{◌≡◌, ℕ, ◌+◌, ◌-◌, ◌*◌, ◌/◌, ◌%◌, ◌<◌, ◌≤◌, true, false, inl, inr, List, [], ◌∷◌, ◌++◌, arith, refl, ap, ◌∙◌, pos, Result, Ok, ◌==◌}
 use Rattle.std.proofs.lemmas.Bool.{le-leb, lt-ltb, le-ltb, cases_lt, ne_eqb}
 use Rattle.std.specs.Int.{IsInRange}
-use Rattle.jiff_core.specs.Calendar.{days_in_month, IsCivilDate}
+use Rattle.jiff_core.specs.Calendar.{days_in_month}
 use Rattle.jiff_core.proofs.CalendarLemmas.{days_in_month_bounds}
 use Rattle.schedule_text.specs.declared.calendar.Date.{Date}
-use Rattle.schedule_text.specs.Range.{end_of_time, moment_of}
+use Rattle.schedule_text.specs.Range.{end_of_time}
 use Rattle.schedule_text.specs.Calendar.{days_to_1970, day_nanos, days_to, date_of}
 use Rattle.jiff_core.proofs.SignedLemmas.{signed_arith}
 use Rattle.schedule_text.specs.Numbers.{is_digit, begins_with_digit, billionths_from, behind_billionths, first_weight, billionth}
-use Rattle.schedule_text.specs.Moments.{two_at, either_at, year_at, date_at, minutes_at, clock_at, subsecond_at, zone_at, offset_at, utc_seconds, instant_at, moment_at, read_moment, two_digits, nine_digits, date_text, clock_text, subsecond_text, moment_text}
-use Rattle.schedule_text.proofs.Calendars.{IsDateOf, date_of-date}
+use Rattle.schedule_text.specs.Moments.{two_at, year_at, date_at, minutes_at, clock_at, subsecond_at, instant_at, moment_at, read_moment, two_digits, nine_digits, date_text, clock_text, subsecond_text, moment_text}
+use Rattle.schedule_text.proofs.Calendars.{date_of-date}
 
 digit : (d : ℕ) → d ≤ 9 → is_digit (48 + d) ≡ true
 digit d low = rw (le-leb 48 (48 + d) (omega arith), le-leb (48 + d) 57 (omega arith)) refl

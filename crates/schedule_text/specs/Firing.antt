@@ -1,5 +1,5 @@
 -- When a schedule fires. Own; the months follow the calendar of ISO 8601.
-use Rattle.std.specs.Prelude.{ℕ, zero, suc, ◌+◌, ◌-◌, Bool, true, false, ◌&&◌, ◌==◌, nat_lt, nat_le, if◌then◌else◌, Option, None, Some, option_map}
+use Rattle.std.specs.Prelude.{◌≡◌, ℕ, zero, suc, ◌+◌, ◌-◌, ◌<◌, ◌≤◌, Bool, true, false, ◌&&◌, ◌==◌, nat_lt, nat_le, if◌then◌else◌, Option, None, Some, option_map}
 use Rattle.schedule_text.specs.declared.advance.Period.{Period}
 use Rattle.schedule_text.specs.declared.advance.Schedule.{Schedule}
 use Rattle.schedule_text.specs.declared.advance.Next.{Next}
@@ -60,3 +60,13 @@ next_by (Some period) schedule moment now =
 -- what follows the firing of `moment` at `now`
 abbrev pub next_firing : Schedule → ℕ → ℕ → Next
 next_firing schedule moment now = next_by schedule.period schedule moment now
+
+-- r is the first moment after now of those that follow a moment by one period each
+pub data FiresAt (period : Period) (now : ℕ) : ℕ → ℕ → Type 0 where
+  Following : (moment next : ℕ) → add_period moment period ≡ Some next → now < next → FiresAt period now moment next
+  Missed : (moment missed r : ℕ) → add_period moment period ≡ Some missed → missed ≤ now → FiresAt period now missed r → FiresAt period now moment r
+
+-- no such moment is there: one that follows would be past the last moment, and those before it are missed ones
+pub data FiringEnds (period : Period) (now : ℕ) : ℕ → Type 0 where
+  Past : (moment : ℕ) → add_period moment period ≡ None → FiringEnds period now moment
+  Skipped : (moment missed : ℕ) → add_period moment period ≡ Some missed → missed ≤ now → FiringEnds period now missed → FiringEnds period now moment

@@ -9,6 +9,7 @@ mod calendar;
 mod error;
 mod go_duration;
 mod iso_duration;
+mod law;
 mod moment;
 mod moment_printing;
 mod moment_reading;
@@ -17,6 +18,7 @@ mod reading;
 
 pub use advance::{Next, Period, Schedule, add_period};
 pub use error::ScheduleError;
+pub use law::{calendar_law, firing_law};
 pub use moment::Moment;
 pub use moment_printing::print_moment;
 pub use moment_reading::read_moment;

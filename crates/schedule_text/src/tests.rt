@@ -201,16 +201,19 @@ fn schedule_cuts_day_to_month_end(rt: HostRuntime) -> Result<(), ScheduleError> 
     Ok(())
 }
 
-#[test]
-fn schedule_ends_at_last_moment(rt: HostRuntime) -> Result<(), ScheduleError> {
+// What follows a firing a second before the end of time, at that very moment.
+fn after_last(period: &str, ttl: &str) -> Result<Next, ScheduleError> {
     let last = read_moment("9998-12-31T23:59:59Z")?;
-    let endless = read_schedule("", "1s", "", last)?;
-    assert_eq!(rt; endless.advance(last, last), Next::OutOfRange);
-    let ended = read_schedule("", "1s", "1ns", last)?;
-    assert_eq!(rt; ended.advance(last, last), Next::Done);
-    let once = read_schedule("", "R1/PT1S", "", last)?;
-    assert_eq!(rt; once.advance(last, last), Next::Done);
-    Ok(())
+    let schedule = read_schedule("", period, ttl, last)?;
+    Ok(schedule.advance(last, last))
+}
+
+#[test]
+fn schedule_ends_at_last_moment(rt: HostRuntime) {
+    assert_eq!(rt; after_last("1s", ""), Ok(Next::OutOfRange));
+    assert_eq!(rt; after_last("1s", "1ns"), Ok(Next::Done));
+    assert_eq!(rt; after_last("R1/PT1S", ""), Ok(Next::Done));
+    assert_eq!(rt; after_last("", ""), Ok(Next::Done));
 }
 
 #[test]
