@@ -1,0 +1,72 @@
+-- When a schedule fires. Own; the months follow the calendar of ISO 8601.
+use Rattle.std.specs.Prelude.{◌≡◌, ℕ, zero, suc, ◌+◌, ◌-◌, ◌<◌, ◌≤◌, Bool, true, false, ◌&&◌, ◌==◌, nat_lt, nat_le, if◌then◌else◌, Option, None, Some, option_map}
+use Rattle.schedule_text.specs.declared.advance.Period.{Period}
+use Rattle.schedule_text.specs.declared.advance.Schedule.{Schedule}
+use Rattle.schedule_text.specs.declared.advance.Next.{Next}
+use Rattle.schedule_text.specs.declared.advance.Next.TheVariants.{At, Done, OutOfRange}
+use Rattle.schedule_text.specs.Calendar.{months_on}
+use Rattle.schedule_text.specs.Range.{moment_of}
+
+-- nanoseconds since 1970 a period later, which may be past the last moment: months, then nanoseconds
+unfoldable pub sum_of : ℕ → Period → ℕ
+sum_of moment period = (if period.months == 0 then moment else months_on moment period.months) + period.nanos
+
+-- the moment a period later, where it is one
+unfoldable pub add_period : ℕ → Period → Option ℕ
+add_period moment period = moment_of (sum_of moment period)
+
+-- The first moment after `now` of those that follow `moment` by one period each, where each is a moment. It is at
+-- most `most` periods away.
+unfoldable pub first_after : ℕ → Period → ℕ → ℕ → Option ℕ
+first_after zero period now moment = None
+first_after (suc most) period now moment =
+    elim (add_period moment period) [
+      | None ↦ None
+      | Some next ↦ elim (nat_lt now next) [ true ↦ Some next | false ↦ first_after most period now next ]
+    ]
+
+-- a period is a nanosecond at least, so no more periods than nanoseconds lie before now
+abbrev pub following : Period → ℕ → ℕ → Option ℕ
+following period moment now = first_after (suc (now - moment)) period now moment
+
+-- no moment at all is at or after this end
+abbrev pub is_before_end : ℕ → Option ℕ → Bool
+is_before_end moment None = true
+is_before_end moment (Some end) = nat_lt moment end
+
+-- the answer at the moment that follows; past the last moment is at or after every end
+abbrev pub next_at : Option ℕ → Option ℕ → Option ℕ → Next
+next_at None left None = OutOfRange
+next_at (Some end) left None = Done
+next_at end left (Some moment) = if is_before_end moment end then At moment (option_map (λ n. n - 1) left) else Done
+
+-- a period of zero length
+abbrev pub is_zero : Period → Bool
+is_zero period = (period.months == 0) && (period.nanos == 0)
+
+-- one firing left, or none
+abbrev pub is_last : Option ℕ → Bool
+is_last None = false
+is_last (Some left) = nat_le left 1
+
+-- the firings that are left and the moments that follow, by the period
+abbrev pub next_by : Option Period → Schedule → ℕ → ℕ → Next
+next_by None schedule moment now = Done
+next_by (Some period) schedule moment now =
+    if is_zero period then Done else (
+    if is_last schedule.left then Done else
+    next_at schedule.«end» schedule.left (following period moment now))
+
+-- what follows the firing of `moment` at `now`
+abbrev pub next_firing : Schedule → ℕ → ℕ → Next
+next_firing schedule moment now = next_by schedule.period schedule moment now
+
+-- r is the first moment after now of those that follow a moment by one period each
+pub data FiresAt (period : Period) (now : ℕ) : ℕ → ℕ → Type 0 where
+  Following : (moment next : ℕ) → add_period moment period ≡ Some next → now < next → FiresAt period now moment next
+  Missed : (moment missed r : ℕ) → add_period moment period ≡ Some missed → missed ≤ now → FiresAt period now missed r → FiresAt period now moment r
+
+-- no such moment is there: one that follows would be past the last moment, and those before it are missed ones
+pub data FiringEnds (period : Period) (now : ℕ) : ℕ → Type 0 where
+  Past : (moment : ℕ) → add_period moment period ≡ None → FiringEnds period now moment
+  Skipped : (moment missed : ℕ) → add_period moment period ≡ Some missed → missed ≤ now → FiringEnds period now missed → FiringEnds period now moment

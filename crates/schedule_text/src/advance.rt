@@ -1,0 +1,176 @@
+// What follows a firing.
+ghost use Rattle.std.specs.Prelude.{◌≡◌, ◌<◌, ◌-◌, false, option_map};
+ghost use Rattle.schedule_text.specs.Firing.{add_period, following, next_firing, next_at, is_zero, is_last, is_before_end};
+
+use crate::calendar::months_on;
+use crate::moment::{END_OF_TIME, Moment};
+
+/// The time from one firing to the next: months of the calendar, then nanoseconds.
+#[derive(Clone, Copy, Debug, PartialEq, Eq)]
+pub struct Period {
+    /// Months; the day is cut to the month's last.
+    pub months: u32,
+    /// Nanoseconds, which are added after the months.
+    pub nanos: u64,
+}
+
+/// When something fires.
+#[derive(Clone, Copy, Debug, PartialEq, Eq)]
+pub struct Schedule {
+    /// The first moment; None where there is none at all.
+    pub first: Option<Moment>,
+    /// The time from one firing to the next; without it there is one firing.
+    pub period: Option<Period>,
+    /// How many firings are still allowed; without it any number is.
+    pub left: Option<u32>,
+    /// The moment at which, and after which, nothing fires.
+    pub end: Option<Moment>,
+}
+
+/// What follows a firing.
+#[derive(Clone, Copy, Debug, PartialEq, Eq)]
+pub enum Next {
+    /// The next firing, and how many are allowed from it on.
+    At { moment: Moment, left: Option<u32> },
+    /// There is none: no period, or the last firing was allowed, or the end is met.
+    Done,
+    /// The next moment would be past the last one, and no end forbids it.
+    OutOfRange,
+}
+
+/// The moment a period later: the months are added to the UTC date, the day cut to the month's last, and then
+/// the nanoseconds. None past the last moment.
+#[tactic(auto, unfolding(crate::specs::Firing::add_period, crate::specs::Firing::sum_of))]
+pub fn add_period(moment: Moment, period: &Period) -> Option<Moment>
+    ensures { result ≡ add_period moment period.now }
+{
+    let nanos = moment.nanos();
+    let on = if period.months == 0 {
+        nanos
+    } else {
+        months_on(nanos, period.months)
+    };
+    Moment::from_nanos(on + period.nanos as u128)
+}
+
+// The first moment after now, where a period has no months: all that were missed are passed at once.
+fn jump(moment: Moment, period: &Period, now: Moment) -> Option<Moment>
+    requires months { period.now.months ≡ 0 }
+    requires nanos { 0 < period.now.nanos }
+    ensures { result ≡ following period.now moment now }
+{
+    let start = moment.nanos();
+    let nanos = period.nanos as u128;
+    let gap = now.nanos().saturating_sub(start);
+    let passed = gap % nanos;
+    Moment::from_nanos(start + (gap - passed + nanos))
+}
+
+// The same where it has months: each moment from the one before, since the day stays cut.
+fn walk(moment: Moment, period: &Period, now: Moment) -> Option<Moment>
+    ensures { result ≡ following period.now moment now }
+{
+    let until = now.nanos();
+    let mut at = moment;
+    let mut most = until.saturating_sub(moment.nanos()) + 1;
+    while most > 0 {
+        let next = add_period(at, period)?;
+        if next.nanos() > until {
+            return Some(next);
+        }
+        at = next;
+        most -= 1;
+    }
+    None
+}
+
+// The first moment after now of those that follow.
+fn following(moment: Moment, period: &Period, now: Moment) -> Option<Moment>
+    requires { is_zero period.now ≡ false }
+    ensures { result ≡ following period.now moment now }
+{
+    if period.months == 0 {
+        jump(moment, period, now)
+    } else {
+        walk(moment, period, now)
+    }
+}
+
+// Whether at most one firing is left.
+fn is_last(left: Option<u32>) -> bool
+    ensures { result ≡ is_last left }
+{
+    match left {
+        None => false,
+        Some(left) => left <= 1,
+    }
+}
+
+// Whether a moment is before the end, where there is one.
+fn is_before_end(moment: Moment, end: Option<Moment>) -> bool
+    ensures { result ≡ is_before_end moment end }
+{
+    match end {
+        None => true,
+        Some(end) => moment.nanos() < end.nanos(),
+    }
+}
+
+// One firing fewer is left.
+fn one_fewer(left: Option<u32>) -> Option<u32>
+    ensures { result ≡ option_map (λ n. n - 1) left }
+{
+    match left {
+        None => None,
+        Some(left) => Some(left.saturating_sub(1)),
+    }
+}
+
+// The answer at the moment that follows, where there is one.
+fn next_at(end: Option<Moment>, left: Option<u32>, next: Option<Moment>) -> Next
+    ensures { result ≡ next_at end left next }
+{
+    match next {
+        None => match end {
+            None => Next::OutOfRange,
+            Some(_) => Next::Done,
+        },
+        Some(moment) => {
+            if is_before_end(moment, end) {
+                let left = one_fewer(left);
+                Next::At { moment, left }
+            } else {
+                Next::Done
+            }
+        }
+    }
+}
+
+impl Schedule {
+    /// An equal schedule.
+    pub fn copy(&self) -> Schedule
+        ensures { result ≡ self.now }
+    {
+        *self
+    }
+
+    /// What follows the firing of `moment` at `now`: the first moment after `now` of those that follow it by
+    /// one period each, with one firing fewer left, however many moments were missed. It takes no memory.
+    pub fn advance(&self, moment: Moment, now: Moment) -> Next
+        ensures { result ≡ next_firing self.now moment now }
+    {
+        match self.period {
+            None => Next::Done,
+            Some(period) => {
+                if period.months == 0 && period.nanos == 0 {
+                    return Next::Done;
+                }
+                if is_last(self.left) {
+                    return Next::Done;
+                }
+                let next = following(moment, &period, now);
+                next_at(self.end, self.left, next)
+            }
+        }
+    }
+}

@@ -1,0 +1,38 @@
+// Why a text is no schedule.
+use std::alloc::AllocError;
+use thiserror::Error;
+
+/// Why a text is no moment or no schedule, in the order in which the faults of one text are found. Places count
+/// bytes from 0; a text that ends too early has its fault at its length.
+#[derive(Clone, Copy, Debug, PartialEq, Eq, Error)]
+pub enum ScheduleError {
+    /// No moment has the byte at `at` there, or the field that begins at `at` is out of its range.
+    #[error("a bad moment at {at}")]
+    BadMoment { at: u64 },
+    /// No duration or period has the byte at `at` there.
+    #[error("a bad duration at {at}")]
+    BadDuration { at: u64 },
+    /// A duration is below 0.
+    #[error("a negative duration")]
+    Negative,
+    /// A period has 0 repetitions.
+    #[error("zero repetitions")]
+    ZeroRepeats,
+    /// A moment, a duration, a count or a sum is out of its range.
+    #[error("out of range")]
+    OutOfRange,
+    /// There was no memory for the answer.
+    #[error("out of memory")]
+    OutOfMemory,
+}
+
+impl From<AllocError> for ScheduleError {
+    ghost use Rattle.schedule_text.specs.declared.error.ScheduleError.TheVariants.{OutOfMemory};
+    ghost use Rattle.std.specs.Prelude.{◌≡◌};
+
+    ghost from_gives = { λ _ e. e ≡ OutOfMemory };
+
+    fn from(_: AllocError) -> ScheduleError {
+        ScheduleError::OutOfMemory
+    }
+}

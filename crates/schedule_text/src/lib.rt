@@ -1,0 +1,28 @@
+// Schedules: the texts of moments, durations and repetitions, and when a schedule fires.
+//
+// Promise: a reader accepts exactly the texts of its form and names the first fault of any other; `advance` is
+// the definition of the firing moments. Stands on nothing.
+#![tactic(auto)]
+
+mod advance;
+mod calendar;
+mod error;
+mod go_duration;
+mod iso_duration;
+mod law;
+mod moment;
+mod moment_printing;
+mod moment_reading;
+mod numbers;
+mod reading;
+
+pub use advance::{Next, Period, Schedule, add_period};
+pub use error::ScheduleError;
+pub use law::{calendar_law, firing_law};
+pub use moment::Moment;
+pub use moment_printing::print_moment;
+pub use moment_reading::read_moment;
+pub use reading::read_schedule;
+
+#[cfg(test)]
+mod tests;

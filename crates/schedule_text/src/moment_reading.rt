@@ -1,0 +1,220 @@
+// The reader of moments.
+ghost use Rattle.std.specs.Prelude.{◌≡◌, ◌≤◌, ◌<◌, IfOk};
+ghost use Rattle.schedule_text.specs.Numbers.{billionth};
+ghost use Rattle.schedule_text.specs.Reading.{Gives};
+ghost use Rattle.schedule_text.specs.Moments.{two_at, either_at, year_at, date_at, minutes_at, clock_at, subsecond_at, ending, offset_at, zone_at, utc_seconds, instant_at, moment_at, read_moment};
+
+use crate::calendar::{DAYS_TO_1970, Date, days_in, days_to};
+use crate::error::ScheduleError;
+use crate::iso_duration::begins_with;
+use crate::moment::Moment;
+use crate::numbers::{begins_with_digit, billionths_at};
+
+// A number and what stands behind it, or how many bytes are left where it fails.
+type Number<'a> = Result<(u64, &'a [u8]), usize>;
+
+// A number of two digits from `low` to `high`.
+fn two_at(low: u64, high: u64, text: &[u8]) -> Number<'_>
+    ensures reading { Gives (λ x. (x.0, x.1.now)) result (two_at low high text.now) }
+    ensures range { IfOk result (λ x. (low ≤ x.0) × (x.0 ≤ high)) }
+{
+    if text.is_empty() {
+        return Err(0);
+    }
+    let tens = text[0];
+    if !tens.is_ascii_digit() || (tens - b'0') as u64 > high / 10 {
+        return Err(text.len());
+    }
+    let behind = &text[1..];
+    if behind.is_empty() {
+        return Err(0);
+    }
+    let ones = behind[0];
+    if !ones.is_ascii_digit() {
+        return Err(behind.len());
+    }
+    let number = (tens - b'0') as u64 * 10 + (ones - b'0') as u64;
+    if number < low || number > high {
+        return Err(text.len());
+    }
+    Ok((number, &behind[1..]))
+}
+
+// One of two bytes.
+fn either_at(byte: u8, other: u8, text: &[u8]) -> Result<&[u8], usize>
+    ensures { Gives (λ x. x.now) result (either_at byte other text.now) }
+{
+    if begins_with(byte, text) || begins_with(other, text) {
+        return Ok(&text[1..]);
+    }
+    Err(text.len())
+}
+
+// A year of four digits.
+#[tactic(auto, unfolding(crate::specs::Moments::year_at))]
+fn year_at(text: &[u8]) -> Number<'_>
+    ensures reading { Gives (λ x. (x.0, x.1.now)) result (year_at text.now) }
+    ensures range { IfOk result (λ x. x.0 ≤ 9999) }
+{
+    let (century, behind) = two_at(0, 99, text)?;
+    let (year, behind) = two_at(0, 99, behind)?;
+    Ok((century * 100 + year, behind))
+}
+
+// A date that the calendar has.
+#[tactic(auto, unfolding(crate::specs::Moments::date_at))]
+fn date_at(text: &[u8]) -> Result<(Date, &[u8]), usize>
+    ensures reading { Gives (λ x. (x.0, x.1.now)) result (date_at text.now) }
+    ensures year { IfOk result (λ x. x.0.year ≤ 9999) }
+    ensures month { IfOk result (λ x. (1 ≤ x.0.month) × (x.0.month ≤ 12)) }
+    ensures day { IfOk result (λ x. (1 ≤ x.0.day) × (x.0.day ≤ 31)) }
+{
+    let (year, behind) = year_at(text)?;
+    let behind = either_at(b'-', b'-', behind)?;
+    let (month, behind) = two_at(1, 12, behind)?;
+    let behind = either_at(b'-', b'-', behind)?;
+    let (day, behind) = two_at(1, days_in(year, month), behind)?;
+    Ok((Date { year, month, day }, behind))
+}
+
+// Hours and minutes, as seconds.
+#[tactic(auto, unfolding(crate::specs::Moments::minutes_at))]
+fn minutes_at(text: &[u8]) -> Number<'_>
+    ensures reading { Gives (λ x. (x.0, x.1.now)) result (minutes_at text.now) }
+    ensures range { IfOk result (λ x. x.0 ≤ 86_340) }
+{
+    let (hour, behind) = two_at(0, 23, text)?;
+    let behind = either_at(b':', b':', behind)?;
+    let (minute, behind) = two_at(0, 59, behind)?;
+    Ok((hour * 3600 + minute * 60, behind))
+}
+
+// A time of the day, as seconds.
+#[tactic(auto, unfolding(crate::specs::Moments::clock_at))]
+fn clock_at(text: &[u8]) -> Number<'_>
+    ensures reading { Gives (λ x. (x.0, x.1.now)) result (clock_at text.now) }
+    ensures range { IfOk result (λ x. x.0 < 86_400) }
+{
+    let (minutes, behind) = minutes_at(text)?;
+    let behind = either_at(b':', b':', behind)?;
+    let (second, behind) = two_at(0, 59, behind)?;
+    Ok((minutes + second, behind))
+}
+
+// The fraction of a second in nanoseconds.
+fn subsecond_at(text: &[u8]) -> Number<'_>
+    ensures reading { Gives (λ x. (x.0, x.1.now)) result (subsecond_at text.now) }
+    ensures range { IfOk result (λ x. x.0 ≤ billionth) }
+{
+    if !begins_with(b'.', text) {
+        return Ok((0, text));
+    }
+    let behind = &text[1..];
+    if !begins_with_digit(behind) {
+        return Err(behind.len());
+    }
+    Ok(billionths_at(behind))
+}
+
+// An offset: whether it is behind UTC, and its seconds.
+type Zone = (bool, u64);
+
+// An offset up to the text's end.
+#[tactic(auto, unfolding(crate::specs::Moments::offset_at))]
+fn offset_at(is_behind: bool, text: &[u8]) -> Result<Zone, usize>
+    ensures reading { result ≡ offset_at is_behind text.now }
+    ensures range { IfOk result (λ x. x.1 ≤ 86_340) }
+{
+    let (seconds, behind) = minutes_at(text)?;
+    if !behind.is_empty() {
+        return Err(behind.len());
+    }
+    Ok((is_behind, seconds))
+}
+
+// `Z`, or a sign and an offset.
+fn zone_at(text: &[u8]) -> Result<Zone, usize>
+    ensures reading { result ≡ zone_at text.now }
+    ensures range { IfOk result (λ x. x.1 ≤ 86_340) }
+{
+    if begins_with(b'Z', text) || begins_with(b'z', text) {
+        if text.len() > 1 {
+            return Err(text.len() - 1);
+        }
+        return Ok((false, 0));
+    }
+    if begins_with(b'+', text) {
+        return offset_at(false, &text[1..]);
+    }
+    if begins_with(b'-', text) {
+        return offset_at(true, &text[1..]);
+    }
+    Err(text.len())
+}
+
+// The seconds of UTC, by those that a clock shows.
+fn utc_seconds(local: u64, zone: Zone) -> u64
+    requires local { local < 20_000_000_000_000_000 }
+    requires zone { zone.1 ≤ 86_340 }
+    ensures seconds { result ≡ utc_seconds local zone }
+    ensures bound { result < 20_000_000_000_100_000 }
+{
+    let (is_behind, seconds) = zone;
+    if is_behind {
+        local + seconds
+    } else {
+        local.saturating_sub(seconds)
+    }
+}
+
+// The seconds from the first day of the year -10000, and the nanoseconds.
+#[tactic(auto, unfolding(crate::specs::Moments::instant_at))]
+fn instant_at(text: &[u8]) -> Result<(u64, u64), usize>
+    ensures reading { result ≡ instant_at text.now }
+    ensures seconds { IfOk result (λ x. x.0 < 20_000_000_000_100_000) }
+    ensures nanos { IfOk result (λ x. x.1 ≤ billionth) }
+{
+    let (date, behind) = date_at(text)?;
+    let behind = either_at(b'T', b't', behind)?;
+    let (clock, behind) = clock_at(behind)?;
+    let (nanos, behind) = subsecond_at(behind)?;
+    let zone = zone_at(behind)?;
+    let days = days_to(date.year, date.month, date.day);
+    Ok((utc_seconds(days * 86_400 + clock, zone), nanos))
+}
+
+// The moment of an instant, where it is one.
+fn moment_at(seconds: u64, nanos: u64) -> Result<Moment, ScheduleError>
+    ensures { result ≡ moment_at (seconds, nanos) }
+{
+    if seconds < DAYS_TO_1970 * 86_400 {
+        return Err(ScheduleError::OutOfRange);
+    }
+    let since = (seconds - DAYS_TO_1970 * 86_400) as u128;
+    match Moment::from_nanos(since * 1_000_000_000 + nanos as u128) {
+        None => Err(ScheduleError::OutOfRange),
+        Some(moment) => Ok(moment),
+    }
+}
+
+/// Reads a moment: `YYYY-MM-DDThh:mm:ss`, at most nine digits of a fraction, and `Z` or an offset up to 23:59,
+/// as RFC 3339 writes it. A leap second is refused; a moment before 1970 or from 9999 on is `OutOfRange`.
+#[tactic(auto, unfolding(crate::specs::Moments::read_moment))]
+pub fn read_moment(text: &str) -> Result<Moment, ScheduleError>
+    ensures { result ≡ read_moment text.now }
+{
+    moment_in(text.as_bytes())
+}
+
+/// The same of bytes.
+#[tactic(auto, unfolding(crate::specs::Moments::read_moment))]
+pub(crate) fn moment_in(text: &[u8]) -> Result<Moment, ScheduleError>
+    ensures { result ≡ read_moment text.now }
+{
+    match instant_at(text) {
+        Err(left) => Err(ScheduleError::BadMoment {
+            at: text.len().saturating_sub(left) as u64,
+        }),
+        Ok((seconds, nanos)) => moment_at(seconds, nanos),
+    }
+}
