@@ -2,6 +2,8 @@
 ghost use Rattle.std.specs.Prelude.{◌≡◌, ◌<◌, ◌∷◌, length, IfSome, IfNone};
 ghost use Rattle.actors_top.specs.Lines.{IsFirstByte, LacksByte, lines_of};
 
+use memchr::memchr;
+
 const LINE_FEED: u8 = 10;
 
 /// The place, from 0, of the first such byte.
@@ -9,12 +11,7 @@ pub(crate) fn find_byte(text: &[u8], byte: u8) -> Option<usize>
     ensures found { IfSome result (λ i. IsFirstByte byte text.now i) }
     ensures missing { IfNone result (LacksByte byte text.now) }
 {
-    for (i, b) in text.iter().enumerate() {
-        if *b == byte {
-            return Some(i);
-        }
-    }
-    None
+    memchr(byte, text)
 }
 
 /// The first line of a text that isn't empty, and what stands behind its line feed.
