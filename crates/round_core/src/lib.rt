@@ -24,3 +24,6 @@ pub use phase::RoundPhase;
 pub use place_table::AckStage;
 pub use placement::Placement;
 pub use record::{MemberList, PlacementRecord};
+
+#[cfg(test)]
+mod tests;
