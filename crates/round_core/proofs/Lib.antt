@@ -1,6 +1,7 @@
 mod Ascending
 mod Boots
 mod Backed
+mod Durable
 mod Giving
 mod Lateness
 mod Places

@@ -1,8 +1,8 @@
 // The placement: one step at a time, with the record of each.
-ghost use Rattle.std.specs.Prelude.{◌≡◌, ◌==◌, ◌||◌, ◌+◌, ◌≤◌, not, nat_lt, is_some, false, [], Some, None, OnOk, OnErr, ℕ, length, option_map};
+ghost use Rattle.std.specs.Prelude.{◌≡◌, ◌↔◌, ◌==◌, ◌||◌, ◌+◌, ◌≤◌, not, nat_lt, is_some, false, [], Some, None, OnOk, OnErr, ℕ, length, option_map};
 ghost use Rattle.std.specs.Option.{option_copied};
 ghost use Rattle.round_core.specs.Members.{hosts_of, of_node};
-ghost use Rattle.round_core.specs.Placement.{placement_restarted, new_placement, last_version, settle_round, is_full, with_joined};
+ghost use Rattle.round_core.specs.Placement.{placement_restarted, new_placement, last_version, settle_round, is_full, with_joined, SameDurableState};
 ghost use Rattle.round_core.specs.Places.{Ascends, host_node};
 ghost use Rattle.round_core.specs.Records.{record_of, restart_record};
 ghost use Rattle.round_core.specs.Rooms.{with_state, Gives, GivesInMemory, GivesStep};
@@ -239,9 +239,11 @@ impl Placement {
     }
 
     /// One step of the placement at the moment `now`, in milliseconds since 1970. A refused event changes nothing;
-    /// only a Register may want memory.
+    /// only a Register may want memory. There is no record exactly where next version, greatest boots and the
+    /// members' hosts are as before.
     pub fn step(&mut self, event: PlaceEvent, now: u64) -> PlaceReply
-        ensures { GivesStep event now result self.old self.new }
+        ensures gives { GivesStep event now result self.old self.new }
+        ensures durable { self.new.recent ≡ None ↔ SameDurableState self.old.state self.new.state }
     {
         match event {
             PlaceEvent::Register { host } => self.register(host, now),
