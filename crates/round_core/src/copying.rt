@@ -64,8 +64,6 @@ pub(crate) fn copy_marks(
     ensures room { IfOk result (λ v. room ≤ vec_capacity v) }
 {
     let mut items = Vec::with_capacity(alloc, room)?;
-    for mark in marks.iter() {
-        items.push(*mark)?;
-    }
+    items.extend_from_slice(marks)?;
     Ok(items)
 }
