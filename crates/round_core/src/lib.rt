@@ -6,6 +6,7 @@
 
 mod book;
 mod copies;
+mod copying;
 mod event;
 mod late;
 mod marks;

@@ -1,5 +1,5 @@
 // The placement: one step at a time, with the record of each.
-ghost use Rattle.std.specs.Prelude.{◌≡◌, ◌↔◌, ◌==◌, ◌||◌, ◌+◌, ◌≤◌, not, nat_lt, is_some, false, [], Some, None, OnOk, OnErr, ℕ, length, option_map};
+ghost use Rattle.std.specs.Prelude.{◌≡◌, ◌↔◌, ◌==◌, ◌||◌, ◌+◌, ◌≤◌, not, nat_lt, is_some, false, [], Some, None, IfOk, OnOk, OnErr, ℕ, length, option_map};
 ghost use Rattle.std.specs.Option.{option_copied};
 ghost use Rattle.round_core.specs.Members.{hosts_of, of_node};
 ghost use Rattle.round_core.specs.Placement.{placement_restarted, new_placement, last_version, settle_round, is_full, with_joined, SameDurableState};
@@ -7,6 +7,7 @@ ghost use Rattle.round_core.specs.Places.{Ascends, host_node};
 ghost use Rattle.round_core.specs.Records.{record_of, restart_record};
 ghost use Rattle.round_core.specs.Rooms.{with_state, Gives, GivesInMemory, GivesStep};
 
+use crate::copying::copy_option;
 use crate::event::{PlaceEvent, PlaceReply};
 use crate::record::{MemberList, PlacementRecord};
 use crate::rounds::Rounds;
@@ -131,6 +132,25 @@ impl Placement {
         } else {
             None
         }
+    }
+
+    /// An equal placement with the same room, on which a step can be tried.
+    pub fn copy(&self, alloc: Global) -> Result<Placement, OutOfMemory>
+        ensures { IfOk result (λ copy. copy ≡ self.now) }
+    {
+        let rounds = self.rounds.copy(alloc)?;
+        let joined = copy_option(alloc, &self.record.joined)?;
+        let removed = self.record.removed.copy(alloc)?;
+        Ok(Placement {
+            alloc,
+            rounds,
+            record: PlacementRecord {
+                joined,
+                removed,
+                next_version: self.record.next_version,
+            },
+            recorded: self.recorded,
+        })
     }
 
     /// A member is heard.

@@ -1,8 +1,9 @@
 // What of a step has to be on the disk.
-ghost use Rattle.std.specs.Prelude.{◌≡◌, ◌<◌, ◌≤◌, ◌∷◌, ◌++◌, [], OnOk, length, vec_capacity};
+ghost use Rattle.std.specs.Prelude.{◌≡◌, ◌<◌, ◌≤◌, ◌∷◌, ◌++◌, [], IfOk, OnOk, length, vec_capacity};
 
 use actor_names::{Member, OutOfMemory};
 use place_table::HostInfo;
+use std::alloc::Global;
 use std::marker::Model;
 
 /// Members in the order in which they were removed. Contracts see the members and how many there is room for.
@@ -49,6 +50,16 @@ impl MemberList {
     {
         self.items.reserve(count.saturating_sub(self.items.len()))?;
         Ok(())
+    }
+
+    /// The same members, with no less room.
+    pub(crate) fn copy(&self, alloc: Global) -> Result<MemberList, OutOfMemory>
+        ensures members { IfOk result (λ copy. copy.members ≡ self.now.members) }
+        ensures room { IfOk result (λ copy. self.now.room ≤ copy.room) }
+    {
+        let mut items = Vec::with_capacity(alloc, self.items.capacity())?;
+        items.extend_from_slice(self.items.as_slice())?;
+        Ok(MemberList { items })
     }
 
     /// No members any more, with the room that there was.

@@ -5,6 +5,7 @@ ghost use Rattle.round_core.specs.Places.{Ascends, host_node};
 ghost use Rattle.round_core.specs.Roster.{RosterState, SameButRoom};
 
 use crate::copies::{fix_table, give_back_all};
+use crate::copying::{copy_hosts, copy_marks, copy_spares};
 use crate::late::drop_late;
 use crate::marks::{Mark, any_mark_left, enter_marks, restart_marks, target_marks};
 use crate::record::MemberList;
@@ -254,5 +255,21 @@ impl Roster {
         self.marks.clear();
         self.spares.clear();
         self.table.clear();
+    }
+    /// An equal roster, with the same room.
+    pub(crate) fn copy(&self, alloc: Global) -> Result<Roster, OutOfMemory>
+        ensures { IfOk result (λ copy. copy ≡ self.now) }
+    {
+        let hosts = copy_hosts(alloc, self.hosts.as_slice(), self.room)?;
+        let marks = copy_marks(alloc, self.marks.as_slice(), self.room)?;
+        let spares = copy_spares(alloc, self.spares.as_slice(), self.room)?;
+        let table = copy_hosts(alloc, self.table.as_slice(), self.room)?;
+        Ok(Roster {
+            hosts,
+            marks,
+            spares,
+            table,
+            room: self.room,
+        })
     }
 }

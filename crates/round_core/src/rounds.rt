@@ -1,5 +1,5 @@
 // The members, their greatest boots, and the rounds that spread each table.
-ghost use Rattle.std.specs.Prelude.{◌≡◌, ◌==◌, ◌&&◌, true, ◌+◌, ◌<◌, ◌≤◌, ◌^◌, ◌++◌, length, OnOk, OnErr, None, false, max, option_map};
+ghost use Rattle.std.specs.Prelude.{◌≡◌, ◌==◌, ◌&&◌, true, ◌+◌, ◌<◌, ◌≤◌, ◌^◌, ◌++◌, length, IfOk, OnOk, OnErr, None, false, max, option_map};
 ghost use Rattle.round_core.specs.Members.{is_here, is_left, with_node, without_node, heard_at, hosts_of, boot_of, of_node, greatest_boot, late_of};
 ghost use Rattle.round_core.specs.Placement.{placement_restarted, new_placement, advance_round, start_round, settle_round, advance_fully, may_start, is_in_stage, is_full, with_joined, drop_late, reply_for, last_version, ack_change};
 ghost use Rattle.round_core.specs.Places.{Ascends, host_node};
@@ -327,5 +327,19 @@ impl Rounds {
             self.dirty = true;
             self.settle();
         }
+    }
+    /// Equal rounds, with the same room.
+    pub(crate) fn copy(&self, alloc: Global) -> Result<Rounds, OutOfMemory>
+        ensures { IfOk result (λ copy. copy ≡ self.now) }
+    {
+        let boots = self.boots.copy(alloc)?;
+        let roster = self.roster.copy(alloc)?;
+        Ok(Rounds {
+            next_version: self.next_version,
+            boots,
+            roster,
+            phase: self.phase,
+            dirty: self.dirty,
+        })
     }
 }
