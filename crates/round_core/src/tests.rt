@@ -97,7 +97,7 @@ fn silent_member_is_dropped_at_ten_seconds(rt: HostRuntime) -> Result<(), Fail> 
 
 #[test]
 fn late_ack_only_beats(rt: HostRuntime) -> Result<(), Fail> {
-    let mut placement = after_one_round(rt.alloc())?;
+    let mut placement = after_one_round(rt.alloc())?.copy(rt.alloc())?;
     assert_eq!(rt; placement.table_hosts().len(), 1);
     placement.restarted(3000);
     let reply = acknowledge(&mut placement, AckStage::Unlock, 1)?;
