@@ -1,0 +1,9 @@
+mod Ascending
+mod Boots
+mod Backed
+mod Durable
+mod Giving
+mod Lateness
+mod Places
+mod Rosters
+mod Rows

@@ -1,0 +1,89 @@
+-- Worked examples of the placement state machine.
+use Rattle.std.proofs.Common.{◌≡◌, ℕ, List, [], ◌∷◌, None, Some, refl}
+use Rattle.std.specs.declared.result.Result.TheVariants.{Err}
+use Rattle.actor_names.specs.declared.member.Member.{Member}
+use Rattle.place_table.specs.declared.host.HostInfo.{HostInfo}
+use Rattle.place_table.specs.declared.ack_stage.AckStage.TheVariants as stages
+use Rattle.round_core.specs.declared.event.PlaceEvent.{PlaceEvent}
+use Rattle.round_core.specs.declared.event.PlaceEvent.TheVariants as events
+use Rattle.round_core.specs.declared.event.PlaceReply.{PlaceReply}
+use Rattle.round_core.specs.declared.event.PlaceReply.TheVariants as replies
+use Rattle.round_core.specs.Members.{members_of}
+use Rattle.round_core.specs.Placement.{PlacementState, new_placement, last_version, placement_step, placement_restarted}
+use Rattle.round_core.specs.Records.{step_record, after_records}
+
+abbrev a : ℕ → Member
+a boot = record { node = 97 ∷ []; boot = boot }
+
+abbrev b : Member
+b = record { node = 98 ∷ []; boot = 1 }
+
+abbrev host : Member → HostInfo
+host m = record { member = m; app = 120 ∷ []; address = record { ip = 1; port = 1 }; kinds = [] }
+
+abbrev joins : Member → PlaceEvent
+joins m = events.Register (host m)
+
+abbrev after : PlacementState → List PlaceEvent → PlacementState
+after s [] = s
+after s (e ∷ es) = after (placement_step s e 0).state es
+
+abbrev reply_after : List PlaceEvent → PlaceEvent → PlaceReply
+reply_after es e = (placement_step (after new_placement es) e 0).reply
+
+-- one member goes through the first round
+abbrev first_round : List PlaceEvent
+first_round = joins (a 1) ∷ events.Ack (a 1) stages.Lock 1 ∷ events.Ack (a 1) stages.Update 1 ∷ []
+
+first_locks : reply_after [] (joins (a 1)) ≡ replies.Lock 1
+first_locks = refl
+
+ack_of_lock_updates : reply_after (joins (a 1) ∷ []) (events.Ack (a 1) stages.Lock 1) ≡ replies.Update 1
+ack_of_lock_updates = refl
+
+table_is_fixed : (after new_placement first_round).table ≡ host (a 1) ∷ []
+table_is_fixed = refl
+
+round_ends : reply_after first_round (events.Ack (a 1) stages.Unlock 1) ≡ replies.Idle
+round_ends = refl
+
+-- an acknowledgement of another version is only heard
+late_ack : reply_after (joins (a 1) ∷ []) (events.Ack (a 1) stages.Lock 2) ≡ replies.Lock 1
+late_ack = refl
+
+second_waits : reply_after (joins b ∷ []) (joins (a 1)) ≡ replies.Idle
+second_waits = refl
+
+members_stand_in_order : members_of (after new_placement (joins b ∷ joins (a 1) ∷ [])).members ≡ a 1 ∷ b ∷ []
+members_stand_in_order = refl
+
+equal_boot_is_stale : reply_after (joins (a 1) ∷ events.Leave (a 1) ∷ []) (joins (a 1)) ≡ replies.StaleBoot 1
+equal_boot_is_stale = refl
+
+node_is_busy : reply_after (joins (a 1) ∷ []) (joins (a 2)) ≡ replies.NodeBusy 1
+node_is_busy = refl
+
+-- the round without targets runs through and uses its version
+leave_uses_version : last_version (after new_placement (joins (a 1) ∷ events.Leave (a 1) ∷ [])) ≡ 2
+leave_uses_version = refl
+
+silent_member_is_dropped : (placement_step (after new_placement (joins (a 1) ∷ [])) events.Tick 10000).reply ≡ replies.Ticked 1
+silent_member_is_dropped = refl
+
+heard_member_stays : (placement_step (after new_placement (joins (a 1) ∷ [])) events.Tick 9999).reply ≡ replies.Ticked 0
+heard_member_stays = refl
+
+stranger_is_told_greatest : reply_after (joins (a 3) ∷ []) (events.Beat (a 2)) ≡ replies.NotMember 3
+stranger_is_told_greatest = refl
+
+restart_starts_round : last_version (placement_restarted (after new_placement first_round) 5) ≡ 2
+restart_starts_round = refl
+
+join_is_recorded : step_record new_placement (joins (a 1)) 0 ≡ Some (record { joined = Some (host (a 1)); removed = []; next_version = 2 })
+join_is_recorded = refl
+
+beat_is_not_recorded : step_record (after new_placement (joins (a 1) ∷ [])) (events.Beat (a 1)) 7 ≡ None
+beat_is_not_recorded = refl
+
+stranger_is_bad_record : after_records 0 new_placement (record { joined = Some (host (a 1)); removed = []; next_version = 2 } ∷ record { joined = None; removed = b ∷ []; next_version = 2 } ∷ []) ≡ Err 1
+stranger_is_bad_record = refl

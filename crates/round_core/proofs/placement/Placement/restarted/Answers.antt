@@ -1,0 +1,16 @@
+use Rattle.std.proofs.Common.{◌≡◌, ap, ◌∙◌}
+use Rattle.round_core.specs.declared.record.PlacementRecord as declared
+use Rattle.round_core.specs.Placement.{PlacementState, placement_restarted}
+use Rattle.round_core.specs.Rooms.{RoundState, PlacementView}
+use Rattle.round_core.proofs.Giving.{restarted_gives}
+use Rattle.round_core.proofs.placement.Placement.restarted.Goals as goal
+
+pub returns-clause-recent : goal.returns-clause-recent
+returns-clause-recent c =
+    let st : c.self.inside.rounds.state ≡ c.args.self.now.state = ap (λ (v : PlacementView). v.state) c.self.view_is in
+    restarted_gives c.args.self.now.state c.args.now c.restart.new.self c.clear_record.new.record_ c.next_version-before.result c.next_version-after.result
+    (ap (λ (r : RoundState). r.state) c.restart.ensures ∙ ap (λ (s : PlacementState). placement_restarted s c.args.now) st)
+    (c.next_version-before.ensures.version ∙ ap (λ (s : PlacementState). s.next_version) st)
+    c.next_version-after.ensures.version
+    (ap (λ (r : declared.PlacementRecord). r.joined) c.clear_record.ensures)
+    (ap (λ (r : declared.PlacementRecord). r.removed.members) c.clear_record.ensures)

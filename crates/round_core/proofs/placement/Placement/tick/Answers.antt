@@ -1,0 +1,24 @@
+use Rattle.std.proofs.Common.{◌≡◌, ℕ, ◌++◌, None, length, refl, ap, ◌∙◌}
+use Rattle.round_core.specs.declared.record.PlacementRecord as declared
+use Rattle.round_core.specs.declared.event.PlaceEvent.TheVariants as events
+use Rattle.round_core.specs.declared.event.PlaceReply.TheVariants as replies
+use Rattle.round_core.specs.Members.{late_of}
+use Rattle.round_core.specs.Placement.{PlacementState, Says, drop_late}
+use Rattle.round_core.specs.Rooms.{RoundState, PlacementView}
+use Rattle.round_core.proofs.Giving.{settled_gives}
+use Rattle.round_core.proofs.placement.Placement.tick.Goals as goal
+
+pub returns : goal.returns
+returns c =
+    let st : c.self.inside.rounds.state ≡ c.args.self.now.state = ap (λ (v : PlacementView). v.state) c.self.view_is in
+    let g = λ (s : PlacementState). (drop_late s c.args.now).state in
+    let before : declared.PlacementRecord = record c.clear_record.new.record_ { removed = c.drop_late-dropped.new.removed } in
+    settled_gives c.args.self.now events.Tick c.args.now c.drop_late-dropped.new.self c.go_on-self-inside.new.rounds (g c.args.self.now.state) before c.go_on-self-inside.new.record_ c.go_on-self-inside.result (replies.Ticked c.drop_late-dropped.result) None (late_of c.args.self.now.state.members c.args.now) (Says (replies.Ticked (length (late_of c.args.self.now.state.members c.args.now))))
+    refl refl refl
+    (ap (λ (r : RoundState). r.state) c.drop_late-dropped.ensures.state ∙ ap g st)
+    c.go_on-self-inside.ensures.rounds
+    (ap (λ (r : declared.PlacementRecord). r.joined) c.clear_record.ensures)
+    (c.drop_late-dropped.ensures.late ∙ ap (λ (r : declared.PlacementRecord). r.removed.members ++ late_of c.self.inside.rounds.state.members c.args.now) c.clear_record.ensures ∙ ap (λ (s : PlacementState). late_of s.members c.args.now) st)
+    c.go_on-self-inside.ensures.noted
+    c.go_on-self-inside.ensures.changed
+    (ap (λ (n : ℕ). replies.Ticked n) (c.drop_late-dropped.ensures.count ∙ ap (λ (s : PlacementState). length (late_of s.members c.args.now)) st))

@@ -1,0 +1,47 @@
+use Rattle.std.proofs.lemmas.List.Edits.{length-remove}
+use Rattle.round_core.proofs.Places.{ok_within}
+use Rattle.round_core.proofs.Ascending.{ascends_remove}
+use Rattle.round_core.proofs.Backed.{backed_remove}
+use Rattle.std.proofs.Common.{◌<◌, length, arith, ◌≡◌, List, sym, ◌∙◌, ap, Ok, Err}
+use Rattle.round_core.specs.Members.{Joined}
+use Rattle.round_core.specs.Places.{host_node, place_by}
+use Rattle.round_core.specs.Roster.{RosterState}
+use Rattle.round_core.proofs.Rosters.{without_node-found, without_node-missing}
+use Rattle.round_core.proofs.roster.Roster.remove.Goals as goal
+
+pub invariant_of-self : goal.invariant_of-self
+invariant_of-self c =
+    let k = c.self.invariant.0 in
+    let r = c.self.invariant.1 in
+    let hs = c.self.inside.hosts.items in
+    let i = c.in-Ok.at in
+    let within : i < length hs = ok_within host_node c.args.node.now hs i (rw c.deref.ensures.value at (sym c.host_place.ensures.place ∙ c.in-Ok.is)) in
+    let a = length-remove hs i within in
+    let b = length-remove c.self.inside.marks.items i (rw k.marked within) in
+    let d = length-remove c.self.inside.spares.items i (rw k.spared within) in
+    let km = k.marked in
+    let ks = k.spared in
+    let kf = k.few in
+    let kw = k.within in (
+      record {
+        ascends = rw c.remove-host.ensures.items (ascends_remove host_node hs i k.ascends);
+        marked = rw (c.remove-host.ensures.items, c.remove-mark.ensures.items) (omega arith);
+        spared = rw (c.remove-host.ensures.items, c.remove-spare.ensures.items) (omega arith);
+        backed = rw (c.remove-host.ensures.items, c.remove-spare.ensures.items) (backed_remove hs c.self.inside.spares.items c.self.inside.table.items i k.backed);
+        few = rw c.remove-host.ensures.items (omega arith);
+        within = rw c.remove-host.ensures.items (omega arith);
+      },
+      record { hosts_room = rw c.remove-host.ensures.capacity r.hosts_room; marks_room = rw c.remove-mark.ensures.capacity r.marks_room; spares_room = rw c.remove-spare.ensures.capacity r.spares_room; table_room = r.table_room },
+    )
+
+pub returns-in-Ok : goal.returns-in-Ok
+returns-in-Ok c =
+    let p : place_by host_node c.args.node.now c.self.inside.hosts.items ≡ Ok c.in-Ok.at = rw c.deref.ensures.value at (sym c.host_place.ensures.place ∙ c.in-Ok.is) in
+    let f : List Joined → RosterState = λ js. record { members = js; table = c.self.inside.table.items; room = c.self.inside.room } in
+    rw (← c.self.view_is, c.remove-host.ensures.items, c.remove-mark.ensures.items) (ap f (sym (without_node-found c.args.node.now c.self.inside.hosts.items c.self.inside.marks.items c.in-Ok.at c.self.invariant.0.marked p)))
+
+pub returns-in-Err : goal.returns-in-Err
+returns-in-Err c =
+    let p : place_by host_node c.args.node.now c.self.inside.hosts.items ≡ Err c.in-Err.field-0 = rw c.deref.ensures.value at (sym c.host_place.ensures.place ∙ c.in-Err.is) in
+    let f : List Joined → RosterState = λ js. record { members = js; table = c.self.inside.table.items; room = c.self.inside.room } in
+    rw (← c.self.view_is) (ap f (sym (without_node-missing c.args.node.now c.self.inside.hosts.items c.self.inside.marks.items c.in-Err.field-0 c.self.invariant.0.ascends p)))

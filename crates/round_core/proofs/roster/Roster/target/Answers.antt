@@ -1,0 +1,18 @@
+use Rattle.std.proofs.lemmas.List.{length-map}
+use Rattle.std.proofs.Common.{List, sym, ◌∙◌, ap, refl}
+use Rattle.round_core.specs.declared.marks.Mark.{Mark}
+use Rattle.round_core.specs.Members.{Joined, targeted}
+use Rattle.round_core.specs.Roster.{RosterState, joined_all, targeted_mark}
+use Rattle.round_core.proofs.Rosters.{joined_all-map}
+use Rattle.round_core.proofs.roster.Roster.target.Goals as goal
+
+pub returns : goal.returns
+returns c =
+    let f : List Joined → RosterState = λ js. record { members = js; table = c.self.inside.table.items; room = c.self.inside.room } in
+    rw (← c.self.view_is) (ap (λ (ms : List Mark). f (joined_all c.self.inside.hosts.items ms)) c.target_marks.ensures.items ∙ ap f (sym (joined_all-map targeted_mark targeted c.self.inside.hosts.items c.self.inside.marks.items (λ h k. refl))))
+
+pub invariant_of-self : goal.invariant_of-self
+invariant_of-self c =
+    let k = c.self.invariant.0 in
+    let r = c.self.invariant.1 in
+    (record { ascends = k.ascends; marked = rw (c.target_marks.ensures.items, length-map) k.marked; spared = k.spared; backed = k.backed; few = k.few; within = k.within }, record { hosts_room = r.hosts_room; marks_room = rw c.target_marks.ensures.room r.marks_room; spares_room = r.spares_room; table_room = r.table_room })

@@ -1,0 +1,81 @@
+-- The records of steps, and what is restored of them. Own.
+use Rattle.std.specs.Prelude.{ℕ, ◌+◌, Bool, not, ◌&&◌, ◌||◌, ◌==◌, nat_lt, if◌then◌else◌, List, [], ◌∷◌, length, Option, None, Some, is_some}
+use Rattle.std.specs.declared.result.Result.{Result}
+use Rattle.std.specs.declared.result.Result.TheVariants.{Ok, Err}
+use Rattle.actor_names.specs.declared.member.Member.{Member}
+use Rattle.place_table.specs.declared.host.HostInfo.{HostInfo}
+use Rattle.round_core.specs.declared.event.PlaceEvent.{PlaceEvent}
+use Rattle.round_core.specs.declared.record.PlacementRecord as declared
+use Rattle.round_core.specs.Members.{Joined, greatest_boot, of_node, is_here, without_node}
+use Rattle.round_core.specs.Placement.{PlacementState, new_placement, version_limit, is_full, with_joined, apply_membership, placement_step, placement_restarted}
+
+-- what contracts see of a record
+pub record RecordOf : Type 0 where
+  pub joined : Option HostInfo
+  pub removed : List Member
+  pub next_version : ℕ
+
+abbrev pub record_of : declared.PlacementRecord → RecordOf
+record_of r = record { joined = r.joined; removed = r.removed.members; next_version = r.next_version }
+
+-- what of a change has to be on the disk: nothing where nobody joined or was removed and no round began
+abbrev pub changes_record : Option HostInfo → List Member → ℕ → ℕ → Option RecordOf
+changes_record joined removed before after =
+    if is_some joined || (nat_lt 0 (length removed) || not (after == before)) then Some (record { joined = joined; removed = removed; next_version = after })
+    else None
+
+abbrev pub step_record : PlacementState → PlaceEvent → ℕ → Option RecordOf
+step_record s event now =
+    let change = apply_membership s event now in
+    changes_record change.joined change.removed s.next_version (placement_step s event now).state.next_version
+
+abbrev pub restart_record : PlacementState → ℕ → Option RecordOf
+restart_record s now = changes_record None [] s.next_version (placement_restarted s now).next_version
+
+-- ---- what is restored
+
+abbrev pub removes_all : List Joined → List Member → Option (List Joined)
+removes_all js [] = Some js
+removes_all js (m ∷ ms) = if is_here js m then removes_all (without_node js m.node) ms else None
+
+-- a host may join: its node has no member, its boot is above the greatest one, and there is room
+abbrev pub may_join : PlacementState → HostInfo → Bool
+may_join s host =
+    not (is_some (of_node s.members host.member.node)) && (nat_lt (greatest_boot s.boots host.member.node) host.member.boot && not (is_full s host.member.node))
+
+abbrev pub after_join : PlacementState → Option HostInfo → Option PlacementState
+after_join s None = Some s
+after_join s (Some host) = if may_join s host then Some (with_joined s host 0) else None
+
+abbrev pub after_removal : PlacementState → Option HostInfo → Option (List Joined) → Option PlacementState
+after_removal s joined None = None
+after_removal s joined (Some js) = after_join (record s { members = js }) joined
+
+abbrev pub at_version : ℕ → Option PlacementState → Option PlacementState
+at_version next None = None
+at_version next (Some s) = Some (record s { next_version = next })
+
+-- the state after a record, where it isn't bad: the removals act before the join, and the version neither falls
+-- nor passes 2^62
+abbrev pub after_record : PlacementState → RecordOf → Option PlacementState
+after_record s r =
+    if nat_lt r.next_version s.next_version || nat_lt version_limit r.next_version then None
+    else at_version r.next_version (after_removal s r.joined (removes_all s.members r.removed))
+
+-- goes on from a state, or tells the place of the bad record
+abbrev pub go_on : ℕ → Option PlacementState → (PlacementState → Result PlacementState ℕ) → Result PlacementState ℕ
+go_on at None next = Err at
+go_on at (Some s) next = next s
+
+-- the state after the records, or the place of the first bad one, the first record being at this place
+abbrev pub after_records : ℕ → PlacementState → List RecordOf → Result PlacementState ℕ
+after_records at s [] = Ok s
+after_records at s (r ∷ rs) = go_on at (after_record s r) (λ t. after_records (at + 1) t rs)
+
+-- what is restored of the records: the restart of the state after them, or the place of the first bad one
+abbrev pub restarted_of : Result PlacementState ℕ → ℕ → Result PlacementState ℕ
+restarted_of (Ok s) now = Ok (placement_restarted s now)
+restarted_of (Err at) now = Err at
+
+abbrev pub placement_restored : List RecordOf → ℕ → Result PlacementState ℕ
+placement_restored records now = restarted_of (after_records 0 new_placement records) now

@@ -1,0 +1,30 @@
+// Placement: which members exist, and the rounds of lock, update and unlock that spread each table.
+//
+// Promise: each call of a `Placement` is the placement state machine (`specs/Placement`), with the record of
+// each step that a restart needs (`specs/Records`). Stands on `place_table` and `actor_names`.
+#![tactic(auto)]
+
+mod book;
+mod copies;
+mod copying;
+mod event;
+mod late;
+mod marks;
+mod phase;
+mod placement;
+mod record;
+mod room;
+mod roster;
+mod rounds;
+mod search;
+
+pub use book::Known;
+pub use event::{PlaceEvent, PlaceReply};
+pub use marks::Mark;
+pub use phase::RoundPhase;
+pub use place_table::AckStage;
+pub use placement::Placement;
+pub use record::{MemberList, PlacementRecord};
+
+#[cfg(test)]
+mod tests;

@@ -1,0 +1,296 @@
+// The placement: one step at a time, with the record of each.
+ghost use Rattle.std.specs.Prelude.{◌≡◌, ◌↔◌, ◌==◌, ◌||◌, ◌+◌, ◌≤◌, not, nat_lt, is_some, false, [], Some, None, IfOk, OnOk, OnErr, ℕ, length, option_map};
+ghost use Rattle.std.specs.Option.{option_copied};
+ghost use Rattle.round_core.specs.Members.{hosts_of, of_node};
+ghost use Rattle.round_core.specs.Placement.{placement_restarted, new_placement, last_version, settle_round, is_full, with_joined, SameDurableState};
+ghost use Rattle.round_core.specs.Places.{Ascends, host_node};
+ghost use Rattle.round_core.specs.Records.{record_of, restart_record};
+ghost use Rattle.round_core.specs.Rooms.{with_state, Gives, GivesInMemory, GivesStep};
+
+use crate::copying::copy_option;
+use crate::event::{PlaceEvent, PlaceReply};
+use crate::record::{MemberList, PlacementRecord};
+use crate::rounds::Rounds;
+use actor_names::{Member, OutOfMemory};
+use place_table::{AckStage, HostInfo};
+use std::alloc::Global;
+use std::marker::Model;
+
+/// The members of a cluster, the running round, and the record of the last step.
+#[derive(Drop)]
+pub struct Placement {
+    alloc: Global,
+    rounds: Rounds,
+    record: PlacementRecord,
+    recorded: bool,
+}
+
+impl Model for Placement {
+    ghost use Rattle.std.specs.Prelude.{◌≤◌, if◌then◌else◌, Some, None};
+    ghost use Rattle.round_core.specs.Records.{record_of};
+    ghost use Rattle.round_core.specs.Rooms.{PlacementView};
+
+    ghost Value = { PlacementView };
+
+    ghost view = { λ a. record { state = a.rounds.state; recent = if a.recorded then Some (record_of a.record) else None } };
+
+    ghost invariant = { λ a. a.rounds.room ≤ a.record.removed.room };
+}
+
+/// Nobody joined or was removed.
+fn clear_record(record_: &mut PlacementRecord)
+    ensures { record_.new ≡ record record_.old { joined = None; removed = record { members = []; room = record_.old.removed.room } } }
+{
+    record_.joined = None;
+    record_.removed.clear();
+}
+
+/// Rounds go on; says whether anything has to be on the disk then.
+fn go_on(rounds: &mut Rounds, record_: &mut PlacementRecord) -> bool
+    ensures rounds { rounds.new ≡ with_state rounds.old (settle_round rounds.old.state) }
+    ensures noted { record_.new ≡ record record_.old { next_version = (settle_round rounds.old.state).next_version } }
+    ensures changed { result ≡ (is_some record_.old.joined || (nat_lt 0 (length record_.old.removed.members) || not ((settle_round rounds.old.state).next_version == rounds.old.state.next_version))) }
+{
+    let before = rounds.next_version();
+    rounds.settle();
+    let after = rounds.next_version();
+    record_.next_version = after;
+    record_.joined.is_some() || record_.removed.as_slice().len() > 0 || !(after == before)
+}
+
+/// A host joins: its copies and the room that it needs are made first.
+fn join(
+    alloc: Global,
+    rounds: &mut Rounds,
+    record_: &mut PlacementRecord,
+    host: HostInfo,
+    now: u64,
+) -> Result<(), OutOfMemory>
+    requires room { rounds.old.room ≤ record_.old.removed.room }
+    requires places { is_full rounds.old.state host.member.node ≡ false }
+    requires free { of_node rounds.old.state.members host.member.node ≡ None }
+    ensures ok { OnOk result ((rounds.new.state ≡ with_joined rounds.old.state host now) × (record_.new.joined ≡ Some host)) }
+    ensures err { OnErr result (rounds.new.state ≡ rounds.old.state) }
+    ensures removed { record_.new.removed.members ≡ record_.old.removed.members }
+    ensures room { rounds.new.room ≤ record_.new.removed.room }
+{
+    let spare = host.copy(alloc)?;
+    let shown = host.copy(alloc)?;
+    let wanted = rounds.len() as usize + 1;
+    record_.removed.reserve(wanted)?;
+    rounds.reserve()?;
+    rounds.join(host, spare, now)?;
+    record_.joined = Some(shown);
+    Ok(())
+}
+
+impl Placement {
+    /// The opening state: the next version is 1, there is nobody and no round. It takes no memory.
+    pub fn new(alloc: Global) -> Placement
+        ensures { result ≡ record { state = new_placement; recent = None } }
+    {
+        Placement {
+            alloc,
+            rounds: Rounds::new(alloc),
+            record: PlacementRecord {
+                joined: None,
+                removed: MemberList::from_vec(Vec::new(alloc)),
+                next_version: 1,
+            },
+            recorded: false,
+        }
+    }
+
+    /// The hosts of the table that was fixed last, in byte order of node; none before the first.
+    pub fn table_hosts(&self) -> &[HostInfo]
+        ensures { result.now ≡ self.now.state.table }
+    {
+        self.rounds.table_hosts()
+    }
+
+    /// The members' hosts, in byte order of node.
+    pub fn members(&self) -> &[HostInfo]
+        ensures hosts { result.now ≡ hosts_of self.now.state.members }
+        ensures order { Ascends host_node result.now }
+    {
+        self.rounds.members()
+    }
+
+    /// The last version used, 0 before the first round.
+    pub fn last_version(&self) -> u64
+        ensures { result ≡ last_version self.now.state }
+    {
+        self.rounds.next_version() - 1
+    }
+
+    /// What of the last step has to be on the disk before its reply goes out, if anything; it is lent without memory.
+    pub fn record(&self) -> Option<&PlacementRecord>
+        ensures { option_map record_of (option_copied result) ≡ self.now.recent }
+    {
+        if self.recorded {
+            Some(&self.record)
+        } else {
+            None
+        }
+    }
+
+    /// An equal placement with the same room, on which a step can be tried.
+    pub fn copy(&self, alloc: Global) -> Result<Placement, OutOfMemory>
+        ensures { IfOk result (λ copy. copy ≡ self.now) }
+    {
+        let rounds = self.rounds.copy(alloc)?;
+        let joined = copy_option(alloc, &self.record.joined)?;
+        let removed = self.record.removed.copy(alloc)?;
+        Ok(Placement {
+            alloc,
+            rounds,
+            record: PlacementRecord {
+                joined,
+                removed,
+                next_version: self.record.next_version,
+            },
+            recorded: self.recorded,
+        })
+    }
+
+    /// A member is heard.
+    fn beat(&mut self, member: Member, now: u64) -> PlaceReply
+        ensures { Gives (PlaceEvent.Beat member) now result self.old self.new }
+    {
+        clear_record(&mut self.record);
+        if !self.rounds.has(&member) {
+            self.recorded = false;
+            return PlaceReply::NotMember {
+                greatest: self.rounds.greatest(&member.node),
+            };
+        }
+        self.rounds.hear(&member, now);
+        self.recorded = go_on(&mut self.rounds, &mut self.record);
+        self.rounds.reply_for(&member)
+    }
+
+    /// A member acknowledges.
+    fn ack(&mut self, member: Member, stage: AckStage, version: u64, now: u64) -> PlaceReply
+        ensures { Gives (PlaceEvent.Ack member stage version) now result self.old self.new }
+    {
+        clear_record(&mut self.record);
+        if !self.rounds.has(&member) {
+            self.recorded = false;
+            return PlaceReply::NotMember {
+                greatest: self.rounds.greatest(&member.node),
+            };
+        }
+        self.rounds.ack(&member, stage, version, now);
+        self.recorded = go_on(&mut self.rounds, &mut self.record);
+        self.rounds.reply_for(&member)
+    }
+
+    /// Time has passed.
+    fn tick(&mut self, now: u64) -> PlaceReply
+        ensures { Gives PlaceEvent.Tick now result self.old self.new }
+    {
+        clear_record(&mut self.record);
+        let _members = self.rounds.len();
+        let dropped = self.rounds.drop_late(&mut self.record.removed, now);
+        self.recorded = go_on(&mut self.rounds, &mut self.record);
+        PlaceReply::Ticked { dropped }
+    }
+
+    /// Somebody looks at the members.
+    fn look(&mut self) -> PlaceReply
+        ensures { (now : ℕ) → Gives PlaceEvent.Look now result self.old self.new }
+    {
+        clear_record(&mut self.record);
+        self.recorded = false;
+        PlaceReply::Looked
+    }
+
+    /// A member leaves or was lost.
+    fn remove(&mut self, member: Member) -> PlaceReply
+        ensures leave { (now : ℕ) → Gives (PlaceEvent.Leave member) now result self.old self.new }
+        ensures lost { (now : ℕ) → Gives (PlaceEvent.Lost member) now result self.old self.new }
+    {
+        clear_record(&mut self.record);
+        if !self.rounds.has(&member) {
+            self.recorded = false;
+            return PlaceReply::NotMember {
+                greatest: self.rounds.greatest(&member.node),
+            };
+        }
+        let _members = self.rounds.len();
+        self.record.removed.push_in_room(member);
+        self.rounds.remove(&member);
+        self.recorded = go_on(&mut self.rounds, &mut self.record);
+        PlaceReply::Gone
+    }
+
+    /// A host is to join, or is heard again.
+    fn register(&mut self, host: HostInfo, now: u64) -> PlaceReply
+        ensures { GivesInMemory (PlaceEvent.Register host) now result self.old self.new }
+    {
+        let member = host.member;
+        clear_record(&mut self.record);
+        if self.rounds.has(&member) {
+            self.rounds.hear(&member, now);
+            self.recorded = go_on(&mut self.rounds, &mut self.record);
+            return self.rounds.reply_for(&member);
+        }
+        self.recorded = false;
+        let greatest = self.rounds.greatest(&member.node);
+        if member.boot <= greatest {
+            return PlaceReply::StaleBoot { greatest };
+        }
+        if let Some(boot) = self.rounds.boot_at(&member.node) {
+            return PlaceReply::NodeBusy { boot };
+        }
+        if self.rounds.is_full(&member.node) {
+            return PlaceReply::Full {
+                members: self.rounds.len(),
+                nodes: self.rounds.nodes(),
+            };
+        }
+        match join(self.alloc, &mut self.rounds, &mut self.record, host, now) {
+            Err(_) => PlaceReply::OutOfMemory,
+            Ok(()) => {
+                self.recorded = go_on(&mut self.rounds, &mut self.record);
+                self.rounds.reply_for(&member)
+            }
+        }
+    }
+
+    /// One step of the placement at the moment `now`, in milliseconds since 1970. A refused event changes nothing;
+    /// only a Register may want memory. There is no record exactly where next version, greatest boots and the
+    /// members' hosts are as before.
+    pub fn step(&mut self, event: PlaceEvent, now: u64) -> PlaceReply
+        ensures gives { GivesStep event now result self.old self.new }
+        ensures durable { self.new.recent ≡ None ↔ SameDurableState self.old.state self.new.state }
+    {
+        match event {
+            PlaceEvent::Register { host } => self.register(host, now),
+            PlaceEvent::Beat { member } => self.beat(member, now),
+            PlaceEvent::Ack {
+                member,
+                stage,
+                version,
+            } => self.ack(member, stage, version, now),
+            PlaceEvent::Leave { member } => self.remove(member),
+            PlaceEvent::Lost { member } => self.remove(member),
+            PlaceEvent::Tick => self.tick(now),
+            PlaceEvent::Look => self.look(),
+        }
+    }
+
+    /// The restart at the moment `now`, without memory: next version, greatest boots and members are kept, each
+    /// member is heard, and a round starts. Where no round has ever started it is the opening state.
+    pub fn restarted(&mut self, now: u64)
+        ensures state { self.new.state ≡ placement_restarted self.old.state now }
+        ensures recent { self.new.recent ≡ restart_record self.old.state now }
+    {
+        clear_record(&mut self.record);
+        let before = self.rounds.next_version();
+        self.rounds.restart(now);
+        let after = self.rounds.next_version();
+        self.record.next_version = after;
+        self.recorded = !(after == before);
+    }
+}

@@ -1,0 +1,275 @@
+// The members and the table that was fixed last.
+ghost use Rattle.std.specs.Prelude.{◌≡◌, ◌+◌, ◌<◌, ◌≤◌, ◌↔◌, [], ◌∷◌, ◌++◌, None, false, length, map, IfOk, OnOk, OnErr, max, option_map};
+ghost use Rattle.round_core.specs.Members.{heard_at, acked_at, restarted_at, new_joined, boot_of, hosts_of, of_node, is_here, is_left, with_node, without_node, put_joined, late_of, heard_of, any_left, entered, targeted, target_hosts};
+ghost use Rattle.round_core.specs.Places.{Ascends, host_node};
+ghost use Rattle.round_core.specs.Roster.{RosterState, SameButRoom};
+
+use crate::copies::{fix_table, give_back_all};
+use crate::copying::{copy_hosts, copy_marks, copy_spares};
+use crate::late::drop_late;
+use crate::marks::{Mark, any_mark_left, enter_marks, restart_marks, target_marks};
+use crate::record::MemberList;
+use crate::room::insert_in_room;
+use crate::search::host_place;
+use actor_names::{Member, Node, OutOfMemory};
+use place_table::HostInfo;
+use std::alloc::Global;
+use std::marker::Model;
+
+/// The members in byte order of node, at most 256, and the table that was fixed last. Of each member's host there
+/// is a second copy, which is spare or in the table.
+#[derive(Drop)]
+pub(crate) struct Roster {
+    hosts: Vec<HostInfo>,
+    marks: Vec<Mark>,
+    spares: Vec<Option<HostInfo>>,
+    table: Vec<HostInfo>,
+    room: usize,
+}
+
+impl Model for Roster {
+    ghost use Rattle.std.specs.Prelude.{vec_capacity};
+    ghost use Rattle.round_core.specs.Roster.{RosterState, joined_all, IsRosterKept, HasRoom};
+
+    ghost Value = { RosterState };
+
+    ghost view = { λ a. record { members = joined_all a.hosts.items a.marks.items; table = a.table.items; room = a.room } };
+
+    ghost invariant = { λ a. IsRosterKept a.hosts.items a.marks.items a.spares.items a.table.items a.room × HasRoom a.room (vec_capacity a.hosts) (vec_capacity a.marks) (vec_capacity a.spares) (vec_capacity a.table) };
+}
+
+impl Roster {
+    /// Nobody, and no table.
+    pub(crate) fn new(alloc: Global) -> Roster
+        ensures { result ≡ record { members = []; table = []; room = 0 } }
+    {
+        Roster {
+            hosts: Vec::new(alloc),
+            marks: Vec::new(alloc),
+            spares: Vec::new(alloc),
+            table: Vec::new(alloc),
+            room: 0,
+        }
+    }
+
+    /// The members' hosts.
+    pub(crate) fn hosts(&self) -> &[HostInfo]
+        ensures hosts { result.now ≡ hosts_of self.now.members }
+        ensures order { Ascends host_node result.now }
+    {
+        self.hosts.as_slice()
+    }
+
+    /// The hosts of the table that was fixed last.
+    pub(crate) fn table(&self) -> &[HostInfo]
+        ensures { result.now ≡ self.now.table }
+    {
+        self.table.as_slice()
+    }
+
+    /// How many members there are.
+    pub(crate) fn len(&self) -> u32
+        ensures count { result ≡ length self.now.members }
+        ensures within { result ≤ 256 }
+        ensures room { result ≤ self.now.room }
+    {
+        self.hosts.len() as u32
+    }
+
+    /// For how many members there is room.
+    pub(crate) fn room(&self) -> usize
+        ensures { result ≡ self.now.room }
+    {
+        self.room
+    }
+
+    /// The boot of the member of this node.
+    pub(crate) fn boot_at(&self, node: &Node) -> Option<u64>
+        ensures { result ≡ option_map boot_of (of_node self.now.members node.now) }
+    {
+        match host_place(&self.hosts, node) {
+            Ok(at) => Some(self.hosts[at].member.boot),
+            Err(_) => None,
+        }
+    }
+
+    /// Whether it is a member.
+    pub(crate) fn has(&self, member: &Member) -> bool
+        ensures { result ≡ is_here self.now.members member.now }
+    {
+        match self.boot_at(&member.node) {
+            Some(boot) => member.boot == boot,
+            None => false,
+        }
+    }
+
+    /// Whether the member of its node is among those left.
+    pub(crate) fn is_left(&self, member: &Member) -> bool
+        ensures { result ≡ is_left self.now.members member.now }
+    {
+        match host_place(&self.hosts, &member.node) {
+            Ok(at) => self.marks[at].left,
+            Err(_) => false,
+        }
+    }
+
+    /// Whether anybody is left.
+    pub(crate) fn any_left(&self) -> bool
+        ensures { result ≡ any_left self.now.members }
+    {
+        any_mark_left(&self.marks)
+    }
+
+    /// The member of this node is heard.
+    pub(crate) fn hear(&mut self, node: &Node, now: u64)
+        ensures { self.new ≡ record self.old { members = with_node self.old.members node.now (heard_at now) } }
+    {
+        match host_place(&self.hosts, node) {
+            Ok(at) => {
+                let mark = &mut self.marks[at];
+                mark.heard = now;
+            }
+            Err(_) => {}
+        }
+    }
+
+    /// The member of this node is heard, and isn't left any more.
+    pub(crate) fn ack(&mut self, node: &Node, now: u64)
+        ensures { self.new ≡ record self.old { members = with_node self.old.members node.now (acked_at now) } }
+    {
+        match host_place(&self.hosts, node) {
+            Ok(at) => {
+                let mark = &mut self.marks[at];
+                mark.heard = now;
+                mark.left = false;
+            }
+            Err(_) => {}
+        }
+    }
+
+    /// Makes room for one member more.
+    pub(crate) fn reserve(&mut self) -> Result<(), OutOfMemory>
+        ensures same { SameButRoom self.old self.new }
+        ensures room { OnOk result (length self.old.members < self.new.room) }
+        ensures most { self.new.room ≤ max self.old.room (length self.old.members + 1) }
+    {
+        let wanted = self.hosts.len() + 1;
+        if wanted <= self.room {
+            return Ok(());
+        }
+        self.hosts.reserve(1)?;
+        self.marks.reserve(1)?;
+        self.spares.reserve(1)?;
+        self.table.reserve(wanted.saturating_sub(self.table.len()))?;
+        self.room = wanted;
+        Ok(())
+    }
+
+    /// A host joins, whose node has no member; `spare` is a copy of it.
+    pub(crate) fn join(&mut self, host: HostInfo, spare: HostInfo, now: u64)
+        requires room { length self.old.members < self.old.room }
+        requires few { length self.old.members < 256 }
+        requires free { of_node self.old.members host.member.node ≡ None }
+        requires copy { spare ≡ host }
+        ensures { self.new ≡ record self.old { members = put_joined self.old.members (new_joined host now) } }
+    {
+        match host_place(&self.hosts, &host.member.node) {
+            Ok(_) => unreachable!(),
+            Err(at) => {
+                insert_in_room(&mut self.hosts, at, host);
+                let mark = Mark {
+                    heard: now,
+                    target: false,
+                    left: false,
+                };
+                insert_in_room(&mut self.marks, at, mark);
+                insert_in_room(&mut self.spares, at, Some(spare));
+            }
+        }
+    }
+
+    /// The member of this node is removed.
+    pub(crate) fn remove(&mut self, node: &Node)
+        ensures { self.new ≡ record self.old { members = without_node self.old.members node.now } }
+    {
+        match host_place(&self.hosts, node) {
+            Ok(at) => {
+                let _host = self.hosts.remove(at);
+                let _mark = self.marks.remove(at);
+                let _spare = self.spares.remove(at);
+            }
+            Err(_) => {}
+        }
+    }
+
+    /// The table of the targets is fixed.
+    pub(crate) fn fix(&mut self)
+        ensures { self.new ≡ record self.old { table = target_hosts self.old.members } }
+    {
+        fix_table(&self.hosts, &self.marks, &mut self.spares, &mut self.table);
+    }
+
+    /// A round enters a stage: the targets are left.
+    pub(crate) fn enter(&mut self)
+        ensures { self.new ≡ record self.old { members = map entered self.old.members } }
+    {
+        enter_marks(&mut self.marks);
+    }
+
+    /// A round starts: each member is a target, and left.
+    pub(crate) fn target(&mut self)
+        ensures { self.new ≡ record self.old { members = map targeted self.old.members } }
+    {
+        target_marks(&mut self.marks);
+    }
+
+    /// Drops each member that was not heard for 10,000 milliseconds, and lists it.
+    pub(crate) fn drop_late(&mut self, removed: &mut MemberList, now: u64)
+        requires { length removed.old.members + length self.old.members ≤ removed.old.room }
+        ensures members { self.new ≡ record self.old { members = heard_of self.old.members now } }
+        ensures late { removed.new.members ≡ removed.old.members ++ late_of self.old.members now }
+        ensures room { removed.old.room ≤ removed.new.room }
+    {
+        drop_late(
+            &mut self.hosts,
+            &mut self.marks,
+            &mut self.spares,
+            removed,
+            now,
+        );
+    }
+
+    /// A restart: each member is heard, and there is no round and no table.
+    pub(crate) fn restart(&mut self, now: u64)
+        ensures { self.new ≡ record self.old { members = map (restarted_at now) self.old.members; table = [] } }
+    {
+        give_back_all(&self.hosts, &mut self.spares, &mut self.table);
+        restart_marks(&mut self.marks, now);
+    }
+
+    /// Nobody, and no table.
+    pub(crate) fn clear(&mut self)
+        ensures { self.new ≡ record self.old { members = []; table = [] } }
+    {
+        self.hosts.clear();
+        self.marks.clear();
+        self.spares.clear();
+        self.table.clear();
+    }
+    /// An equal roster, with the same room.
+    pub(crate) fn copy(&self, alloc: Global) -> Result<Roster, OutOfMemory>
+        ensures { IfOk result (λ copy. copy ≡ self.now) }
+    {
+        let hosts = copy_hosts(alloc, self.hosts.as_slice(), self.room)?;
+        let marks = copy_marks(alloc, self.marks.as_slice(), self.room)?;
+        let spares = copy_spares(alloc, self.spares.as_slice(), self.room)?;
+        let table = copy_hosts(alloc, self.table.as_slice(), self.room)?;
+        Ok(Roster {
+            hosts,
+            marks,
+            spares,
+            table,
+            room: self.room,
+        })
+    }
+}

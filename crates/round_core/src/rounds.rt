@@ -1,0 +1,345 @@
+// The members, their greatest boots, and the rounds that spread each table.
+ghost use Rattle.std.specs.Prelude.{◌≡◌, ◌==◌, ◌&&◌, true, ◌+◌, ◌<◌, ◌≤◌, ◌^◌, ◌++◌, length, IfOk, OnOk, OnErr, None, false, max, option_map};
+ghost use Rattle.round_core.specs.Members.{is_here, is_left, with_node, without_node, heard_at, hosts_of, boot_of, of_node, greatest_boot, late_of};
+ghost use Rattle.round_core.specs.Placement.{placement_restarted, new_placement, advance_round, start_round, settle_round, advance_fully, may_start, is_in_stage, is_full, with_joined, drop_late, reply_for, last_version, ack_change};
+ghost use Rattle.round_core.specs.Places.{Ascends, host_node};
+ghost use Rattle.round_core.specs.Rooms.{with_state};
+
+use crate::book::BootBook;
+use crate::event::PlaceReply;
+use crate::phase::RoundPhase;
+use crate::record::MemberList;
+use crate::roster::Roster;
+use actor_names::{Member, Node, OutOfMemory};
+use place_table::{AckStage, HostInfo};
+use std::alloc::Global;
+use std::marker::Model;
+
+/// The next version never passes this.
+const VERSION_LIMIT: u64 = 4611686018427387904;
+
+/// The members, their greatest boots and the running round.
+#[derive(Drop)]
+pub(crate) struct Rounds {
+    next_version: u64,
+    boots: BootBook,
+    roster: Roster,
+    phase: RoundPhase,
+    dirty: bool,
+}
+
+impl Model for Rounds {
+    ghost use Rattle.std.specs.Prelude.{◌≤◌, ◌^◌};
+    ghost use Rattle.round_core.specs.Rooms.{RoundState};
+
+    ghost Value = { RoundState };
+
+    ghost view = { λ a. record { state = record { next_version = a.next_version; boots = a.boots; members = a.roster.members; phase = a.phase; dirty = a.dirty; table = a.roster.table }; room = a.roster.room } };
+
+    ghost invariant = { λ a. (1 ≤ a.next_version) × (a.next_version ≤ 2 ^ 62) };
+}
+
+impl Rounds {
+    /// Nobody, and no round.
+    pub(crate) fn new(alloc: Global) -> Rounds
+        ensures { result ≡ record { state = new_placement; room = 0 } }
+    {
+        Rounds {
+            next_version: 1,
+            boots: BootBook::new(alloc),
+            roster: Roster::new(alloc),
+            phase: RoundPhase::Quiet,
+            dirty: false,
+        }
+    }
+
+    /// The hosts of the members.
+    pub(crate) fn members(&self) -> &[HostInfo]
+        ensures hosts { result.now ≡ hosts_of self.now.state.members }
+        ensures order { Ascends host_node result.now }
+    {
+        self.roster.hosts()
+    }
+
+    /// The hosts of the table that was fixed last.
+    pub(crate) fn table_hosts(&self) -> &[HostInfo]
+        ensures { result.now ≡ self.now.state.table }
+    {
+        self.roster.table()
+    }
+
+    /// The next version.
+    pub(crate) fn next_version(&self) -> u64
+        ensures version { result ≡ self.now.state.next_version }
+        ensures used { 1 ≤ result }
+        ensures within { result ≤ 2 ^ 62 }
+    {
+        self.next_version
+    }
+
+    /// Whether it is a member.
+    pub(crate) fn has(&self, member: &Member) -> bool
+        ensures { result ≡ is_here self.now.state.members member.now }
+    {
+        self.roster.has(member)
+    }
+
+    /// The greatest boot of the node, 0 for an unknown one.
+    pub(crate) fn greatest(&self, node: &Node) -> u64
+        ensures { result ≡ greatest_boot self.now.state.boots node.now }
+    {
+        self.boots.greatest(node)
+    }
+
+    /// The next stage of the round, where nobody is left.
+    fn advance(&mut self)
+        ensures { self.new ≡ with_state self.old (advance_round self.old.state) }
+    {
+        if self.roster.any_left() {
+            return;
+        }
+        match self.phase {
+            RoundPhase::Quiet => {}
+            RoundPhase::Running {
+                stage: AckStage::Lock,
+            } => {
+                self.roster.fix();
+                self.roster.enter();
+                self.phase = RoundPhase::Running {
+                    stage: AckStage::Update,
+                };
+            }
+            RoundPhase::Running {
+                stage: AckStage::Update,
+            } => {
+                self.roster.enter();
+                self.phase = RoundPhase::Running {
+                    stage: AckStage::Unlock,
+                };
+            }
+            RoundPhase::Running {
+                stage: AckStage::Unlock,
+            } => {
+                self.phase = RoundPhase::Quiet;
+            }
+        }
+    }
+
+    /// As far as the round goes by itself.
+    fn advance_fully(&mut self)
+        ensures { self.new ≡ with_state self.old (advance_fully self.old.state) }
+    {
+        self.advance();
+        self.advance();
+        self.advance();
+    }
+
+    /// Whether a round may start.
+    fn may_start(&self) -> bool
+        ensures { result ≡ may_start self.now.state }
+    {
+        match self.phase {
+            RoundPhase::Quiet => self.dirty && self.next_version < VERSION_LIMIT,
+            RoundPhase::Running { stage: _ } => false,
+        }
+    }
+
+    /// A round starts where none is running and one is due.
+    fn start(&mut self)
+        ensures { self.new ≡ with_state self.old (start_round self.old.state) }
+    {
+        if !self.may_start() {
+            return;
+        }
+        self.next_version += 1;
+        self.roster.target();
+        self.phase = RoundPhase::Running {
+            stage: AckStage::Lock,
+        };
+        self.dirty = false;
+    }
+
+    /// Rounds go on, and start.
+    pub(crate) fn settle(&mut self)
+        ensures { self.new ≡ with_state self.old (settle_round self.old.state) }
+    {
+        self.advance_fully();
+        self.start();
+        self.advance_fully();
+    }
+
+    /// What a member is told.
+    pub(crate) fn reply_for(&self, member: &Member) -> PlaceReply
+        ensures { result ≡ reply_for self.now.state member.now }
+    {
+        if !self.roster.is_left(member) {
+            return PlaceReply::Idle;
+        }
+        let version = self.next_version - 1;
+        match self.phase {
+            RoundPhase::Quiet => PlaceReply::Idle,
+            RoundPhase::Running {
+                stage: AckStage::Lock,
+            } => PlaceReply::Lock { version },
+            RoundPhase::Running {
+                stage: AckStage::Update,
+            } => PlaceReply::Update { version },
+            RoundPhase::Running {
+                stage: AckStage::Unlock,
+            } => PlaceReply::Unlock { version },
+        }
+    }
+
+    /// A member is heard.
+    pub(crate) fn hear(&mut self, member: &Member, now: u64)
+        ensures { self.new ≡ with_state self.old (record self.old.state { members = with_node self.old.state.members member.now.node (heard_at now) }) }
+    {
+        self.roster.hear(&member.node, now);
+    }
+
+    /// Whether the running round is in this stage at this version.
+    fn is_running(&self, stage: AckStage, version: u64) -> bool
+        ensures { result ≡ (is_in_stage self.now.state.phase stage && (version == last_version self.now.state)) }
+    {
+        match self.phase {
+            RoundPhase::Quiet => false,
+            RoundPhase::Running { stage: running } => {
+                running == stage && version == self.next_version - 1
+            }
+        }
+    }
+
+    /// A member acknowledges.
+    pub(crate) fn ack(&mut self, member: &Member, stage: AckStage, version: u64, now: u64)
+        ensures { self.new ≡ with_state self.old (record self.old.state { members = with_node self.old.state.members member.now.node (ack_change self.old.state stage version now) }) }
+    {
+        if self.is_running(stage, version) {
+            self.roster.ack(&member.node, now);
+        } else {
+            self.roster.hear(&member.node, now);
+        }
+    }
+
+    /// A member is removed.
+    pub(crate) fn remove(&mut self, member: &Member)
+        ensures { self.new ≡ with_state self.old (record self.old.state { members = without_node self.old.state.members member.now.node; dirty = true }) }
+    {
+        self.roster.remove(&member.node);
+        self.dirty = true;
+    }
+
+    /// The boot of the member of this node.
+    pub(crate) fn boot_at(&self, node: &Node) -> Option<u64>
+        ensures { result ≡ option_map boot_of (of_node self.now.state.members node.now) }
+    {
+        self.roster.boot_at(node)
+    }
+
+    /// How many members there are.
+    pub(crate) fn len(&self) -> u32
+        ensures count { result ≡ length self.now.state.members }
+        ensures room { result ≤ self.now.room }
+    {
+        self.roster.len()
+    }
+
+    /// How many nodes are known.
+    pub(crate) fn nodes(&self) -> u32
+        ensures { result ≡ length self.now.state.boots }
+    {
+        self.boots.len()
+    }
+
+    /// Whether no member of this node may join for want of places.
+    pub(crate) fn is_full(&self, node: &Node) -> bool
+        ensures { result ≡ is_full self.now.state node.now }
+    {
+        self.roster.len() >= 256 || (!self.boots.knows(node) && self.boots.len() >= 65536)
+    }
+
+    /// For how many members there is room.
+    pub(crate) fn room(&self) -> usize
+        ensures { result ≡ self.now.room }
+    {
+        self.roster.room()
+    }
+
+    /// Makes room for one member more.
+    pub(crate) fn reserve(&mut self) -> Result<(), OutOfMemory>
+        ensures state { self.new.state ≡ self.old.state }
+        ensures room { self.old.room ≤ self.new.room }
+        ensures ok { OnOk result (length self.old.state.members < self.new.room) }
+        ensures most { self.new.room ≤ max self.old.room (length self.old.state.members + 1) }
+    {
+        self.roster.reserve()?;
+        Ok(())
+    }
+
+    /// A host joins, for which there is room; `spare` is a copy of it.
+    pub(crate) fn join(
+        &mut self,
+        host: HostInfo,
+        spare: HostInfo,
+        now: u64,
+    ) -> Result<(), OutOfMemory>
+        requires room { length self.old.state.members < self.old.room }
+        requires places { is_full self.old.state host.member.node ≡ false }
+        requires free { of_node self.old.state.members host.member.node ≡ None }
+        requires copy { spare ≡ host }
+        ensures ok { OnOk result (self.new ≡ with_state self.old (with_joined self.old.state host now)) }
+        ensures err { OnErr result (self.new ≡ self.old) }
+    {
+        self.boots.put(host.member)?;
+        self.roster.join(host, spare, now);
+        self.dirty = true;
+        Ok(())
+    }
+
+    /// Drops each member that was not heard for 10,000 milliseconds, lists it, and counts them.
+    pub(crate) fn drop_late(&mut self, removed: &mut MemberList, now: u64) -> u32
+        requires { length removed.old.members + length self.old.state.members ≤ removed.old.room }
+        ensures state { self.new ≡ with_state self.old (drop_late self.old.state now).state }
+        ensures late { removed.new.members ≡ removed.old.members ++ late_of self.old.state.members now }
+        ensures count { result ≡ length (late_of self.old.state.members now) }
+        ensures room { removed.old.room ≤ removed.new.room }
+    {
+        let before = self.roster.len();
+        self.roster.drop_late(removed, now);
+        let dropped = before - self.roster.len();
+        if dropped > 0 {
+            self.dirty = true;
+        }
+        dropped
+    }
+
+    /// The restart; where no round has ever started it is the opening state.
+    pub(crate) fn restart(&mut self, now: u64)
+        ensures { self.new ≡ with_state self.old (placement_restarted self.old.state now) }
+    {
+        if self.next_version == 1 {
+            self.roster.clear();
+            self.boots.clear();
+            self.phase = RoundPhase::Quiet;
+            self.dirty = false;
+        } else {
+            self.roster.restart(now);
+            self.phase = RoundPhase::Quiet;
+            self.dirty = true;
+            self.settle();
+        }
+    }
+    /// Equal rounds, with the same room.
+    pub(crate) fn copy(&self, alloc: Global) -> Result<Rounds, OutOfMemory>
+        ensures { IfOk result (λ copy. copy ≡ self.now) }
+    {
+        let boots = self.boots.copy(alloc)?;
+        let roster = self.roster.copy(alloc)?;
+        Ok(Rounds {
+            next_version: self.next_version,
+            boots,
+            roster,
+            phase: self.phase,
+            dirty: self.dirty,
+        })
+    }
+}
