@@ -146,14 +146,3 @@ kept_with keys cells calls events place cell kept room within =
       within = All-set (IsCellWithin (length calls) (events + 1)) cells place cell within
           (All-weaker (IsCellWithin (length calls) events) (IsCellWithin (length calls) (events + 1)) (λ c w. later_within (length calls) events (length calls) (events + 1) c (omega arith) (omega arith) w) cells kept.within);
     }
-
--- and when an event has come that changes nothing
-pub kept_next : (keys : List (List ℕ)) (cells : List CellState) (calls : List (Option ℕ)) (events : ℕ) → IsWorldKept keys cells calls events → events < 2 ^ 62 → IsWorldKept keys cells calls (events + 1)
-kept_next keys cells calls events kept room =
-    record {
-      counted = omega arith;
-      each_cell = kept.each_cell;
-      distinct = kept.distinct;
-      placed = kept.placed;
-      within = All-weaker (IsCellWithin (length calls) events) (IsCellWithin (length calls) (events + 1)) (λ c w. later_within (length calls) events (length calls) (events + 1) c (omega arith) (omega arith) w) cells kept.within;
-    }
