@@ -1,4 +1,5 @@
 pub mod LineLemmas
+pub mod CountLemmas
 pub mod RosterLemmas
 pub mod PlaceLemmas
 pub mod TypeLemmas

@@ -73,6 +73,9 @@ call_line past words =
 abbrev pub only_number : ℕ → List Word → Result ℕ ℕ
 only_number past words = next_as number_in past words >>= λ number. ending_with number.0 number.1
 
+abbrev pub end_line : ℕ → List Word → Result ScriptLine ℕ
+end_line past words = only_number past words >>= λ call. Ok (Does (End call))
+
 abbrev pub only_key : ℕ → List Word → Result (List ℕ) ℕ
 only_key past words = next_as key_in past words >>= λ key. ending_with key.0 key.1
 
@@ -94,7 +97,7 @@ setting_by past first words =
 abbrev pub line_by : Bool → ℕ → List ℕ → List Word → Result ScriptLine ℕ
 line_by late past first words =
     if bytes_eq first (codes "call") then call_line past words else (
-    if bytes_eq first (codes "end") then (only_number past words >>= λ call. Ok (Does (End call))) else (
+    if bytes_eq first (codes "end") then end_line past words else (
     if bytes_eq first (codes "poll") then (only_number past words >>= λ call. Ok (Does (Poll call))) else (
     if bytes_eq first (codes "hold") then (only_key past words >>= λ key. Ok (Does (Hold key))) else (
     if bytes_eq first (codes "release") then (only_key past words >>= λ key. Ok (Does (Release key))) else (

@@ -2,7 +2,7 @@
 ghost use Rattle.std.specs.Prelude.{◌≡◌, ◌<◌, ◌∷◌, length, IfSome, IfNone};
 ghost use Rattle.actors_top.specs.Lines.{IsFirstByte, LacksByte, lines_of};
 
-use memchr::memchr;
+use memchr::{memchr, memchr_iter};
 
 const LINE_FEED: u8 = 10;
 
@@ -23,5 +23,21 @@ pub(crate) fn next_line(text: &[u8]) -> (&[u8], &[u8])
     match find_byte(text, LINE_FEED) {
         Some(end) => (&text[..end], &text[end + 1..]),
         None => (text, &text[text.len()..]),
+    }
+}
+
+/// How many lines a text has: its line feeds, and one more where something stands behind the last of them.
+#[tactic(auto, using(crate::proofs::CountLemmas::lines_closed, crate::proofs::CountLemmas::lines_unclosed))]
+pub(crate) fn count_lines(text: &[u8]) -> usize
+    ensures { result ≡ length (lines_of text.now) }
+{
+    if text.is_empty() {
+        return 0;
+    }
+    let ends = memchr_iter(LINE_FEED, text).count();
+    if text[text.len() - 1] == LINE_FEED {
+        ends
+    } else {
+        ends + 1
     }
 }

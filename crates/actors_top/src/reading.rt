@@ -1,7 +1,7 @@
 // What a line of a script says.
 ghost use Rattle.std.specs.Prelude.{◌≡◌, option_copied};
 ghost use Rattle.actors_top.specs.Told.{Gives, GivesValue, Ends, words_left, event_told, line_told};
-ghost use Rattle.actors_top.specs.Reading.{Does, next_as, number_in, depth_in, key_in, kind_in, chain_in, chain_clause, call_line, only_number, only_key, reentrant_line, setting_by, line_by, read_line};
+ghost use Rattle.actors_top.specs.Reading.{Does, next_as, number_in, depth_in, key_in, kind_in, chain_in, chain_clause, call_line, end_line, only_number, only_key, reentrant_line, setting_by, line_by, read_line};
 
 use crate::depth::Depth;
 use crate::event::Event;
@@ -133,6 +133,14 @@ fn call_line<'a>(past: u64, words: Words<'a>) -> Result<ScriptLine<'a>, u64>
     Ok(does(Event::Call { number, key, chain }))
 }
 
+/// Behind `end`: the number of a call.
+fn end_line<'a>(past: u64, words: Words<'a>) -> Result<ScriptLine<'a>, u64>
+    ensures { GivesValue line_told result (end_line past (words_left words.entry)) }
+{
+    let call = only_number(past, words)?;
+    Ok(does(Event::End { call }))
+}
+
 /// A number and nothing more.
 fn only_number(past: u64, words: Words<'_>) -> Result<u64, u64>
     ensures { GivesValue (λ n. n) result (only_number past (words_left words.entry)) }
@@ -187,8 +195,7 @@ fn line_by<'a>(late: bool, past: u64, first: &[u8], words: Words<'a>) -> Result<
         return call_line(past, words);
     }
     if first == b"end".as_slice() {
-        let call = only_number(past, words)?;
-        return Ok(does(Event::End { call }));
+        return end_line(past, words);
     }
     if first == b"poll".as_slice() {
         let call = only_number(past, words)?;
@@ -219,6 +226,13 @@ pub(crate) fn read_line(line: &[u8], late: bool) -> Result<ScriptLine<'_>, u64>
         return Ok(ScriptLine::Blank);
     }
     let past = line.len() as u64 + 1;
-    let (first, words) = Words::new(line).next().ok_or(past)?;
-    line_by(late, past, first.text, words)
+    // The two events that come most often are known by their first bytes.
+    match line {
+        [b'c', b'a', b'l', b'l', b' ', rest @ ..] => call_line(past, Words::from_column(rest, 6)),
+        [b'e', b'n', b'd', b' ', rest @ ..] => end_line(past, Words::from_column(rest, 5)),
+        _ => {
+            let (first, words) = Words::new(line).next().ok_or(past)?;
+            line_by(late, past, first.text, words)
+        }
+    }
 }

@@ -1,11 +1,11 @@
 // The replay of a script: its bytes are read whole, its lines run in order, and what they print is written.
-ghost use Rattle.std.specs.Prelude.{◌≡◌, ◌≢◌, ◌<◌, [], length};
+ghost use Rattle.std.specs.Prelude.{◌≡◌, ◌≢◌, ◌<◌, []};
 ghost use Rattle.actor_ports.specs.Port.{HasCause};
 ghost use Rattle.actors_top.specs.Lines.{lines_of};
 ghost use Rattle.actors_top.specs.Replay.{new_script, run_lines, replay_of};
 ghost use Rattle.actors_top.specs.ReplayTold.{Prints, ReadsAll, RefusesLine, WritesAs, RunEnds, Replays};
 
-use crate::lines::next_line;
+use crate::lines::{count_lines, next_line};
 use crate::script::{LineEnd, Script};
 use crate::status::Status;
 use crate::transcript::Transcript;
@@ -32,20 +32,6 @@ fn read_all<I: Source>(input: &mut I, bytes: &mut Vec<u8>) -> Result<(), PortErr
         }
     }
     Ok(())
-}
-
-/// How many lines a text has.
-fn count_lines(text: &[u8]) -> usize
-    ensures { result ≡ length (lines_of text.now) }
-{
-    let mut count = 0;
-    let mut rest = text;
-    while !rest.is_empty() {
-        let (_line, behind) = next_line(rest);
-        rest = behind;
-        count += 1;
-    }
-    count
 }
 
 /// Runs the lines of a script up to the first that is refused.

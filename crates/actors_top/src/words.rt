@@ -23,7 +23,7 @@ pub(crate) struct Words<'a> {
 }
 
 impl<'a> Words<'a> {
-    ghost use Rattle.std.specs.Prelude.{◌≡◌, ◌≤◌, ◌∷◌, [], length, MatchOption};
+    ghost use Rattle.std.specs.Prelude.{◌≡◌, ◌+◌, ◌≤◌, ◌∷◌, [], length, MatchOption};
     ghost use Rattle.actors_top.specs.Lines.{words_from};
     ghost use Rattle.actors_top.specs.Told.{words_left, word_told};
 
@@ -35,6 +35,17 @@ impl<'a> Words<'a> {
         Words {
             rest: Some(line),
             column: 1,
+        }
+    }
+
+    /// The words of what stands in a line from this column on.
+    pub(crate) fn from_column(rest: &'a [u8], column: u64) -> Words<'a>
+        requires { column + length rest.now ≤ 4097 }
+        ensures { words_left result ≡ words_from column rest.now }
+    {
+        Words {
+            rest: Some(rest),
+            column,
         }
     }
 

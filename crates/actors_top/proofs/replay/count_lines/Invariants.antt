@@ -1,9 +1,0 @@
-use Rattle.std.proofs.Common.{◌≡◌, ◌+◌, ◌≤◌, length}
-use Rattle.actors_top.specs.Lines.{lines_of}
-use Rattle.actors_top.proofs.replay.count_lines.Given as goal
-
-abbrev pub invariant-loop-rest : goal.invariant-loop-rest
-invariant-loop-rest l = record { counted : l.count + length (lines_of l.rest) ≡ length (lines_of l.text); within : l.count + length l.rest ≤ length l.text }
-
-abbrev pub decreases-loop-rest : goal.decreases-loop-rest
-decreases-loop-rest l = length l.rest
