@@ -1,0 +1,4 @@
+mod Places
+mod Ascending
+mod Shelves
+mod Rows
