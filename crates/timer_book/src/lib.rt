@@ -18,3 +18,6 @@ pub use entry::{DueTimer, TimerEntry};
 pub use error::TimerError;
 pub use text::TimerText;
 pub use timer::Timer;
+
+#[cfg(test)]
+mod tests;
