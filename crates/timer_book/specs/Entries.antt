@@ -1,5 +1,5 @@
 -- Timers in order of type, id and name. Own; timers follow the Actors API reference of Dapr.
-use Rattle.std.specs.Prelude.{◌≡◌, ℕ, suc, Bool, false, not, ◌&&◌, ◌||◌, ◌==◌, nat_lt, nat_le, if◌then◌else◌, List, [], ◌∷◌, length, filter, slice_get, ◌<◌, bytes_eq, Option, None, Some, Result, Ok, Err}
+use Rattle.std.specs.Prelude.{true, ◌⊎◌, ◌≡◌, ℕ, suc, Bool, false, not, ◌&&◌, ◌||◌, ◌==◌, nat_lt, nat_le, if◌then◌else◌, List, [], ◌∷◌, length, filter, slice_get, ◌<◌, bytes_eq, Option, None, Some, Result, Ok, Err}
 use Rattle.std.specs.declared.cmp.Ordering.{Ordering}
 use Rattle.std.specs.declared.cmp.Ordering.TheVariants.{Less, Equal, Greater}
 use Rattle.std.specs.Ordering.{nat_cmp, is_eq, is_lt}
@@ -27,6 +27,14 @@ is_at place e = is_eq (place_cmp (entry_place e) place)
 
 abbrev pub is_of : ActorKey → TimerEntry → Bool
 is_of key e = bytes_eq e.key.kind key.kind && bytes_eq e.key.id key.id
+
+-- what the timers of an actor are ordered by first
+abbrev pub actor_place : ActorKey → List (List ℕ)
+actor_place key = key.kind ∷ key.id ∷ []
+
+-- before every timer of the actor
+abbrev pub is_before_actor : ActorKey → TimerEntry → Bool
+is_before_actor key e = is_lt (place_cmp (actor_place e.key) (actor_place key))
 
 -- ---- one timer
 
@@ -123,3 +131,22 @@ IsIndex xs (Some i) = i < length xs
 abbrev pub entry_of_index : List TimerEntry → Option ℕ → Option TimerEntry
 entry_of_index xs None = None
 entry_of_index xs (Some i) = slice_get xs i
+
+-- ---- what the definitions are held to
+
+abbrev pub IsAmong : TimerEntry → List TimerEntry → Type 0
+IsAmong e [] = ⊥
+IsAmong e (x ∷ xs) = (e ≡ x) ⊎ IsAmong e xs
+
+-- none of those that wait is to fire earlier
+abbrev pub NoneEarlier : ℕ → TimerEntry → List TimerEntry → Type 0
+NoneEarlier now e [] = Unit {0}
+NoneEarlier now e (x ∷ xs) = (is_waiting now x ≡ true → is_earlier x e ≡ false) × NoneEarlier now e xs
+
+abbrev pub NoneWaits : ℕ → List TimerEntry → Type 0
+NoneWaits now [] = Unit {0}
+NoneWaits now (x ∷ xs) = (is_waiting now x ≡ false) × NoneWaits now xs
+
+-- one of the timers, it waits, and none that waits is to fire earlier
+abbrev pub IsFirstDue : ℕ → TimerEntry → List TimerEntry → Type 0
+IsFirstDue now e xs = IsAmong e xs × (is_waiting now e ≡ true) × NoneEarlier now e xs

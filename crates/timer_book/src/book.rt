@@ -1,6 +1,7 @@
 // The book of an actor host's timers.
 ghost use Rattle.std.specs.Prelude.{◌≡◌, ◌+◌, IfOk, OnOk, OnErr, IfErr, IfSome};
 ghost use Rattle.timer_book.specs.declared.error.TimerError.TheVariants.{OutOfMemory};
+ghost use Rattle.timer_book.specs.Entries.{Ascends};
 ghost use Rattle.timer_book.specs.Book.{new_book, set_refusal, or_memory, set_timer, has_timer, delete_timer, due_timer, is_registered, start_timer, finish_next, finish_timer, drop_timers};
 
 use crate::entry::{DueTimer, new_entry};
@@ -50,6 +51,13 @@ impl TimerBook {
         }
     }
 
+    // The timers are in order, each key and name once.
+    pub(crate) fn in_order(&self)
+        ensures { Ascends self.now.timers }
+    {
+        self.timers.in_order();
+    }
+
     // Why a registration is refused, want of memory aside.
     fn refusal(&self, key: &ActorKey, name: &RecordName) -> Option<TimerError>
         ensures { result ≡ set_refusal self.now key.now name.now }
@@ -85,7 +93,7 @@ impl TimerBook {
         let number = self.drawn + 1;
         match timer.schedule.first {
             None => {
-                let _was = self.timers.remove(key, name);
+                let _was = self.delete(key, name);
             }
             Some(first) => {
                 let entry = new_entry(self.alloc, key, name, number, first, timer)?;

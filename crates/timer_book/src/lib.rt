@@ -7,6 +7,7 @@
 mod book;
 mod entry;
 mod error;
+mod law;
 mod order;
 mod scan;
 mod shelf;
@@ -16,6 +17,7 @@ mod timer;
 pub use book::{MOST_TIMERS, TimerBook};
 pub use entry::{DueTimer, TimerEntry};
 pub use error::TimerError;
+pub use law::timer_law;
 pub use text::TimerText;
 pub use timer::Timer;
 

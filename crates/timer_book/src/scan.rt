@@ -1,23 +1,27 @@
 // What is looked for in all timers.
 ghost use Rattle.std.specs.Prelude.{◌≡◌, ◌<◌, ℕ, Some, length, slice_get};
 ghost use Rattle.timer_book.specs.declared.entry.TimerEntry.{TimerEntry};
-ghost use Rattle.timer_book.specs.Entries.{count_of, due_entry, earlier_of, entry_of_index, IsIndex};
+ghost use Rattle.timer_book.specs.Entries.{count_of, due_entry, earlier_of, entry_of_index, IsIndex, Ascends};
 
 use crate::entry::TimerEntry;
+use crate::order::actor_index;
 use actor_names::ActorKey;
 use schedule_text::Moment;
 
-/// How many timers the actor has.
+/// How many timers the actor has; they stand together.
 pub(crate) fn count_timers(entries: &[TimerEntry], key: &ActorKey) -> usize
+    requires { Ascends entries.now }
     ensures { result ≡ count_of key.now entries.now }
 {
+    let first = actor_index(entries, key);
     let mut count = 0;
-    let mut at = entries.len();
-    while at > 0 {
-        at -= 1;
-        if entries[at].is_of(key) {
-            count += 1;
+    let mut at = first;
+    while at < entries.len() {
+        if !entries[at].is_of(key) {
+            return count;
         }
+        count += 1;
+        at += 1;
     }
     count
 }

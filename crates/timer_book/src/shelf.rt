@@ -1,7 +1,7 @@
 // The timers of a book, in order of key and name.
 ghost use Rattle.std.specs.Prelude.{◌≡◌, ◌<◌, [], Some, length, is_some, IfOk, OnOk, OnErr, option_copied, slice_get};
 ghost use Rattle.timer_book.specs.declared.entry.TimerEntry.{TimerEntry};
-ghost use Rattle.timer_book.specs.Entries.{timer_place, entry_at, put_entry, without_entry, count_of, without_actor, due_entry};
+ghost use Rattle.timer_book.specs.Entries.{timer_place, entry_at, put_entry, without_entry, count_of, without_actor, due_entry, Ascends};
 ghost use Rattle.timer_book.specs.Book.{registered, started_entry, finished_entry, fired_entry, next_after};
 
 use crate::entry::TimerEntry;
@@ -38,6 +38,13 @@ impl Shelf {
         Shelf {
             entries: Vec::new(alloc),
         }
+    }
+
+    /// The timers are in order, each key and name once.
+    pub(crate) fn in_order(&self)
+        ensures { Ascends self.now }
+    {
+        let _entries = self.entries.as_slice();
     }
 
     /// How many timers the actor has.
@@ -126,7 +133,8 @@ impl Shelf {
     {
         match timer_index(&self.entries, key, name) {
             Ok(at) => {
-                if self.entries[at].number != number {
+                let drawn = self.entries[at].number;
+                if drawn != number {
                     return false;
                 }
                 let entry = &mut self.entries[at];

@@ -6,16 +6,16 @@ use Rattle.timer_book.proofs.Places.{ok_within}
 use Rattle.timer_book.proofs.Shelves.{read, kept_order, put_own, gone, registered_is, other_number}
 use Rattle.timer_book.proofs.shelf.Shelf.start.Goals as goal
 
-pub returns-then-index-number-clause-there : goal.returns-then-index-number-clause-there
-returns-then-index-number-clause-there c =
+pub returns-then-drawn-number-clause-there : goal.returns-then-drawn-number-clause-there
+returns-then-drawn-number-clause-there c =
     let p : place_in (timer_place c.args.key.now c.args.name.now) c.self.inside.entries.items ≡ Ok c.in-Ok.at = rw c.deref.ensures.value at (sym c.timer_index.ensures.place ∙ c.in-Ok.is) in
-    let other = other_number (timer_place c.args.key.now c.args.name.now) c.self.inside.entries.items c.in-Ok.at c.args.number c.index.result.now p (sym c.index.ensures) (ne_eqb c.index.result.now.number c.args.number c.if-index-number.true) in
+    let other = other_number (timer_place c.args.key.now c.args.name.now) c.self.inside.entries.items c.in-Ok.at c.args.number c.index.result.now p (sym c.index.ensures) (ne_eqb c.index.result.now.number c.args.number c.if-drawn-number.true) in
     rw (← c.self.view_is, other) refl
 
-pub returns-then-index-number-clause-started : goal.returns-then-index-number-clause-started
-returns-then-index-number-clause-started c =
+pub returns-then-drawn-number-clause-started : goal.returns-then-drawn-number-clause-started
+returns-then-drawn-number-clause-started c =
     let p : place_in (timer_place c.args.key.now c.args.name.now) c.self.inside.entries.items ≡ Ok c.in-Ok.at = rw c.deref.ensures.value at (sym c.timer_index.ensures.place ∙ c.in-Ok.is) in
-    let other = other_number (timer_place c.args.key.now c.args.name.now) c.self.inside.entries.items c.in-Ok.at c.args.number c.index.result.now p (sym c.index.ensures) (ne_eqb c.index.result.now.number c.args.number c.if-index-number.true) in
+    let other = other_number (timer_place c.args.key.now c.args.name.now) c.self.inside.entries.items c.in-Ok.at c.args.number c.index.result.now p (sym c.index.ensures) (ne_eqb c.index.result.now.number c.args.number c.if-drawn-number.true) in
     rw (← c.self.view_is, other) refl
 
 pub invariant_of-self : goal.invariant_of-self
@@ -25,20 +25,20 @@ invariant_of-self c =
     let is = read c.self.inside.entries.items c.in-Ok.at c.index_mut-entry.result.now lt c.index_mut-entry.ensures.value in
     kept_order c.self.inside.entries.items c.in-Ok.at c.index_mut-entry.result.now c.self.invariant is _ refl
 
-pub returns-else-index-number-clause-there : goal.returns-else-index-number-clause-there
-returns-else-index-number-clause-there c =
+pub returns-else-drawn-number-clause-there : goal.returns-else-drawn-number-clause-there
+returns-else-drawn-number-clause-there c =
     let p : place_in (timer_place c.args.key.now c.args.name.now) c.self.inside.entries.items ≡ Ok c.in-Ok.at = rw c.deref.ensures.value at (sym c.timer_index.ensures.place ∙ c.in-Ok.is) in
-    let found = registered_is (timer_place c.args.key.now c.args.name.now) c.self.inside.entries.items c.in-Ok.at c.args.number c.index.result.now p (sym c.index.ensures) c.if-index-number.false in
+    let found = registered_is (timer_place c.args.key.now c.args.name.now) c.self.inside.entries.items c.in-Ok.at c.args.number c.index.result.now p (sym c.index.ensures) c.if-drawn-number.false in
     rw (← c.self.view_is, found) refl
 
-pub returns-else-index-number-clause-started : goal.returns-else-index-number-clause-started
-returns-else-index-number-clause-started c =
+pub returns-else-drawn-number-clause-started : goal.returns-else-drawn-number-clause-started
+returns-else-drawn-number-clause-started c =
     let p : place_in (timer_place c.args.key.now c.args.name.now) c.self.inside.entries.items ≡ Ok c.in-Ok.at = rw c.deref.ensures.value at (sym c.timer_index.ensures.place ∙ c.in-Ok.is) in
     let lt = ok_within (timer_place c.args.key.now c.args.name.now) c.self.inside.entries.items c.in-Ok.at p in
     let first = read c.self.inside.entries.items c.in-Ok.at c.index.result.now lt c.index.ensures in
     let is = read c.self.inside.entries.items c.in-Ok.at c.index_mut-entry.result.now lt c.index_mut-entry.ensures.value in
     let same : c.index.result.now ≡ c.index_mut-entry.result.now = cc in
-    let found : of_number c.args.number (entry_at (timer_place c.args.key.now c.args.name.now) c.self.inside.entries.items) ≡ Some c.index_mut-entry.result.now = rw (← same) (registered_is (timer_place c.args.key.now c.args.name.now) c.self.inside.entries.items c.in-Ok.at c.args.number c.index.result.now p (sym c.index.ensures) c.if-index-number.false) in
+    let found : of_number c.args.number (entry_at (timer_place c.args.key.now c.args.name.now) c.self.inside.entries.items) ≡ Some c.index_mut-entry.result.now = rw (← same) (registered_is (timer_place c.args.key.now c.args.name.now) c.self.inside.entries.items c.in-Ok.at c.args.number c.index.result.now p (sym c.index.ensures) c.if-drawn-number.false) in
     rw (← c.self.view_is, found) (put_own c.self.inside.entries.items c.in-Ok.at c.index_mut-entry.result.now c.self.invariant is _ refl)
 
 pub returns-in-Err-clause-there : goal.returns-in-Err-clause-there
