@@ -1,0 +1,7 @@
+mod Places
+mod Ascending
+mod Maps
+mod Firsts
+mod Actors
+mod Shelves
+mod Rows

@@ -1,0 +1,20 @@
+use Rattle.std.proofs.Common.{not}
+use Rattle.timer_book.specs.declared.entry.TimerEntry.{TimerEntry}
+use Rattle.timer_book.specs.Entries.{timer_place, is_of}
+use Rattle.timer_book.proofs.Maps.{put-there, put-others, without-gone, without-others, filter-gone, filter-others}
+use Rattle.timer_book.proofs.Actors.{at_of, at_other}
+use Rattle.timer_book.proofs.Firsts.{due-first, none_waits}
+use Rattle.timer_book.proofs.law.timer_law.Goals as goal
+
+pub returns : goal.returns
+returns c = record {
+  order = c.in_order.ensures;
+  put = put-there;
+  put_others = put-others;
+  removed = without-gone;
+  removed_others = without-others;
+  dropped = λ key name xs. filter-gone (λ (e : TimerEntry). not (is_of key e)) (timer_place key name) xs (λ x. at_of key name x);
+  dropped_others = λ key other name xs apart. filter-others (λ (e : TimerEntry). not (is_of other e)) (timer_place key name) xs (λ x. at_other key name x other apart);
+  due = due-first;
+  none_due = none_waits;
+}

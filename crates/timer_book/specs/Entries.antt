@@ -1,0 +1,152 @@
+-- Timers in order of type, id and name. Own; timers follow the Actors API reference of Dapr.
+use Rattle.std.specs.Prelude.{true, ◌⊎◌, ◌≡◌, ℕ, suc, Bool, false, not, ◌&&◌, ◌||◌, ◌==◌, nat_lt, nat_le, if◌then◌else◌, List, [], ◌∷◌, length, filter, slice_get, ◌<◌, bytes_eq, Option, None, Some, Result, Ok, Err}
+use Rattle.std.specs.declared.cmp.Ordering.{Ordering}
+use Rattle.std.specs.declared.cmp.Ordering.TheVariants.{Less, Equal, Greater}
+use Rattle.std.specs.Ordering.{nat_cmp, is_eq, is_lt}
+use Rattle.std.specs.Cmp.Lexicographic.{slice_cmp}
+use Rattle.actor_names.specs.declared.actor_key.ActorKey.{ActorKey}
+use Rattle.schedule_text.specs.declared.advance.Next.{Next}
+use Rattle.schedule_text.specs.Firing.{next_firing}
+use Rattle.timer_book.specs.declared.timer.Timer.{Timer}
+use Rattle.timer_book.specs.declared.entry.TimerEntry.{TimerEntry}
+use Rattle.timer_book.specs.declared.entry.DueTimer.{DueTimer}
+
+-- what a timer is ordered by: the type, the id and the name
+abbrev pub timer_place : ActorKey → List ℕ → List (List ℕ)
+timer_place key name = key.kind ∷ key.id ∷ name ∷ []
+
+abbrev pub entry_place : TimerEntry → List (List ℕ)
+entry_place e = timer_place e.key e.name
+
+-- the first that differs decides, in byte order
+abbrev pub place_cmp : List (List ℕ) → List (List ℕ) → Ordering
+place_cmp a b = slice_cmp (slice_cmp nat_cmp) a b
+
+abbrev pub is_at : List (List ℕ) → TimerEntry → Bool
+is_at place e = is_eq (place_cmp (entry_place e) place)
+
+abbrev pub is_of : ActorKey → TimerEntry → Bool
+is_of key e = bytes_eq e.key.kind key.kind && bytes_eq e.key.id key.id
+
+-- what the timers of an actor are ordered by first
+abbrev pub actor_place : ActorKey → List (List ℕ)
+actor_place key = key.kind ∷ key.id ∷ []
+
+-- before every timer of the actor
+abbrev pub is_before_actor : ActorKey → TimerEntry → Bool
+is_before_actor key e = is_lt (place_cmp (actor_place e.key) (actor_place key))
+
+-- ---- one timer
+
+-- a registration that fires first at a moment
+abbrev pub new_entry : ActorKey → List ℕ → ℕ → ℕ → Timer → TimerEntry
+new_entry key name number first timer =
+    record { key = key; name = name; number = number; moment = first; left = timer.schedule.left; running = false; timer = timer }
+
+-- what follows the firing whose callback ended then
+abbrev pub next_of : TimerEntry → ℕ → Next
+next_of e ended = next_firing (record e.timer.schedule { left = e.left }) ended ended
+
+abbrev pub due_of : TimerEntry → DueTimer
+due_of e = record { key = e.key; name = e.name; number = e.number; moment = e.moment; timer = e.timer }
+
+-- to fire by now, and not running
+abbrev pub is_waiting : ℕ → TimerEntry → Bool
+is_waiting now e = not e.running && nat_le e.moment now
+
+-- by moment, then by key and name
+abbrev pub is_earlier : TimerEntry → TimerEntry → Bool
+is_earlier a b = nat_lt a.moment b.moment || ((a.moment == b.moment) && is_lt (place_cmp (entry_place a) (entry_place b)))
+
+-- ---- timers in order, a key and name once
+
+-- before each of the timers
+abbrev pub IsBelowAll : List (List ℕ) → List TimerEntry → Type 0
+IsBelowAll place [] = Unit {0}
+IsBelowAll place (x ∷ xs) = (place_cmp place (entry_place x) ≡ Less) × IsBelowAll place xs
+
+abbrev pub Ascends : List TimerEntry → Type 0
+Ascends [] = Unit {0}
+Ascends (x ∷ xs) = IsBelowAll (entry_place x) xs × Ascends xs
+
+abbrev pub one_more : Result ℕ ℕ → Result ℕ ℕ
+one_more (Ok i) = Ok (suc i)
+one_more (Err i) = Err (suc i)
+
+abbrev pub place_from : Ordering → Result ℕ ℕ → Result ℕ ℕ
+place_from Less later = one_more later
+place_from Equal later = Ok 0
+place_from Greater later = Err 0
+
+-- the index of a place, or the one where it is to stand
+abbrev pub place_in : List (List ℕ) → List TimerEntry → Result ℕ ℕ
+place_in place [] = Err 0
+place_in place (x ∷ xs) = place_from (place_cmp (entry_place x) place) (place_in place xs)
+
+-- the timer of a place
+abbrev pub entry_at : List (List ℕ) → List TimerEntry → Option TimerEntry
+entry_at place [] = None
+entry_at place (x ∷ xs) = if is_at place x then Some x else entry_at place xs
+
+abbrev pub put_by : Ordering → TimerEntry → TimerEntry → List TimerEntry → List TimerEntry → List TimerEntry
+put_by Less e x xs later = x ∷ later
+put_by Equal e x xs later = e ∷ xs
+put_by Greater e x xs later = e ∷ x ∷ xs
+
+-- a timer put in its place, in the stead of one of its key and name
+abbrev pub put_entry : TimerEntry → List TimerEntry → List TimerEntry
+put_entry e [] = e ∷ []
+put_entry e (x ∷ xs) = put_by (place_cmp (entry_place x) (entry_place e)) e x xs (put_entry e xs)
+
+-- without the timer of a place
+abbrev pub without_entry : List (List ℕ) → List TimerEntry → List TimerEntry
+without_entry place [] = []
+without_entry place (x ∷ xs) = if is_at place x then xs else x ∷ without_entry place xs
+
+-- how many timers an actor has
+abbrev pub count_of : ActorKey → List TimerEntry → ℕ
+count_of key [] = 0
+count_of key (x ∷ xs) = if is_of key x then suc (count_of key xs) else count_of key xs
+
+-- without the timers of an actor
+abbrev pub without_actor : ActorKey → List TimerEntry → List TimerEntry
+without_actor key xs = filter (λ e. not (is_of key e)) xs
+
+-- the earlier of a timer and what was found behind it
+abbrev pub earlier_of : TimerEntry → Option TimerEntry → Option TimerEntry
+earlier_of e None = Some e
+earlier_of e (Some f) = if is_earlier e f then Some e else Some f
+
+-- of those that wait the one that is to fire first
+abbrev pub due_entry : ℕ → List TimerEntry → Option TimerEntry
+due_entry now [] = None
+due_entry now (x ∷ xs) = if is_waiting now x then earlier_of x (due_entry now xs) else due_entry now xs
+
+-- ---- timers by their index
+
+abbrev pub IsIndex : List TimerEntry → Option ℕ → Type 0
+IsIndex xs None = Unit {0}
+IsIndex xs (Some i) = i < length xs
+
+abbrev pub entry_of_index : List TimerEntry → Option ℕ → Option TimerEntry
+entry_of_index xs None = None
+entry_of_index xs (Some i) = slice_get xs i
+
+-- ---- what the definitions are held to
+
+abbrev pub IsAmong : TimerEntry → List TimerEntry → Type 0
+IsAmong e [] = ⊥
+IsAmong e (x ∷ xs) = (e ≡ x) ⊎ IsAmong e xs
+
+-- none of those that wait is to fire earlier
+abbrev pub NoneEarlier : ℕ → TimerEntry → List TimerEntry → Type 0
+NoneEarlier now e [] = Unit {0}
+NoneEarlier now e (x ∷ xs) = (is_waiting now x ≡ true → is_earlier x e ≡ false) × NoneEarlier now e xs
+
+abbrev pub NoneWaits : ℕ → List TimerEntry → Type 0
+NoneWaits now [] = Unit {0}
+NoneWaits now (x ∷ xs) = (is_waiting now x ≡ false) × NoneWaits now xs
+
+-- one of the timers, it waits, and none that waits is to fire earlier
+abbrev pub IsFirstDue : ℕ → TimerEntry → List TimerEntry → Type 0
+IsFirstDue now e xs = IsAmong e xs × (is_waiting now e ≡ true) × NoneEarlier now e xs

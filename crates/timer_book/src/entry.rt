@@ -1,0 +1,133 @@
+// One timer of a book.
+ghost use Rattle.std.specs.Prelude.{◌≡◌, ◌<◌, IfOk};
+ghost use Rattle.schedule_text.specs.Range.{end_of_time};
+ghost use Rattle.timer_book.specs.Entries.{due_of, is_of, is_waiting, is_earlier, next_of, new_entry};
+
+use crate::order::timer_cmp;
+use crate::timer::Timer;
+use actor_names::{ActorKey, OutOfMemory, RecordName};
+use schedule_text::{Moment, Next, Schedule};
+use std::alloc::Global;
+use std::cmp::Ordering;
+
+/// A registered timer, as a book has it.
+#[derive(Debug, Drop)]
+pub struct TimerEntry {
+    /// The actor.
+    pub key: ActorKey,
+    /// The name among the actor's timers.
+    pub name: RecordName,
+    /// The number of the registration.
+    pub number: u64,
+    /// When it fires next.
+    pub moment: Moment,
+    /// How many firings are allowed from that one on; without it any number is.
+    pub left: Option<u32>,
+    /// Whether its callback runs.
+    pub running: bool,
+    /// What was registered.
+    pub timer: Timer,
+}
+
+/// A timer that is due.
+#[derive(Debug, Drop)]
+pub struct DueTimer {
+    /// The actor.
+    pub key: ActorKey,
+    /// The name among the actor's timers.
+    pub name: RecordName,
+    /// The number of the registration, by which `started` and `finished` know it.
+    pub number: u64,
+    /// When it was to fire.
+    pub moment: Moment,
+    /// What was registered.
+    pub timer: Timer,
+}
+
+impl TimerEntry {
+    /// Whether it is a timer of this actor.
+    pub(crate) fn is_of(&self, key: &ActorKey) -> bool
+        ensures { result ≡ is_of key.now self.now }
+    {
+        self.key.kind.as_slice() == key.kind.as_slice()
+            && self.key.id.as_slice() == key.id.as_slice()
+    }
+
+    /// Whether it is to fire at `now`, and doesn't run.
+    pub(crate) fn is_waiting(&self, now: Moment) -> bool
+        ensures { result ≡ is_waiting now self.now }
+    {
+        !self.running && self.moment.nanos() <= now.nanos()
+    }
+
+    /// Whether it fires before the other: by moment, then by key and name.
+    pub(crate) fn is_earlier(&self, other: &TimerEntry) -> bool
+        ensures { result ≡ is_earlier self.now other.now }
+    {
+        let moment = self.moment.nanos();
+        let limit = other.moment.nanos();
+        if moment < limit {
+            return true;
+        }
+        if limit < moment {
+            return false;
+        }
+        match timer_cmp(self, &other.key, &other.name) {
+            Ordering::Less => true,
+            _ => false,
+        }
+    }
+
+    /// What follows a firing whose callback ended at this moment.
+    pub(crate) fn next(&self, ended: Moment) -> Next
+        ensures { result ≡ next_of self.now ended }
+    {
+        let schedule = Schedule {
+            first: self.timer.schedule.first,
+            period: self.timer.schedule.period,
+            left: self.left,
+            end: self.timer.schedule.end,
+        };
+        schedule.advance(ended, ended)
+    }
+
+    /// What is told of it when it is due.
+    pub(crate) fn due(&self, alloc: Global) -> Result<DueTimer, OutOfMemory>
+        ensures { IfOk result (λ due. due ≡ due_of self.now) }
+    {
+        let key = self.key.copy(alloc)?;
+        let name = self.name.copy(alloc)?;
+        let timer = self.timer.copy(alloc)?;
+        Ok(DueTimer {
+            key,
+            name,
+            number: self.number,
+            moment: self.moment,
+            timer,
+        })
+    }
+}
+
+/// A new timer of that number, which fires first at `first`.
+pub(crate) fn new_entry(
+    alloc: Global,
+    key: &ActorKey,
+    name: &RecordName,
+    number: u64,
+    first: Moment,
+    timer: Timer,
+) -> Result<TimerEntry, OutOfMemory>
+    ensures { IfOk result (λ entry. entry ≡ new_entry key.now name.now number first timer) }
+{
+    let key = key.copy(alloc)?;
+    let name = name.copy(alloc)?;
+    Ok(TimerEntry {
+        key,
+        name,
+        number,
+        moment: first,
+        left: timer.schedule.left,
+        running: false,
+        timer,
+    })
+}

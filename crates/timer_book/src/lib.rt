@@ -1,0 +1,25 @@
+// Timers of actors: which are registered, which is due next, and when each fires again.
+//
+// Promise: a book is a count of the numbers drawn and a list of timers in order of key and name, and each call
+// is the change of it that `specs/Book` says. Stands on `actor_names` and `schedule_text`.
+#![tactic(auto)]
+
+mod book;
+mod entry;
+mod error;
+mod law;
+mod order;
+mod scan;
+mod shelf;
+mod text;
+mod timer;
+
+pub use book::{MOST_TIMERS, TimerBook};
+pub use entry::{DueTimer, TimerEntry};
+pub use error::TimerError;
+pub use law::timer_law;
+pub use text::TimerText;
+pub use timer::Timer;
+
+#[cfg(test)]
+mod tests;
