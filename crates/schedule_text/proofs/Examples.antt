@@ -1,11 +1,11 @@
 -- Worked examples of the definitions.
 use Rattle.std.proofs.Common.{◌≡◌, Some, None, refl}
-use Rattle.std.specs.Prelude.{codes, Ok, Err}
+use Rattle.std.specs.Prelude.{codes, Ok, Err, ◌∷◌, []}
 use Rattle.schedule_text.specs.declared.error.ScheduleError.TheVariants.{BadMoment, BadDuration, Negative, ZeroRepeats}
 use Rattle.schedule_text.specs.declared.advance.Schedule.{Schedule}
 use Rattle.schedule_text.specs.declared.advance.Next.TheVariants as next
 use Rattle.schedule_text.specs.Calendar.{date_of, date_after, days_to, months_on}
-use Rattle.schedule_text.specs.Firing.{add_period, sum_of, first_after, next_firing}
+use Rattle.schedule_text.specs.Firing.{add_period, sum_of, first_after, next_firing, firings_from, firing_list}
 use Rattle.schedule_text.specs.GoDurations.{go_nanos, term_at, terms_from}
 use Rattle.schedule_text.specs.IsoDurations.{iso_duration, iso_period, amounts_at, time_at}
 use Rattle.schedule_text.specs.Moments.{read_moment, instant_at, date_at, year_at, minutes_at, clock_at, offset_at, moment_text}
@@ -61,3 +61,37 @@ day_cut_to_the_months_last = refl
 day_stays_cut : next_firing monthly 1677542400000000000 1677542400000000000 ≡ next.At 1679961600000000000 None
 unfolding monthly add_period sum_of first_after months_on date_of date_after days_to
 day_stays_cut = refl
+
+-- 31 January 2023, 28 February, 28 March
+day_cut_in_a_list : firing_list 3 (record monthly { first = Some 1675123200000000000 }) ≡ 1675123200000000000 ∷ 1677542400000000000 ∷ 1679961600000000000 ∷ []
+unfolding monthly firings_from add_period sum_of first_after months_on date_of date_after days_to
+day_cut_in_a_list = refl
+
+no_first_no_list : firing_list 3 monthly ≡ []
+unfolding monthly firings_from
+no_first_no_list = refl
+
+-- every 90 seconds, three times, as R3/PT1M30S says
+three_times : Schedule
+three_times = record { first = Some 0; period = Some (record { months = 0; nanos = 90000000000 }); left = Some 3; «end» = None }
+
+list_ends_with_the_repetitions : firing_list 10 three_times ≡ 0 ∷ 90000000000 ∷ 180000000000 ∷ []
+unfolding three_times firings_from add_period sum_of first_after
+list_ends_with_the_repetitions = refl
+
+list_is_cut : firing_list 2 three_times ≡ 0 ∷ 90000000000 ∷ []
+unfolding three_times firings_from add_period sum_of first_after
+list_is_cut = refl
+
+end_is_no_moment : firing_list 10 (record three_times { «end» = Some 90000000000 }) ≡ 0 ∷ []
+unfolding three_times firings_from add_period sum_of first_after
+end_is_no_moment = refl
+
+-- 90 seconds before the first moment of 9999, and a second before it
+list_ends_at_the_last_moment : firing_list 10 (record three_times { first = Some 253370764710000000000 }) ≡ 253370764710000000000 ∷ []
+unfolding three_times firings_from add_period sum_of first_after
+list_ends_at_the_last_moment = refl
+
+list_reaches_the_last_second : firing_list 10 (record three_times { first = Some 253370764709000000000 }) ≡ 253370764709000000000 ∷ 253370764799000000000 ∷ []
+unfolding three_times firings_from add_period sum_of first_after
+list_reaches_the_last_second = refl

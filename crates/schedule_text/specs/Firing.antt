@@ -1,5 +1,5 @@
 -- When a schedule fires. Own; the months follow the calendar of ISO 8601.
-use Rattle.std.specs.Prelude.{◌≡◌, ℕ, zero, suc, ◌+◌, ◌-◌, ◌<◌, ◌≤◌, Bool, true, false, ◌&&◌, ◌==◌, nat_lt, nat_le, if◌then◌else◌, Option, None, Some, option_map}
+use Rattle.std.specs.Prelude.{◌≡◌, ℕ, zero, suc, ◌+◌, ◌-◌, ◌<◌, ◌≤◌, Bool, true, false, ◌&&◌, ◌==◌, nat_lt, nat_le, if◌then◌else◌, List, [], ◌∷◌, Option, None, Some, option_map}
 use Rattle.schedule_text.specs.declared.advance.Period.{Period}
 use Rattle.schedule_text.specs.declared.advance.Schedule.{Schedule}
 use Rattle.schedule_text.specs.declared.advance.Next.{Next}
@@ -60,6 +60,29 @@ next_by (Some period) schedule moment now =
 -- what follows the firing of `moment` at `now`
 abbrev pub next_firing : Schedule → ℕ → ℕ → Next
 next_firing schedule moment now = next_by schedule.period schedule moment now
+
+-- the first moment, which may be missing
+abbrev pub first_firing : Schedule → Option ℕ
+first_firing schedule = schedule.first
+
+-- The moments from `moment` on, at most `most` of them, each found where the one before fires in time: at itself.
+-- The firings that are left go down with each.
+unfoldable pub firings_from : ℕ → Schedule → ℕ → List ℕ
+firings_from zero schedule moment = []
+firings_from (suc most) schedule moment =
+    moment ∷ elim (next_firing schedule moment moment) [
+      | At next left ↦ firings_from most (record schedule { left = left }) next
+      | Done ↦ []
+      | OutOfRange ↦ []
+    ]
+
+abbrev pub firings_by : ℕ → Schedule → Option ℕ → List ℕ
+firings_by most schedule None = []
+firings_by most schedule (Some first) = firings_from most schedule first
+
+-- the list of moments of a schedule, cut to its first `most`
+abbrev pub firing_list : ℕ → Schedule → List ℕ
+firing_list most schedule = firings_by most schedule (first_firing schedule)
 
 -- r is the first moment after now of those that follow a moment by one period each
 pub data FiresAt (period : Period) (now : ℕ) : ℕ → ℕ → Type 0 where
