@@ -13,6 +13,9 @@ mod outcomes;
 mod reading;
 mod replay;
 mod roster;
+mod schedule;
+#[cfg(test)]
+mod schedule_tests;
 mod script;
 mod status;
 #[cfg(test)]

@@ -1,5 +1,5 @@
--- What the words after the program's name say. Own: the table of the commands stands in docs/DECISIONS.md.
-use Rattle.std.specs.Prelude.{ℕ, true, false, if◌then◌else◌, List, [], ◌∷◌, codes, Option, None, Some, option_map, option_and_then, unwrap_or, find}
+-- What the words after the program's name say. Own: docs/commands.md has the table of the commands.
+use Rattle.std.specs.Prelude.{ℕ, Bool, true, false, if◌then◌else◌, List, [], ◌∷◌, codes, Option, None, Some, option_map, option_and_then, unwrap_or, find}
 use Rattle.std.specs.Str.{bytes_eq}
 use Rattle.command_words.specs.Options.{Text, Options, Given, options_given}
 use Rattle.command_words.specs.Counts.{count_of}
@@ -55,6 +55,11 @@ abbrev pub said_by : Text → List Text → Option Said
 said_by command rest =
     if bytes_eq command (codes "replay") then replay_said rest else (
     if bytes_eq command (codes "schedule") then option_and_then schedule_said (options_given schedule_options rest) else None)
+
+-- the first word is this one
+abbrev pub is_command : Text → List Text → Bool
+is_command name [] = false
+is_command name (command ∷ rest) = bytes_eq command name
 
 -- The first word is the command; words that say nothing have no reading.
 abbrev pub reading : List Text → Option Said

@@ -1,9 +1,9 @@
 // The words of the command line.
-ghost use Rattle.std.specs.Prelude.{◌≡◌, None, Some, [], IfOk, IfErr, MatchResult, map, option_map, option_and_then, string_bytes, unwrap_or};
+ghost use Rattle.std.specs.Prelude.{◌≡◌, true, codes, None, Some, [], IfOk, IfErr, MatchResult, map, option_map, option_and_then, string_bytes, unwrap_or};
 ghost use Rattle.clap.specs.Matches.{found_of, first_value};
-ghost use Rattle.command_words.specs.declared.error.WordsError.TheVariants.{Usage};
+ghost use Rattle.command_words.specs.declared.error.WordsError.TheVariants.{Usage, OutOfMemory};
 ghost use Rattle.command_words.specs.Options.{options_given};
-ghost use Rattle.command_words.specs.Reading.{reading, replay_said, schedule_said, schedule_options, count_or_ten};
+ghost use Rattle.command_words.specs.Reading.{reading, is_command, replay_said, schedule_said, schedule_options, count_or_ten};
 ghost use Rattle.command_words.specs.Told.{told, told_option};
 
 use crate::count::read_count;
@@ -112,7 +112,7 @@ fn schedule_words<'a>(alloc: Global, words: &'a [String]) -> Result<CommandWords
 fn replay_words<'a>(words: &'a [String]) -> Result<CommandWords<'a>, WordsError>
     ensures { MatchResult result
         (λ c. replay_said (map string_bytes words.entry.now) ≡ Some (told c))
-        (λ e. replay_said (map string_bytes words.entry.now) ≡ None) }
+        (λ e. (e ≡ Usage) × (replay_said (map string_bytes words.entry.now) ≡ None)) }
 {
     match words {
         [] => Ok(CommandWords::Replay),
@@ -127,8 +127,9 @@ fn replay_words<'a>(words: &'a [String]) -> Result<CommandWords<'a>, WordsError>
 pub fn read_words<'a>(alloc: Global, words: &'a [String]) -> Result<CommandWords<'a>, WordsError>
     // The command is the words' reading.
     ensures read { IfOk result (λ c. reading (map string_bytes words.entry.now) ≡ Some (told c)) }
-    // Only words without a reading are refused.
+    // Only words without a reading are refused, and only those of `schedule` take memory.
     ensures usage { IfErr result (λ e. e ≡ Usage → reading (map string_bytes words.entry.now) ≡ None) }
+    ensures memory { IfErr result (λ e. e ≡ OutOfMemory → is_command (codes "schedule") (map string_bytes words.entry.now) ≡ true) }
 {
     match words {
         [] => Err(WordsError::Usage),
