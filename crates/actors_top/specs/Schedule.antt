@@ -1,5 +1,5 @@
 -- What the command `schedule` prints. Own: docs/schedules.md has the words.
-use Rattle.std.specs.Prelude.{◌≡◌, ℕ, List, ◌++◌, flat_map, codes, decimal, Option, Result, Ok, Err}
+use Rattle.std.specs.Prelude.{◌≡◌, ℕ, List, ◌++◌, flat_map, codes, decimal, Option, None, Some, Result, Ok, Err}
 use Rattle.schedule_text.specs.declared.error.ScheduleError.{ScheduleError}
 use Rattle.schedule_text.specs.declared.error.ScheduleError.TheVariants.{BadMoment, BadDuration, Negative, ZeroRepeats, OutOfRange, OutOfMemory}
 use Rattle.schedule_text.specs.declared.advance.Schedule.{Schedule}
@@ -60,12 +60,18 @@ Makes run status.SourceFault text = ⊥
 Makes run status.SinkFault text = ⊥
 Makes run status.Limit text = ⊥
 
--- All of the run was written, and the status is its own; after a fault of the sink or want of memory a front of it.
+-- where the sink tells its bytes, nothing was written
+abbrev pub WritesNothing : Option (List ℕ) → Option (List ℕ) → Type 0
+WritesNothing None after = Unit {0}
+WritesNothing (Some held) after = after ≡ Some held
+
+-- All of the run was written, and the status is its own; after a fault of the sink a front of it, and for want of
+-- memory nothing.
 abbrev pub ScheduleEnds : ScheduleRun → Status → Option (List ℕ) → Option (List ℕ) → Type 0
 ScheduleEnds run status.Done before after = (run.status ≡ 0) × Writes before after run.text
 ScheduleEnds run status.Refused before after = (run.status ≡ 3) × Writes before after run.text
 ScheduleEnds run status.SinkFault before after = WritesFrontOf before after run.text
-ScheduleEnds run status.OutOfMemory before after = WritesFrontOf before after run.text
+ScheduleEnds run status.OutOfMemory before after = WritesNothing before after
 ScheduleEnds run status.Usage before after = ⊥
 ScheduleEnds run status.SourceFault before after = ⊥
 ScheduleEnds run status.Limit before after = ⊥
