@@ -12,3 +12,5 @@ pub mod EndLemmas
 pub mod ActorMarks
 pub mod NeverMix
 pub mod Rows
+pub mod Moments
+pub mod ScheduleRows

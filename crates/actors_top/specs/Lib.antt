@@ -10,3 +10,4 @@ pub mod WorldTold
 pub mod Steps
 pub mod Status
 pub mod ReplayTold
+pub mod Schedule

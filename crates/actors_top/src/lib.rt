@@ -1,8 +1,9 @@
-// The top call: the words of the command line, the replay of a script, and the status.
+// The top call: the replay of a script, the moments of a schedule, and the status.
 //
-// Promise: `run` writes what the script's replay is defined to write (`specs/Replay`), ends with its status,
-// and answers a fault or a limit only by its cause; over every script the turns of one actor never mix.
-// Stands on actor_names, actor_ports and turn_core.
+// Promise: `run` does what its words read as; it writes what the script's replay (`specs/Replay`) or the schedule
+// (`specs/Schedule`) is defined to write, ends with its status, and answers a fault or a limit only by its cause;
+// over every script the turns of one actor never mix.
+// Stands on command_words, schedule_text, actor_names, actor_ports and turn_core.
 #![tactic(auto)]
 
 mod calling;
@@ -13,6 +14,9 @@ mod outcomes;
 mod reading;
 mod replay;
 mod roster;
+mod schedule;
+#[cfg(test)]
+mod schedule_tests;
 mod script;
 mod status;
 #[cfg(test)]

@@ -1,12 +1,16 @@
 // The top call.
-ghost use Rattle.std.specs.Prelude.{◌≡◌, ◌≢◌, ◌<◌, ◌↔◌, ◌∷◌, [], IsTrue, map, codes, string_bytes};
+ghost use Rattle.std.specs.Prelude.{◌≡◌, ◌≢◌, ◌<◌, ◌⊎◌, ◌∷◌, [], true, None, Some, map, codes, string_bytes};
+ghost use Rattle.command_words.specs.Reading.{Asking, Schedule, is_command, reading};
 ghost use Rattle.actors_top.specs.Status.{code_of};
 ghost use Rattle.actors_top.specs.ReplayTold.{Replays};
+ghost use Rattle.actors_top.specs.Schedule.{schedule_of, ScheduleEnds};
 ghost use Rattle.actors_top.specs.declared.status.Status.{Status};
 
 use crate::replay::replay;
+use crate::schedule::schedule;
 use crate::status::Status;
 use actor_ports::{Sink, Source};
+use command_words::{CommandWords, WordsError, read_words};
 use std::alloc::Global;
 
 /// The outside of the program: where its bytes come from and where they go.
@@ -19,36 +23,38 @@ pub struct Outside<I, W> {
 }
 
 /// Does what the words after the program's name say, and answers the status with which the program ends:
-/// 0 done, 2 the words have no reading, 3 a line of the script is refused, 4 the source failed, 5 the sink
-/// failed, 8 want of memory, 10 the script is above its limit of 67,108,864 bytes or 1,000,000 lines.
-/// The one command is `replay`, without options: the whole source is read first, then each line of the script
-/// runs in order and what comes of it is written. Own.
+/// 0 done, 2 the words have no reading, 3 a line of the script or a text of the schedule is refused, 4 the source
+/// failed, 5 the sink failed, 8 want of memory, 10 the script is above its limit of 67,108,864 bytes or 1,000,000
+/// lines.
+/// `replay`, without options: the whole source is read first, then each line of the script runs in order and what
+/// comes of it is written. `schedule`, with `--now M` and perhaps `--due T`, `--period T`, `--ttl T` and
+/// `--count N`: the moments of that schedule are written, up to N of them, or the first fault of a text. Own.
 pub fn run<I: Source, W: Sink>(alloc: Global, words: &[String], out: &mut Outside<I, W>) -> u8
-    // Exactly the one word `replay` has a reading; without one nothing is read or written.
-    ensures usage { (result ≡ 2) ↔ (map string_bytes words.now ≢ codes "replay" ∷ []) }
-    ensures untouched { result ≡ 2 → out.new ≡ out.old }
+    // Exactly words without a reading are usage; those of `schedule` may also end for want of memory. Nothing is
+    // read or written then.
+    ensures usage { result ≡ 2 → reading (map string_bytes words.now) ≡ None }
+    ensures no_reading { reading (map string_bytes words.now) ≡ None
+        → (result ≡ 2) ⊎ ((result ≡ 8) × (is_command (codes "schedule") (map string_bytes words.now) ≡ true)) }
+    ensures untouched { reading (map string_bytes words.now) ≡ None → out.new ≡ out.old }
 
     // The status is that of a replay of the source's bytes, and what was written is what that replay prints.
     ensures replayed { map string_bytes words.now ≡ codes "replay" ∷ [] → (ended : Status) × (result ≡ code_of ended)
         × Replays (I.remaining out.old.input) (I.remaining out.new.input) ended (W.contents out.old.output) (W.contents out.new.output) }
 
+    // The status is that of the schedule that is asked for, what was written is what it prints, and the source
+    // stays unread.
+    ensures scheduled { (asking : Asking) → reading (map string_bytes words.now) ≡ Some (Schedule asking) → (ended : Status) × (result ≡ code_of ended)
+        × ScheduleEnds (schedule_of asking) ended (W.contents out.old.output) (W.contents out.new.output) × (out.new.input ≡ out.old.input) }
+
     // A fault is answered only where that count of faults rose.
     ensures source { result ≡ 4 → I.read_faults out.old.input < I.read_faults out.new.input }
     ensures sink { result ≡ 5 → W.write_faults out.old.output < W.write_faults out.new.output }
 {
-    if !is_replay(words) {
-        return Status::Usage as u8;
-    }
-    let status = replay(alloc, &mut out.input, &mut out.output);
+    let status = match read_words(alloc, words) {
+        Ok(CommandWords::Replay) => replay(alloc, &mut out.input, &mut out.output),
+        Ok(CommandWords::Schedule(words)) => schedule(alloc, &words, &mut out.output),
+        Err(WordsError::Usage) => Status::Usage,
+        Err(WordsError::OutOfMemory) => Status::OutOfMemory,
+    };
     status as u8
-}
-
-/// Whether the words are the one word `replay`.
-fn is_replay(words: &[String]) -> bool
-    ensures { IsTrue result ↔ (map string_bytes words.now ≡ codes "replay" ∷ []) }
-{
-    match words {
-        [word] => word.as_str() == "replay",
-        _ => false,
-    }
 }

@@ -1,0 +1,79 @@
+-- Worked examples of the reading.
+use Rattle.std.proofs.Common.{◌≡◌, [], ◌∷◌, None, Some, codes, refl}
+use Rattle.command_words.specs.Options.{Text, read_from}
+use Rattle.command_words.specs.Reading.{Said, Replay, Schedule, reading}
+
+abbrev asks : Text → Text → Said
+asks now period = Schedule (record { now = now; due = []; period = period; ttl = []; count = 10 })
+
+no_words : reading [] ≡ None
+no_words = refl
+
+replay_alone : reading (codes "replay" ∷ []) ≡ Some Replay
+replay_alone = refl
+
+replay_takes_no_option : reading (codes "replay" ∷ codes "--now=1" ∷ []) ≡ None
+replay_takes_no_option = refl
+
+unknown_command : reading (codes "drill" ∷ []) ≡ None
+unknown_command = refl
+
+value_behind_name : reading (codes "schedule" ∷ codes "--now" ∷ codes "x" ∷ codes "--period=1s" ∷ []) ≡ Some (asks (codes "x") (codes "1s"))
+unfolding read_from
+value_behind_name = refl
+
+any_order : reading (codes "schedule" ∷ codes "--period=1s" ∷ codes "--now" ∷ codes "x" ∷ []) ≡ Some (asks (codes "x") (codes "1s"))
+unfolding read_from
+any_order = refl
+
+second_equals_is_value : reading (codes "schedule" ∷ codes "--now=a=b" ∷ []) ≡ Some (asks (codes "a=b") [])
+unfolding read_from
+second_equals_is_value = refl
+
+empty_value_is_value : reading (codes "schedule" ∷ codes "--now=" ∷ []) ≡ Some (asks [] [])
+unfolding read_from
+empty_value_is_value = refl
+
+hyphen_in_attached_value : reading (codes "schedule" ∷ codes "--now=-3s" ∷ []) ≡ Some (asks (codes "-3s") [])
+unfolding read_from
+hyphen_in_attached_value = refl
+
+hyphen_begins_no_value : reading (codes "schedule" ∷ codes "--now" ∷ codes "-3s" ∷ []) ≡ None
+unfolding read_from
+hyphen_begins_no_value = refl
+
+now_is_needed : reading (codes "schedule" ∷ codes "--period=1s" ∷ []) ≡ None
+unfolding read_from
+now_is_needed = refl
+
+option_once : reading (codes "schedule" ∷ codes "--now=x" ∷ codes "--now=x" ∷ []) ≡ None
+unfolding read_from
+option_once = refl
+
+value_is_missing : reading (codes "schedule" ∷ codes "--now" ∷ []) ≡ None
+unfolding read_from
+value_is_missing = refl
+
+hyphens_alone : reading (codes "schedule" ∷ codes "--now=x" ∷ codes "--" ∷ []) ≡ None
+unfolding read_from
+hyphens_alone = refl
+
+help_has_no_reading : reading (codes "schedule" ∷ codes "--now=x" ∷ codes "--help" ∷ []) ≡ None
+unfolding read_from
+help_has_no_reading = refl
+
+count_has_leading_zeros : reading (codes "schedule" ∷ codes "--now=" ∷ codes "--count=003" ∷ []) ≡ Some (Schedule (record { now = []; due = []; period = []; ttl = []; count = 3 }))
+unfolding read_from
+count_has_leading_zeros = refl
+
+count_from_one : reading (codes "schedule" ∷ codes "--now=" ∷ codes "--count=0" ∷ []) ≡ None
+unfolding read_from
+count_from_one = refl
+
+count_to_1000 : reading (codes "schedule" ∷ codes "--now=" ∷ codes "--count=1001" ∷ []) ≡ None
+unfolding read_from
+count_to_1000 = refl
+
+count_is_not_empty : reading (codes "schedule" ∷ codes "--now=" ∷ codes "--count=" ∷ []) ≡ None
+unfolding read_from
+count_is_not_empty = refl

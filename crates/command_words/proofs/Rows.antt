@@ -1,0 +1,66 @@
+-- What clap holds of the options given.
+use Rattle.std.proofs.Common.{◌≡◌, Bool, true, false, ◌&&◌, ◌||◌, not, ◌++◌, List, [], ◌∷◌, map, None, Some, append-nil, refl, ap, ◌∙◌}
+use Rattle.std.specs.List.{list_all}
+use Rattle.std.specs.Str.{bytes_eq}
+use Rattle.clap.specs.Walk.{Row, Rule, at_row, has_row, first_of, more_values, used, without}
+use Rattle.clap.specs.Takes.{is_given, use_passes}
+use Rattle.clap.specs.Values.{reading_of}
+use Rattle.clap.specs.declared.parser.matches.ValueSource.TheVariants.{CommandLine}
+use Rattle.clap.specs.declared.builder.value_parser.ValueParser.TheVariants as vp
+use Rattle.command_words.specs.Options.{Text, Options, Given, names_of, is_among, has_needed}
+use Rattle.command_words.specs.Reading.{value_of}
+use Rattle.command_words.proofs.Rules.{built_rule, built_rules}
+
+-- the row of an option that is given once
+abbrev pub row_for : Text × Text → Row
+row_for g = record { id = g.0; values = g.1 ∷ []; count = None; source = Some CommandLine; reading = reading_of vp.String }
+
+abbrev pub rows_for : Given → List Row
+rows_for given = map row_for given
+
+pub rows_for-push : (given : Given) (name value : Text) → rows_for (given ++ (name, value) ∷ []) ≡ rows_for given ++ row_for (name, value) ∷ []
+rows_for-push [] name value = refl
+rows_for-push (g ∷ given) name value = ap (λ rs. row_for g ∷ rs) (rows_for-push given name value)
+
+pub has_row-rows_for : (given : Given) (name : Text) → has_row name (rows_for given) ≡ is_among (names_of given) name
+has_row-rows_for [] name = refl
+has_row-rows_for (g ∷ given) name = ap (λ b. bytes_eq g.0 name || b) (has_row-rows_for given name)
+
+-- a row that isn't there comes to the end
+at_row-absent : (id : Text) (change : Row → List Row) (missing rows : List Row) → has_row id rows ≡ false → at_row id change missing rows ≡ rows ++ missing
+at_row-absent id change missing [] none = refl
+at_row-absent id change missing (r ∷ rows) none = go (bytes_eq r.id id) refl (at_row-absent id change missing rows)
+  where
+    go : (b : Bool) → bytes_eq r.id id ≡ b → (has_row id rows ≡ false → at_row id change missing rows ≡ rows ++ missing) → at_row id change missing (r ∷ rows) ≡ r ∷ rows ++ missing
+    go true e more = let bad : true ≡ false = rw e at none in cc
+    go false e more = rw e (ap (λ rs. r ∷ rs) (more (rw e at none)))
+
+pub used-absent : (o : Text × Bool) (value : Text) (rows : List Row) → has_row o.0 rows ≡ false → used (built_rule o) (value ∷ []) rows ≡ rows ++ row_for (o.0, value) ∷ []
+used-absent o value rows none =
+    let gone : without o.0 rows ≡ rows = at_row-absent o.0 (λ _. []) [] rows none ∙ append-nil rows in
+    rw gone (at_row-absent o.0 (more_values CommandLine (value ∷ [])) (row_for (o.0, value) ∷ []) rows none)
+
+pub use_passes-absent : (o : Text × Bool) (value : Text) (rows : List Row) → has_row o.0 rows ≡ false → use_passes false (built_rule o) (value ∷ []) rows ≡ true
+use_passes-absent o value rows none = rw none refl
+
+pub is_given-rows_for : (given : Given) (name : Text) → is_given name (rows_for given) ≡ is_among (names_of given) name
+is_given-rows_for [] name = refl
+is_given-rows_for (g ∷ given) name = go (bytes_eq g.0 name) refl (is_given-rows_for given name)
+  where
+    go : (b : Bool) → bytes_eq g.0 name ≡ b → is_given name (rows_for given) ≡ is_among (names_of given) name → is_given name (rows_for (g ∷ given)) ≡ is_among (names_of (g ∷ given)) name
+    go true e more = rw e refl
+    go false e more = rw e more
+
+pub first_of-rows_for : (given : Given) (name : Text) → first_of name (rows_for given) ≡ value_of name given
+first_of-rows_for [] name = refl
+first_of-rows_for (g ∷ given) name = go (bytes_eq g.0 name) refl (first_of-rows_for given name)
+  where
+    go : (b : Bool) → bytes_eq g.0 name ≡ b → first_of name (rows_for given) ≡ value_of name given → first_of name (rows_for (g ∷ given)) ≡ value_of name (g ∷ given)
+    go true e more = rw e refl
+    go false e more = rw e more
+
+-- the needed options are those that clap requires
+pub needed : (given : Given) (options : Options) → list_all (λ (a : Rule). not a.required || is_given a.id (rows_for given)) (built_rules options) ≡ has_needed options (names_of given)
+needed given [] = refl
+needed given (o ∷ options) = ap (λ b. (not o.1 || b) && list_all (λ a. not a.required || is_given a.id (rows_for given)) (built_rules options)) (is_given-rows_for given o.0)
+    ∙ ap (λ b. (not o.1 || is_among (names_of given) o.0) && b) (needed given options)

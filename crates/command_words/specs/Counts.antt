@@ -1,0 +1,15 @@
+-- Counts in the words: decimal digits without a sign, where leading zeros are allowed. Own.
+use Rattle.std.specs.Prelude.{◌≢◌, ℕ, nat_le, if◌then◌else◌, List, [], ◌∷◌, Option, None, Some, option_and_then}
+use Rattle.actor_names.specs.Decimals.{digits_number}
+
+abbrev pub from_one : ℕ → Option ℕ
+from_one n = if nat_le 1 n then Some n else None
+
+-- the count from 1 to 1,000 that the digits stand for
+abbrev pub count_of : List ℕ → Option ℕ
+count_of text = option_and_then from_one (digits_number 1000 text)
+
+-- no zero stands first
+abbrev pub IsUnpadded : List ℕ → Type 0
+IsUnpadded [] = Unit {0}
+IsUnpadded (b ∷ bs) = b ≢ 48

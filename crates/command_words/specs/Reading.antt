@@ -1,0 +1,67 @@
+-- What the words after the program's name say. Own: docs/commands.md has the table of the commands.
+use Rattle.std.specs.Prelude.{ℕ, Bool, true, false, if◌then◌else◌, List, [], ◌∷◌, codes, Option, None, Some, option_map, option_and_then, unwrap_or, find}
+use Rattle.std.specs.Str.{bytes_eq}
+use Rattle.command_words.specs.Options.{Text, Options, Given, options_given}
+use Rattle.command_words.specs.Counts.{count_of}
+
+-- the words of `schedule`: an absent text is the empty one, an absent count is 10
+pub record Asking : Type 0 where
+  pub now : Text
+  pub due : Text
+  pub period : Text
+  pub ttl : Text
+  pub count : ℕ
+
+-- a command with what its words say
+pub data Said : Type 0 where
+  Replay : Said
+  Schedule : Asking → Said
+
+-- only the moment is needed
+abbrev pub schedule_options : Options
+schedule_options = (codes "now", true) ∷ (codes "due", false) ∷ (codes "period", false) ∷ (codes "ttl", false) ∷ (codes "count", false) ∷ []
+
+-- the value of an option, where it is given
+abbrev pub value_of : Text → Given → Option Text
+value_of name given = option_map (λ g. g.1) (find (λ g. bytes_eq g.0 name) given)
+
+-- an option that isn't given has the empty text
+abbrev pub text_of : Text → Given → Text
+text_of name given = unwrap_or (value_of name given) []
+
+abbrev pub count_or_ten : Option Text → Option ℕ
+count_or_ten None = Some 10
+count_or_ten (Some text) = count_of text
+
+abbrev pub asking : Given → ℕ → Asking
+asking given count = record {
+  now = text_of (codes "now") given;
+  due = text_of (codes "due") given;
+  period = text_of (codes "period") given;
+  ttl = text_of (codes "ttl") given;
+  count = count;
+}
+
+-- the words behind `schedule`
+abbrev pub schedule_said : Given → Option Said
+schedule_said given = option_map (λ count. Schedule (asking given count)) (count_or_ten (value_of (codes "count") given))
+
+-- `replay` takes no option
+abbrev pub replay_said : List Text → Option Said
+replay_said [] = Some Replay
+replay_said (word ∷ rest) = None
+
+abbrev pub said_by : Text → List Text → Option Said
+said_by command rest =
+    if bytes_eq command (codes "replay") then replay_said rest else (
+    if bytes_eq command (codes "schedule") then option_and_then schedule_said (options_given schedule_options rest) else None)
+
+-- the first word is this one
+abbrev pub is_command : Text → List Text → Bool
+is_command name [] = false
+is_command name (command ∷ rest) = bytes_eq command name
+
+-- The first word is the command; words that say nothing have no reading.
+abbrev pub reading : List Text → Option Said
+reading [] = None
+reading (command ∷ rest) = said_by command rest

@@ -1,0 +1,134 @@
+// Words that have a reading and words that have none.
+use crate::{CommandWords, WordsError, read_words};
+use std::alloc::Global;
+use std::process::Abort;
+use std::test::Fail;
+
+/// The words of a line, which are separated by one space each.
+fn words_of(alloc: Global, line: &str) -> Result<Vec<String>, Fail> {
+    let mut words = Vec::new(alloc);
+    for word in line.split(' ') {
+        words.push(String::from_str(alloc, word)?)?;
+    }
+    Ok(words)
+}
+
+/// What a line says: the texts of `schedule` with its count, each in brackets, or `replay` or `usage`.
+fn said(alloc: Global, line: &str) -> Result<String, Fail> {
+    let words = words_of(alloc, line)?;
+    let text = match read_words(alloc, words.as_slice()) {
+        Ok(CommandWords::Replay) => String::from_str(alloc, "replay")?,
+        Ok(CommandWords::Schedule(s)) => {
+            let now = s.now;
+            let due = s.due;
+            let period = s.period;
+            let ttl = s.ttl;
+            let count = s.count;
+            format!(in alloc; "[{now}] [{due}] [{period}] [{ttl}] {count}")?
+        }
+        Err(WordsError::Usage) => String::from_str(alloc, "usage")?,
+        Err(WordsError::OutOfMemory) => String::from_str(alloc, "memory")?,
+    };
+    Ok(text)
+}
+
+fn expect(rt: &impl Abort, said: &String, wanted: &str, line: &str) {
+    assert!(rt; said.as_str() == wanted, "{line}");
+}
+
+#[test]
+fn words_with_a_reading(rt: HostRuntime) -> Result<(), Fail> {
+    let table: [(&str, &str); 18] = [
+        ("replay", "replay"),
+        ("schedule --now x", "[x] [] [] [] 10"),
+        ("schedule --now=x", "[x] [] [] [] 10"),
+        ("schedule --now=", "[] [] [] [] 10"),
+        ("schedule --now ", "[] [] [] [] 10"),
+        ("schedule --now== --due==", "[=] [=] [] [] 10"),
+        ("schedule --now=x --due=-3s", "[x] [-3s] [] [] 10"),
+        ("schedule --now=x --due=--now", "[x] [--now] [] [] 10"),
+        (
+            "schedule --ttl=d --period=c --due=b --now=a",
+            "[a] [b] [c] [d] 10",
+        ),
+        (
+            "schedule --count 7 --ttl d --period c --due b --now a",
+            "[a] [b] [c] [d] 7",
+        ),
+        (
+            "schedule --now a --due=b --period c --ttl=d --count 1000",
+            "[a] [b] [c] [d] 1000",
+        ),
+        ("schedule --now=x --count=1", "[x] [] [] [] 1"),
+        ("schedule --now=x --count=0001", "[x] [] [] [] 1"),
+        ("schedule --now=x --count=0000001000", "[x] [] [] [] 1000"),
+        ("schedule --now now", "[now] [] [] [] 10"),
+        ("schedule --now replay", "[replay] [] [] [] 10"),
+        ("schedule --now=µs", "[µs] [] [] [] 10"),
+        ("schedule --due= --now=x", "[x] [] [] [] 10"),
+    ];
+    let alloc = rt.alloc();
+    for (line, wanted) in table {
+        expect(&rt, &said(alloc, line)?, wanted, line);
+    }
+    Ok(())
+}
+
+#[test]
+fn words_without_a_reading(rt: HostRuntime) -> Result<(), Fail> {
+    let table: [&str; 41] = [
+        "",
+        "Replay",
+        "replays",
+        "replay ",
+        "replay --now=x",
+        "replay -",
+        "replay --",
+        "replay --help",
+        "--help",
+        "-h",
+        "--version",
+        "help",
+        "drill",
+        "schedule",
+        "schedule ",
+        "schedule x",
+        "schedule now x",
+        "schedule -now x",
+        "schedule --now",
+        "schedule --now -",
+        "schedule --now --",
+        "schedule --now -3s",
+        "schedule --now --due=1s",
+        "schedule --now=x -",
+        "schedule --now=x --",
+        "schedule --now=x -- --due=1s",
+        "schedule --now=x y",
+        "schedule --now=x --now=x",
+        "schedule --now=x --now y",
+        "schedule --due=1s",
+        "schedule --now=x --help",
+        "schedule --now=x -h",
+        "schedule --now=x --version",
+        "schedule --now=x --sessions=1",
+        "schedule --no=x",
+        "schedule --Now=x",
+        "schedule --=x --now=x",
+        "schedule --now=x --count=0",
+        "schedule --now=x --count=1001",
+        "schedule --now=x --count=+5",
+        "schedule --now=x --count=18446744073709551616",
+    ];
+    let alloc = rt.alloc();
+    for line in table {
+        expect(&rt, &said(alloc, line)?, "usage", line);
+    }
+    Ok(())
+}
+
+#[test]
+fn no_words_are_usage(rt: HostRuntime) {
+    let words: [String; 0] = [];
+    let error = read_words(rt.alloc(), words.as_slice()).err();
+    assert!(rt; error == Some(WordsError::Usage));
+}
