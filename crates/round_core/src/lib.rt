@@ -13,10 +13,12 @@ mod marks;
 mod phase;
 mod placement;
 mod record;
+mod restore;
 mod room;
 mod roster;
 mod rounds;
 mod search;
+mod seating;
 
 pub use book::Known;
 pub use event::{PlaceEvent, PlaceReply};
@@ -25,6 +27,7 @@ pub use phase::RoundPhase;
 pub use place_table::AckStage;
 pub use placement::Placement;
 pub use record::{MemberList, PlacementRecord};
+pub use restore::RestoreError;
 
 #[cfg(test)]
 mod tests;

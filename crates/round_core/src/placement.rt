@@ -1,16 +1,19 @@
 // The placement: one step at a time, with the record of each.
-ghost use Rattle.std.specs.Prelude.{◌≡◌, ◌↔◌, ◌==◌, ◌||◌, ◌+◌, ◌≤◌, not, nat_lt, is_some, false, [], Some, None, IfOk, OnOk, OnErr, ℕ, length, option_map};
+ghost use Rattle.std.specs.Prelude.{◌≡◌, ◌↔◌, ◌==◌, ◌||◌, ◌+◌, ◌≤◌, not, nat_lt, is_some, false, [], Some, None, map, IfOk, IfErr, OnOk, OnErr, ℕ, length, option_map};
 ghost use Rattle.std.specs.Option.{option_copied};
+ghost use Rattle.std.specs.declared.result.Result.TheVariants.{Ok};
 ghost use Rattle.round_core.specs.Members.{hosts_of, of_node};
 ghost use Rattle.round_core.specs.Placement.{placement_restarted, new_placement, last_version, settle_round, is_full, with_joined, SameDurableState};
 ghost use Rattle.round_core.specs.Places.{Ascends, host_node};
-ghost use Rattle.round_core.specs.Records.{record_of, restart_record};
+ghost use Rattle.round_core.specs.Records.{record_of, restart_record, placement_restored, restored_record, IsBadAt};
 ghost use Rattle.round_core.specs.Rooms.{with_state, Gives, GivesInMemory, GivesStep};
 
 use crate::copying::copy_option;
 use crate::event::{PlaceEvent, PlaceReply};
 use crate::record::{MemberList, PlacementRecord};
+use crate::restore::{RestoreError, apply_records};
 use crate::rounds::Rounds;
+use crate::seating::seat;
 use actor_names::{Member, OutOfMemory};
 use place_table::{AckStage, HostInfo};
 use std::alloc::Global;
@@ -58,7 +61,7 @@ fn go_on(rounds: &mut Rounds, record_: &mut PlacementRecord) -> bool
     record_.joined.is_some() || record_.removed.as_slice().len() > 0 || !(after == before)
 }
 
-/// A host joins: its copies and the room that it needs are made first.
+/// A host joins, and is noted.
 fn join(
     alloc: Global,
     rounds: &mut Rounds,
@@ -74,12 +77,8 @@ fn join(
     ensures removed { record_.new.removed.members ≡ record_.old.removed.members }
     ensures room { rounds.new.room ≤ record_.new.removed.room }
 {
-    let spare = host.copy(alloc)?;
     let shown = host.copy(alloc)?;
-    let wanted = rounds.len() as usize + 1;
-    record_.removed.reserve(wanted)?;
-    rounds.reserve()?;
-    rounds.join(host, spare, now)?;
+    seat(alloc, rounds, &mut record_.removed, host, now)?;
     record_.joined = Some(shown);
     Ok(())
 }
@@ -99,6 +98,28 @@ impl Placement {
             },
             recorded: false,
         }
+    }
+
+    /// The restart, at the moment `now`, of the state after these records; with no records it is the opening state.
+    /// For the records of a run, in their order, that is the restart of the state at its end.
+    pub fn restore(
+        alloc: Global,
+        records: &[PlacementRecord],
+        now: u64,
+    ) -> Result<Placement, RestoreError>
+        ensures restored { IfOk result (λ placement. placement_restored (map record_of records.now) now ≡ Ok placement.state) }
+        ensures recent { IfOk result (λ placement. restored_record (map record_of records.now) now ≡ placement.recent) }
+        ensures bad { IfErr result (λ e. IsBadAt e (placement_restored (map record_of records.now) now)) }
+    {
+        let mut placement = Placement::new(alloc);
+        apply_records(
+            alloc,
+            &mut placement.rounds,
+            &mut placement.record.removed,
+            records,
+        )?;
+        placement.restarted(now);
+        Ok(placement)
     }
 
     /// The hosts of the table that was fixed last, in byte order of node; none before the first.

@@ -1,7 +1,8 @@
 // The members and the table that was fixed last.
-ghost use Rattle.std.specs.Prelude.{◌≡◌, ◌+◌, ◌<◌, ◌≤◌, ◌↔◌, [], ◌∷◌, ◌++◌, None, false, length, map, IfOk, OnOk, OnErr, max, option_map};
+ghost use Rattle.std.specs.Prelude.{◌≡◌, ◌+◌, ◌<◌, ◌≤◌, ◌↔◌, [], ◌∷◌, ◌++◌, None, false, length, map, IfOk, OnOk, OnErr, IsTrue, IsFalse, Some, max, option_map};
 ghost use Rattle.round_core.specs.Members.{heard_at, acked_at, restarted_at, new_joined, boot_of, hosts_of, of_node, is_here, is_left, with_node, without_node, put_joined, late_of, heard_of, any_left, entered, targeted, target_hosts};
 ghost use Rattle.round_core.specs.Places.{Ascends, host_node};
+ghost use Rattle.round_core.specs.Records.{removes_all};
 ghost use Rattle.round_core.specs.Roster.{RosterState, SameButRoom};
 
 use crate::copies::{fix_table, give_back_all};
@@ -200,6 +201,22 @@ impl Roster {
             }
             Err(_) => {}
         }
+    }
+
+    /// Removes members in their order, and says whether each was one.
+    pub(crate) fn remove_all(&mut self, members: &[Member]) -> bool
+        ensures all { IsTrue result → removes_all self.old.members members.now ≡ Some self.new.members }
+        ensures stranger { IsFalse result → removes_all self.old.members members.now ≡ None }
+        ensures table { self.new.table ≡ self.old.table }
+        ensures room { self.new.room ≡ self.old.room }
+    {
+        for i in 0..members.len() {
+            if !self.has(&members[i]) {
+                return false;
+            }
+            self.remove(&members[i].node);
+        }
+        true
     }
 
     /// The table of the targets is fixed.
