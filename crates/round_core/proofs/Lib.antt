@@ -3,7 +3,12 @@ mod Boots
 mod Backed
 mod Durable
 mod Giving
+mod Hosts
 mod Lateness
+mod Memory
 mod Places
+mod Reached
+mod Replays
 mod Rosters
 mod Rows
+mod Versions

@@ -11,6 +11,7 @@ use Rattle.round_core.specs.declared.event.PlaceReply.TheVariants as replies
 use Rattle.round_core.specs.Members.{members_of}
 use Rattle.round_core.specs.Placement.{PlacementState, new_placement, last_version, placement_step, placement_restarted}
 use Rattle.round_core.specs.Records.{RecordOf, step_record, after_records, placement_restored}
+use Rattle.round_core.specs.Runs.{Steps, Restarts, run_records}
 
 abbrev a : ℕ → Member
 a boot = record { node = 97 ∷ []; boot = boot }
@@ -124,3 +125,11 @@ greatest_version_is_good = refl
 
 greater_version_is_bad : placement_restored (record { joined = None; removed = []; next_version = 4611686018427387905 } ∷ []) 5 ≡ Err 0
 greater_version_is_bad = refl
+
+-- ---- the records of a run: a Beat leaves none, and a restart the version that it used
+
+run_leaves_records : run_records new_placement (Steps (joins (a 1)) 0 ∷ Steps (events.Beat (a 1)) 1 ∷ Restarts 5 ∷ Steps (events.Leave (a 1)) 6 ∷ []) ≡ joined_at 2 (a 1) ∷ record { joined = None; removed = []; next_version = 3 } ∷ removed_at 4 (a 1) ∷ []
+run_leaves_records = refl
+
+restart_of_nothing_leaves_no_record : run_records new_placement (Restarts 5 ∷ []) ≡ []
+restart_of_nothing_leaves_no_record = refl

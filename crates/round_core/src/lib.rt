@@ -9,6 +9,7 @@ mod copies;
 mod copying;
 mod event;
 mod late;
+mod law;
 mod marks;
 mod phase;
 mod placement;
@@ -22,6 +23,7 @@ mod seating;
 
 pub use book::Known;
 pub use event::{PlaceEvent, PlaceReply};
+pub use law::{memory_law, restore_law};
 pub use marks::Mark;
 pub use phase::RoundPhase;
 pub use place_table::AckStage;

@@ -1,11 +1,13 @@
 // The placement: one step at a time, with the record of each.
-ghost use Rattle.std.specs.Prelude.{◌≡◌, ◌↔◌, ◌==◌, ◌||◌, ◌+◌, ◌≤◌, not, nat_lt, is_some, false, [], Some, None, map, IfOk, IfErr, OnOk, OnErr, ℕ, length, option_map};
+ghost use Rattle.std.specs.Prelude.{◌≡◌, ◌↔◌, ◌==◌, ◌||◌, ◌+◌, ◌<◌, ◌≤◌, List, not, nat_lt, is_some, false, [], Some, None, map, IfOk, IfErr, OnOk, OnErr, ℕ, length, option_map};
 ghost use Rattle.std.specs.Option.{option_copied};
 ghost use Rattle.std.specs.declared.result.Result.TheVariants.{Ok};
 ghost use Rattle.round_core.specs.Members.{hosts_of, of_node};
 ghost use Rattle.round_core.specs.Placement.{placement_restarted, new_placement, last_version, settle_round, is_full, with_joined, SameDurableState};
 ghost use Rattle.round_core.specs.Places.{Ascends, host_node};
 ghost use Rattle.round_core.specs.Records.{record_of, restart_record, placement_restored, restored_record, IsBadAt};
+ghost use Rattle.round_core.specs.Runs.{RunEvent, ForgetsNothing, run_state, run_records};
+ghost use Rattle.round_core.specs.declared.restore.RestoreError.TheVariants.{OutOfMemory as out_of_memory};
 ghost use Rattle.round_core.specs.Rooms.{with_state, Gives, GivesInMemory, GivesStep};
 
 use crate::copying::copy_option;
@@ -110,16 +112,18 @@ impl Placement {
         ensures restored { IfOk result (λ placement. placement_restored (map record_of records.now) now ≡ Ok placement.state) }
         ensures recent { IfOk result (λ placement. restored_record (map record_of records.now) now ≡ placement.recent) }
         ensures bad { IfErr result (λ e. IsBadAt e (placement_restored (map record_of records.now) now)) }
+        ensures run { IfOk result (λ placement. (run : List RunEvent) → map record_of records.now ≡ run_records new_placement run → placement.state ≡ placement_restarted (run_state new_placement run) now) }
+        ensures run_is_good { IfErr result (λ e. (run : List RunEvent) → map record_of records.now ≡ run_records new_placement run → e ≡ out_of_memory) }
     {
         let mut placement = Placement::new(alloc);
-        apply_records(
-            alloc,
-            &mut placement.rounds,
-            &mut placement.record.removed,
-            records,
-        )?;
-        placement.restarted(now);
-        Ok(placement)
+        let rounds = &mut placement.rounds;
+        match apply_records(alloc, rounds, &mut placement.record.removed, records) {
+            Err(error) => Err(error),
+            Ok(()) => {
+                placement.restarted(now);
+                Ok(placement)
+            }
+        }
     }
 
     /// The hosts of the table that was fixed last, in byte order of node; none before the first.
@@ -285,6 +289,7 @@ impl Placement {
     pub fn step(&mut self, event: PlaceEvent, now: u64) -> PlaceReply
         ensures gives { GivesStep event now result self.old self.new }
         ensures durable { self.new.recent ≡ None ↔ SameDurableState self.old.state self.new.state }
+        ensures remembers { ForgetsNothing self.old.state self.new.state }
     {
         match event {
             PlaceEvent::Register { host } => self.register(host, now),
@@ -306,6 +311,7 @@ impl Placement {
     pub fn restarted(&mut self, now: u64)
         ensures state { self.new.state ≡ placement_restarted self.old.state now }
         ensures recent { self.new.recent ≡ restart_record self.old.state now }
+        ensures remembers { 1 < self.old.state.next_version → ForgetsNothing self.old.state self.new.state }
     {
         clear_record(&mut self.record);
         let before = self.rounds.next_version();
