@@ -1,5 +1,6 @@
 mod Ascending
 mod Boots
+mod Counts
 mod Backed
 mod Durable
 mod Giving

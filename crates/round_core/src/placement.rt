@@ -128,7 +128,8 @@ impl Placement {
 
     /// The hosts of the table that was fixed last, in byte order of node; none before the first.
     pub fn table_hosts(&self) -> &[HostInfo]
-        ensures { result.now ≡ self.now.state.table }
+        ensures hosts { result.now ≡ self.now.state.table }
+        ensures order { Ascends host_node result.now }
     {
         self.rounds.table_hosts()
     }

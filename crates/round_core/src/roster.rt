@@ -8,7 +8,7 @@ ghost use Rattle.round_core.specs.Roster.{RosterState, SameButRoom};
 use crate::copies::{fix_table, give_back_all};
 use crate::copying::{copy_hosts, copy_marks, copy_spares};
 use crate::late::drop_late;
-use crate::marks::{Mark, any_mark_left, enter_marks, restart_marks, target_marks};
+use crate::marks::{Mark, count_left, enter_marks, restart_marks, target_marks, weigh_mark};
 use crate::record::MemberList;
 use crate::room::insert_in_room;
 use crate::search::host_place;
@@ -18,7 +18,7 @@ use std::alloc::Global;
 use std::marker::Model;
 
 /// The members in byte order of node, at most 256, and the table that was fixed last. Of each member's host there
-/// is a second copy, which is spare or in the table.
+/// is a second copy, which is spare or in the table. Those left are counted.
 #[derive(Drop)]
 pub(crate) struct Roster {
     hosts: Vec<HostInfo>,
@@ -26,6 +26,7 @@ pub(crate) struct Roster {
     spares: Vec<Option<HostInfo>>,
     table: Vec<HostInfo>,
     room: usize,
+    left: usize,
 }
 
 impl Model for Roster {
@@ -36,7 +37,7 @@ impl Model for Roster {
 
     ghost view = { λ a. record { members = joined_all a.hosts.items a.marks.items; table = a.table.items; room = a.room } };
 
-    ghost invariant = { λ a. IsRosterKept a.hosts.items a.marks.items a.spares.items a.table.items a.room × HasRoom a.room (vec_capacity a.hosts) (vec_capacity a.marks) (vec_capacity a.spares) (vec_capacity a.table) };
+    ghost invariant = { λ a. IsRosterKept a.hosts.items a.marks.items a.spares.items a.table.items a.room a.left × HasRoom a.room (vec_capacity a.hosts) (vec_capacity a.marks) (vec_capacity a.spares) (vec_capacity a.table) };
 }
 
 impl Roster {
@@ -50,6 +51,7 @@ impl Roster {
             spares: Vec::new(alloc),
             table: Vec::new(alloc),
             room: 0,
+            left: 0,
         }
     }
 
@@ -63,7 +65,8 @@ impl Roster {
 
     /// The hosts of the table that was fixed last.
     pub(crate) fn table(&self) -> &[HostInfo]
-        ensures { result.now ≡ self.now.table }
+        ensures hosts { result.now ≡ self.now.table }
+        ensures order { Ascends host_node result.now }
     {
         self.table.as_slice()
     }
@@ -118,7 +121,7 @@ impl Roster {
     pub(crate) fn any_left(&self) -> bool
         ensures { result ≡ any_left self.now.members }
     {
-        any_mark_left(&self.marks)
+        self.left > 0
     }
 
     /// The member of this node is heard.
@@ -140,9 +143,11 @@ impl Roster {
     {
         match host_place(&self.hosts, node) {
             Ok(at) => {
+                let weight = weigh_mark(self.marks[at]);
                 let mark = &mut self.marks[at];
                 mark.heard = now;
                 mark.left = false;
+                self.left -= weight;
             }
             Err(_) => {}
         }
@@ -196,8 +201,10 @@ impl Roster {
         match host_place(&self.hosts, node) {
             Ok(at) => {
                 let _host = self.hosts.remove(at);
-                let _mark = self.marks.remove(at);
+                let mark = self.marks.remove(at);
                 let _spare = self.spares.remove(at);
+                let weight = weigh_mark(mark);
+                self.left -= weight;
             }
             Err(_) => {}
         }
@@ -230,7 +237,8 @@ impl Roster {
     pub(crate) fn enter(&mut self)
         ensures { self.new ≡ record self.old { members = map entered self.old.members } }
     {
-        enter_marks(&mut self.marks);
+        let left = enter_marks(&mut self.marks);
+        self.left = left;
     }
 
     /// A round starts: each member is a target, and left.
@@ -238,6 +246,8 @@ impl Roster {
         ensures { self.new ≡ record self.old { members = map targeted self.old.members } }
     {
         target_marks(&mut self.marks);
+        let left = self.marks.len();
+        self.left = left;
     }
 
     /// Drops each member that was not heard for 10,000 milliseconds, and lists it.
@@ -254,6 +264,8 @@ impl Roster {
             removed,
             now,
         );
+        let left = count_left(&self.marks);
+        self.left = left;
     }
 
     /// A restart: each member is heard, and there is no round and no table.
@@ -262,6 +274,7 @@ impl Roster {
     {
         give_back_all(&self.hosts, &mut self.spares, &mut self.table);
         restart_marks(&mut self.marks, now);
+        self.left = 0;
     }
 
     /// Nobody, and no table.
@@ -272,6 +285,7 @@ impl Roster {
         self.marks.clear();
         self.spares.clear();
         self.table.clear();
+        self.left = 0;
     }
     /// An equal roster, with the same room.
     pub(crate) fn copy(&self, alloc: Global) -> Result<Roster, OutOfMemory>
@@ -287,6 +301,7 @@ impl Roster {
             spares,
             table,
             room: self.room,
+            left: self.left,
         })
     }
 }

@@ -64,7 +64,8 @@ impl Rounds {
 
     /// The hosts of the table that was fixed last.
     pub(crate) fn table_hosts(&self) -> &[HostInfo]
-        ensures { result.now ≡ self.now.state.table }
+        ensures hosts { result.now ≡ self.now.state.table }
+        ensures order { Ascends host_node result.now }
     {
         self.roster.table()
     }

@@ -1,8 +1,10 @@
-use Rattle.std.proofs.Common.{◌≡◌, List, sym, ◌∙◌, ap, Ok, Err, set, refl, false}
+use Rattle.std.proofs.Common.{◌≡◌, ◌<◌, List, length, length-set, sym, ◌∙◌, ap, Ok, Err, set, refl, false, arith}
 use Rattle.round_core.specs.declared.marks.Mark.{Mark}
 use Rattle.round_core.specs.Members.{Joined, acked_at}
 use Rattle.round_core.specs.Places.{host_node, place_by}
-use Rattle.round_core.specs.Roster.{RosterState, joined_all}
+use Rattle.round_core.specs.Roster.{RosterState, joined_all, mark_weight}
+use Rattle.round_core.proofs.Counts.{count-set}
+use Rattle.round_core.proofs.Places.{ok_within}
 use Rattle.round_core.proofs.Rosters.{with_node-found, with_node-missing}
 use Rattle.round_core.proofs.roster.Roster.ack.Goals as goal
 
@@ -18,3 +20,28 @@ returns-in-Err c =
     let p : place_by host_node c.args.node.now c.self.inside.hosts.items ≡ Err c.in-Err.field-0 = rw c.deref.ensures.value at (sym c.host_place.ensures.place ∙ c.in-Err.is) in
     let f : List Joined → RosterState = λ js. record { members = js; table = c.self.inside.table.items; room = c.self.inside.room } in
     rw (← c.self.view_is) (ap f (sym (with_node-missing c.args.node.now c.self.inside.hosts.items c.self.inside.marks.items c.in-Err.field-0 (acked_at c.args.now) c.self.invariant.0.ascends p)))
+
+pub overflow_sub-self : goal.overflow_sub-self
+overflow_sub-self c =
+    let k = c.self.invariant.0 in
+    let ms = c.self.inside.marks.items in
+    let d = c.index.result.now in
+    let within : c.in-Ok.at < length c.self.inside.hosts.items = ok_within host_node c.args.node.now c.self.inside.hosts.items c.in-Ok.at (rw c.deref.ensures.value at (sym c.host_place.ensures.place ∙ c.in-Ok.is)) in
+    let e = count-set ms c.in-Ok.at (record { heard = c.args.now; target = c.index_mut-mark.result.now.target; left = false }) d (rw k.marked within) in
+    let w = ap mark_weight c.index.ensures in
+    let x = c.weigh_mark-weight.ensures in
+    let kc = k.counted in
+    omega arith
+
+pub invariant_of-self : goal.invariant_of-self
+invariant_of-self c =
+    let k = c.self.invariant.0 in
+    let ms = c.self.inside.marks.items in
+    let d = c.index.result.now in
+    let within : c.in-Ok.at < length c.self.inside.hosts.items = ok_within host_node c.args.node.now c.self.inside.hosts.items c.in-Ok.at (rw c.deref.ensures.value at (sym c.host_place.ensures.place ∙ c.in-Ok.is)) in
+    let e = count-set ms c.in-Ok.at (record { heard = c.args.now; target = c.index_mut-mark.result.now.target; left = false }) d (rw k.marked within) in
+    let w = ap mark_weight c.index.ensures in
+    let x = c.weigh_mark-weight.ensures in
+    let kc = k.counted in
+    let r = c.self.invariant.1 in
+    (record { ascends = k.ascends; marked = rw length-set k.marked; spared = k.spared; backed = k.backed; few = k.few; within = k.within; ordered = k.ordered; counted = omega arith }, record { hosts_room = r.hosts_room; marks_room = r.marks_room; spares_room = r.spares_room; table_room = r.table_room })
