@@ -32,4 +32,6 @@ pub use record::{MemberList, PlacementRecord};
 pub use restore::RestoreError;
 
 #[cfg(test)]
+mod restore_tests;
+#[cfg(test)]
 mod tests;
