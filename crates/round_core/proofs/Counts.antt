@@ -1,14 +1,14 @@
 -- How many are left, through each change of the marks; the hosts of a table in their order.
-use Rattle.std.proofs.Common.{◌≡◌, ℕ, suc, zero, ◌+◌, ◌<◌, ◌≤◌, Bool, true, false, ◌||◌, cond, List, [], ◌∷◌, length, map, get_or, set, take, refl, arith}
-use Rattle.std.specs.Prelude.{nat_lt}
+use Rattle.std.proofs.Common.{◌≡◌, ℕ, suc, zero, ◌+◌, ◌<◌, ◌≤◌, Bool, true, false, ◌||◌, cond, List, [], ◌∷◌, length, map, get_or, set, take, Some, refl, arith}
+use Rattle.std.specs.Prelude.{nat_lt, bytes_eq}
 use Rattle.std.specs.List.{insert, remove, list_any}
 use Rattle.std.specs.declared.cmp.Ordering.TheVariants.{Less}
 use Rattle.std.proofs.lemmas.Bool.{lt-ltb}
 use Rattle.place_table.specs.declared.host.HostInfo.{HostInfo}
 use Rattle.round_core.specs.declared.marks.Mark.{Mark}
-use Rattle.round_core.specs.Members.{target_hosts}
+use Rattle.round_core.specs.Members.{of_node, is_left_in, target_hosts}
 use Rattle.round_core.specs.Places.{host_node, IsBelowAll, Ascends}
-use Rattle.round_core.specs.Roster.{joined_all, is_mark_left, mark_weight, left_count, targeted_mark, restarted_mark}
+use Rattle.round_core.specs.Roster.{joined_of, joined_all, is_mark_left, mark_weight, left_count, targeted_mark, restarted_mark}
 
 pub count-set : (ms : List Mark) (i : ℕ) (k d : Mark) → i < length ms → left_count (set ms i k) + mark_weight (get_or ms i d) ≡ left_count ms + mark_weight k
 count-set [] i k d l = absurd (omega arith)
@@ -59,6 +59,20 @@ count-any (m ∷ ms) = go m.left (count-any ms)
     go : (b : Bool) → list_any is_mark_left ms ≡ nat_lt 0 (left_count ms) → (b || list_any is_mark_left ms) ≡ nat_lt 0 (cond b 1 0 + left_count ms)
     go true e = let l = lt-ltb 0 (1 + left_count ms) (omega arith) in cc
     go false e = let z : 0 + left_count ms ≡ left_count ms = omega arith in rw z e
+
+-- where nobody is left, no member is
+pub none_left : (hs : List HostInfo) (ms : List Mark) (node : List ℕ) → left_count ms ≡ 0 → is_left_in (of_node (joined_all hs ms) node) ≡ false
+none_left [] ms node e = refl
+none_left (h ∷ hs) [] node e = refl
+none_left (h ∷ hs) (k ∷ ms) node e = go (bytes_eq node h.member.node) (none_left hs ms node (omega arith)) (off k.left e)
+  where
+    off : (b : Bool) → cond b 1 0 + left_count ms ≡ 0 → b ≡ false
+    off true f = absurd (omega arith)
+    off false f = refl
+
+    go : (b : Bool) → is_left_in (of_node (joined_all hs ms) node) ≡ false → k.left ≡ false → is_left_in (cond b (Some (joined_of h k)) (of_node (joined_all hs ms) node)) ≡ false
+    go true ih f = f
+    go false ih f = ih
 
 -- ---- the hosts of a table
 

@@ -184,13 +184,12 @@ impl Placement {
         ensures { Gives (PlaceEvent.Beat member) now result self.old self.new }
     {
         clear_record(&mut self.record);
-        if !self.rounds.has(&member) {
+        if !self.rounds.hear(&member, now) {
             self.recorded = false;
             return PlaceReply::NotMember {
                 greatest: self.rounds.greatest(&member.node),
             };
         }
-        self.rounds.hear(&member, now);
         self.recorded = go_on(&mut self.rounds, &mut self.record);
         self.rounds.reply_for(&member)
     }
@@ -200,13 +199,12 @@ impl Placement {
         ensures { Gives (PlaceEvent.Ack member stage version) now result self.old self.new }
     {
         clear_record(&mut self.record);
-        if !self.rounds.has(&member) {
+        if !self.rounds.ack(&member, stage, version, now) {
             self.recorded = false;
             return PlaceReply::NotMember {
                 greatest: self.rounds.greatest(&member.node),
             };
         }
-        self.rounds.ack(&member, stage, version, now);
         self.recorded = go_on(&mut self.rounds, &mut self.record);
         self.rounds.reply_for(&member)
     }
@@ -257,7 +255,7 @@ impl Placement {
         let member = host.member;
         clear_record(&mut self.record);
         if self.rounds.has(&member) {
-            self.rounds.hear(&member, now);
+            let _here = self.rounds.hear(&member, now);
             self.recorded = go_on(&mut self.rounds, &mut self.record);
             return self.rounds.reply_for(&member);
         }

@@ -1,5 +1,5 @@
 // The members and the table that was fixed last.
-ghost use Rattle.std.specs.Prelude.{◌≡◌, ◌+◌, ◌<◌, ◌≤◌, ◌↔◌, [], ◌∷◌, ◌++◌, None, false, length, map, IfOk, OnOk, OnErr, IsTrue, IsFalse, Some, max, option_map};
+ghost use Rattle.std.specs.Prelude.{◌≡◌, ◌==◌, ◌+◌, ◌<◌, ◌≤◌, ◌↔◌, [], ◌∷◌, ◌++◌, None, false, length, map, IfOk, OnOk, OnErr, IsTrue, IsFalse, Some, max, option_map};
 ghost use Rattle.round_core.specs.Members.{heard_at, acked_at, restarted_at, new_joined, boot_of, hosts_of, of_node, is_here, is_left, with_node, without_node, put_joined, late_of, heard_of, any_left, entered, targeted, target_hosts};
 ghost use Rattle.round_core.specs.Places.{Ascends, host_node};
 ghost use Rattle.round_core.specs.Records.{removes_all};
@@ -38,6 +38,13 @@ impl Model for Roster {
     ghost view = { λ a. record { members = joined_all a.hosts.items a.marks.items; table = a.table.items; room = a.room } };
 
     ghost invariant = { λ a. IsRosterKept a.hosts.items a.marks.items a.spares.items a.table.items a.room a.left × HasRoom a.room (vec_capacity a.hosts) (vec_capacity a.marks) (vec_capacity a.spares) (vec_capacity a.table) };
+}
+
+/// Whether the host is of the member's boot.
+fn has_boot(host: &HostInfo, member: &Member) -> bool
+    ensures { result ≡ (member.now.boot == host.now.member.boot) }
+{
+    member.boot == host.member.boot
 }
 
 impl Roster {
@@ -111,6 +118,9 @@ impl Roster {
     pub(crate) fn is_left(&self, member: &Member) -> bool
         ensures { result ≡ is_left self.now.members member.now }
     {
+        if self.left == 0 {
+            return false;
+        }
         match host_place(&self.hosts, &member.node) {
             Ok(at) => self.marks[at].left,
             Err(_) => false,
@@ -124,32 +134,44 @@ impl Roster {
         self.left > 0
     }
 
-    /// The member of this node is heard.
-    pub(crate) fn hear(&mut self, node: &Node, now: u64)
-        ensures { self.new ≡ record self.old { members = with_node self.old.members node.now (heard_at now) } }
+    /// The member is heard, if it is one; says whether it is.
+    pub(crate) fn hear(&mut self, member: &Member, now: u64) -> bool
+        ensures here { result ≡ is_here self.old.members member.now }
+        ensures heard { IsTrue result → self.new ≡ record self.old { members = with_node self.old.members member.now.node (heard_at now) } }
+        ensures stranger { IsFalse result → self.new ≡ self.old }
     {
-        match host_place(&self.hosts, node) {
+        match host_place(&self.hosts, &member.node) {
             Ok(at) => {
+                if !has_boot(&self.hosts[at], member) {
+                    return false;
+                }
                 let mark = &mut self.marks[at];
                 mark.heard = now;
+                true
             }
-            Err(_) => {}
+            Err(_) => false,
         }
     }
 
-    /// The member of this node is heard, and isn't left any more.
-    pub(crate) fn ack(&mut self, node: &Node, now: u64)
-        ensures { self.new ≡ record self.old { members = with_node self.old.members node.now (acked_at now) } }
+    /// The member is heard, if it is one, and isn't left any more; says whether it is one.
+    pub(crate) fn ack(&mut self, member: &Member, now: u64) -> bool
+        ensures here { result ≡ is_here self.old.members member.now }
+        ensures acked { IsTrue result → self.new ≡ record self.old { members = with_node self.old.members member.now.node (acked_at now) } }
+        ensures stranger { IsFalse result → self.new ≡ self.old }
     {
-        match host_place(&self.hosts, node) {
+        match host_place(&self.hosts, &member.node) {
             Ok(at) => {
+                if !has_boot(&self.hosts[at], member) {
+                    return false;
+                }
                 let weight = weigh_mark(self.marks[at]);
                 let mark = &mut self.marks[at];
                 mark.heard = now;
                 mark.left = false;
                 self.left -= weight;
+                true
             }
-            Err(_) => {}
+            Err(_) => false,
         }
     }
 

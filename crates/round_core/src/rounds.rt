@@ -192,11 +192,13 @@ impl Rounds {
         }
     }
 
-    /// A member is heard.
-    pub(crate) fn hear(&mut self, member: &Member, now: u64)
-        ensures { self.new ≡ with_state self.old (record self.old.state { members = with_node self.old.state.members member.now.node (heard_at now) }) }
+    /// The member is heard, if it is one; says whether it is.
+    pub(crate) fn hear(&mut self, member: &Member, now: u64) -> bool
+        ensures here { result ≡ is_here self.old.state.members member.now }
+        ensures heard { IsTrue result → self.new ≡ with_state self.old (record self.old.state { members = with_node self.old.state.members member.now.node (heard_at now) }) }
+        ensures stranger { IsFalse result → self.new ≡ self.old }
     {
-        self.roster.hear(&member.node, now);
+        self.roster.hear(member, now)
     }
 
     /// Whether the running round is in this stage at this version.
@@ -211,14 +213,16 @@ impl Rounds {
         }
     }
 
-    /// A member acknowledges.
-    pub(crate) fn ack(&mut self, member: &Member, stage: AckStage, version: u64, now: u64)
-        ensures { self.new ≡ with_state self.old (record self.old.state { members = with_node self.old.state.members member.now.node (ack_change self.old.state stage version now) }) }
+    /// The member acknowledges, if it is one; says whether it is.
+    pub(crate) fn ack(&mut self, member: &Member, stage: AckStage, version: u64, now: u64) -> bool
+        ensures here { result ≡ is_here self.old.state.members member.now }
+        ensures acked { IsTrue result → self.new ≡ with_state self.old (record self.old.state { members = with_node self.old.state.members member.now.node (ack_change self.old.state stage version now) }) }
+        ensures stranger { IsFalse result → self.new ≡ self.old }
     {
         if self.is_running(stage, version) {
-            self.roster.ack(&member.node, now);
+            self.roster.ack(member, now)
         } else {
-            self.roster.hear(&member.node, now);
+            self.roster.hear(member, now)
         }
     }
 
