@@ -31,12 +31,6 @@ count-take [] i d l = absurd (omega arith)
 count-take (m ∷ ms) zero d l = omega arith
 count-take (m ∷ ms) (suc i) d l = let e = count-take ms i d (omega arith) in omega arith
 
-pub count-all : (ms : List Mark) (i : ℕ) → length ms ≤ i → left_count (take i ms) ≡ left_count ms
-count-all [] zero l = refl
-count-all [] (suc i) l = refl
-count-all (m ∷ ms) zero l = absurd (omega arith)
-count-all (m ∷ ms) (suc i) l = let e = count-all ms i (omega arith) in omega arith
-
 pub count-targeted : (ms : List Mark) → left_count (map targeted_mark ms) ≡ length ms
 count-targeted [] = refl
 count-targeted (m ∷ ms) = let e = count-targeted ms in omega arith

@@ -15,9 +15,9 @@ use thiserror::Error;
 /// Why no placement is restored of some records.
 #[derive(Clone, Copy, Debug, PartialEq, Eq, Error)]
 pub enum RestoreError {
-    /// The record at `index`, counted from 0, is the first that no run leaves there: it removes somebody who is
-    /// no member, it joins a node that has a member, a boot that isn't above the node's greatest one, a 257th
-    /// member or a 65,537th known node, or its next version is below the one before it or above 2^62.
+    /// The record at `index`, counted from 0, is the first bad one: it removes somebody who is no member, it joins
+    /// a node that has a member, a boot that isn't above the node's greatest one, a 257th member or a 65,537th
+    /// known node, or its next version is below the one before it or above 2^62.
     #[error("record {index} is bad")]
     BadRecord { index: u64 },
     /// There was no memory for the placement.

@@ -40,63 +40,60 @@ impl Run {
         Ok(())
     }
 
-    fn join(&mut self, member: &[u8]) -> Result<(), Fail> {
-        let _reply = register(self.alloc, &mut self.placement, member)?;
+    fn step(&mut self, event: PlaceEvent, now: u64) -> Result<(), Fail> {
+        let _reply = self.placement.step(event, now);
         self.keep()
     }
 
-    fn step(&mut self, event: PlaceEvent, now: u64) -> Result<PlaceReply, Fail> {
-        let reply = self.placement.step(event, now);
-        self.keep()?;
-        Ok(reply)
+    fn join_all(&mut self, members: &[&[u8]]) -> Result<(), Fail> {
+        for i in 0..members.len() {
+            let _reply = register(self.alloc, &mut self.placement, members[i])?;
+            self.keep()?;
+        }
+        Ok(())
     }
-}
 
-/// Nodes `a` to `j` join, some leave and come back, it restarts, and a Tick drops who was not heard since.
-fn worked_run(alloc: Global) -> Result<Run, Fail> {
-    let mut run = Run::new(alloc);
-    let first: [&[u8]; 10] = [
-        b"a/1", b"b/1", b"c/1", b"d/1", b"e/1", b"f/1", b"g/1", b"h/1", b"i/1", b"j/1",
-    ];
-    for member in first {
-        run.join(member)?;
-    }
-    let member = read_member(b"b/1")?;
-    run.step(PlaceEvent::Leave { member }, 1000)?;
-    let member = read_member(b"c/1")?;
-    run.step(PlaceEvent::Lost { member }, 1000)?;
-    run.join(b"b/2")?;
-    run.join(b"c/7")?;
-    run.placement.restarted(2000);
-    run.keep()?;
-    let heard: [&[u8]; 3] = [b"a/1", b"b/2", b"c/7"];
-    for member in heard {
+    fn leave(&mut self, member: &[u8]) -> Result<(), Fail> {
         let member = read_member(member)?;
-        run.step(PlaceEvent::Beat { member }, 9000)?;
+        self.step(PlaceEvent::Leave { member }, 1000)
     }
-    let reply = run.step(PlaceEvent::Tick, 12_000)?;
-    if reply != (PlaceReply::Ticked { dropped: 7 }) {
-        Err("other members were dropped")?
+
+    fn beat(&mut self, member: &[u8]) -> Result<(), Fail> {
+        let member = read_member(member)?;
+        self.step(PlaceEvent::Beat { member }, 9000)
     }
-    let again: [&[u8]; 4] = [b"d/2", b"e/2", b"k/1", b"l/1"];
-    for member in again {
-        run.join(member)?;
+
+    fn restart(&mut self) -> Result<(), Fail> {
+        self.placement.restarted(2000);
+        self.keep()
     }
-    let member = read_member(b"k/1")?;
-    run.step(PlaceEvent::Leave { member }, 13_000)?;
-    Ok(run)
 }
 
-#[test]
-fn records_of_run_restore_its_restart(rt: HostRuntime) -> Result<(), Fail> {
-    let mut run = worked_run(rt.alloc())?;
-    assert_eq!(rt; run.records.len(), 21);
-    let mut restored = Placement::restore(rt.alloc(), run.records.as_slice(), 20_000)?;
-    run.placement.restarted(20_000);
-    assert_eq!(rt; restored.last_version(), run.placement.last_version());
-    assert_eq!(rt; restored.members().len(), 6);
-    assert_eq!(rt; run.placement.members().len(), 6);
-    let version = restored.last_version();
+/// Nodes `a` to `j` join, two leave and come back, it restarts, and a Tick drops the seven that were not heard
+/// since; four join then, and one of them leaves.
+fn go_through(run: &mut Run) -> Result<(), Fail> {
+    run.join_all(&[b"a/1", b"b/1", b"c/1", b"d/1", b"e/1"])?;
+    run.join_all(&[b"f/1", b"g/1", b"h/1", b"i/1", b"j/1"])?;
+    run.leave(b"b/1")?;
+    run.leave(b"c/1")?;
+    run.join_all(&[b"b/2", b"c/7"])?;
+    run.restart()?;
+    run.beat(b"a/1")?;
+    run.beat(b"b/2")?;
+    run.beat(b"c/7")?;
+    run.step(PlaceEvent::Tick, 12_000)?;
+    run.join_all(&[b"d/2", b"e/2", b"k/1", b"l/1"])?;
+    run.leave(b"k/1")
+}
+
+/// The answer to a Beat.
+fn told(placement: &mut Placement, member: &[u8]) -> Result<PlaceReply, Fail> {
+    let member = read_member(member)?;
+    Ok(placement.step(PlaceEvent::Beat { member }, 20_001))
+}
+
+/// Whether both answer a Beat of each member with the Lock of `version`, and those of strangers as they have to.
+fn tell_same(restored: &mut Placement, live: &mut Placement, version: u64) -> Result<bool, Fail> {
     let table: [(&[u8], PlaceReply); 9] = [
         (b"a/1", PlaceReply::Lock { version }),
         (b"b/2", PlaceReply::Lock { version }),
@@ -109,12 +106,25 @@ fn records_of_run_restore_its_restart(rt: HostRuntime) -> Result<(), Fail> {
         (b"m/1", PlaceReply::NotMember { greatest: 0 }),
     ];
     for (member, wanted) in table {
-        let member = read_member(member)?;
-        let reply = restored.step(PlaceEvent::Beat { member }, 20_001);
-        assert_eq!(rt; reply, wanted);
-        let live = run.placement.step(PlaceEvent::Beat { member }, 20_001);
-        assert_eq!(rt; live, wanted);
+        if told(restored, member)? != wanted || told(live, member)? != wanted {
+            return Ok(false);
+        }
     }
+    Ok(true)
+}
+
+#[test]
+fn records_of_run_restore_its_restart(rt: HostRuntime) -> Result<(), Fail> {
+    let mut run = Run::new(rt.alloc());
+    go_through(&mut run)?;
+    assert_eq!(rt; run.records.len(), 21);
+    let mut restored = Placement::restore(rt.alloc(), run.records.as_slice(), 20_000)?;
+    run.placement.restarted(20_000);
+    let version = run.placement.last_version();
+    assert_eq!(rt; restored.last_version(), version);
+    assert_eq!(rt; restored.members().len(), 6);
+    let same = tell_same(&mut restored, &mut run.placement, version)?;
+    assert!(rt; same);
     Ok(())
 }
 
@@ -128,69 +138,64 @@ fn no_records_restore_opening_state(rt: HostRuntime) -> Result<(), Fail> {
     Ok(())
 }
 
-/// A record: a member that joins or is removed, and the next version.
-fn record_of(
+/// Puts a record at the end: a member that joins or is removed, and the next version.
+fn note(
+    records: &mut Vec<PlacementRecord>,
     alloc: Global,
     joins: bool,
     member: &[u8],
     next_version: u64,
-) -> Result<PlacementRecord, Fail> {
+) -> Result<(), Fail> {
     let mut removed = Vec::new(alloc);
-    let joined = if joins {
-        Some(host(alloc, member)?)
+    let mut joined = None;
+    if joins {
+        joined = Some(host(alloc, member)?);
     } else {
         removed.push(read_member(member)?)?;
-        None
-    };
-    Ok(PlacementRecord {
+    }
+    records.push(PlacementRecord {
         joined,
         removed: MemberList::from_vec(removed),
         next_version,
-    })
+    })?;
+    Ok(())
 }
 
-fn index_of(error: &RestoreError) -> Option<u64> {
-    match error {
-        RestoreError::BadRecord { index } => Some(*index),
-        RestoreError::OutOfMemory => None,
+/// The index of the bad record, where there is one.
+fn bad_index(alloc: Global, records: &[PlacementRecord]) -> Option<u64> {
+    match &Placement::restore(alloc, records, 5000) {
+        Ok(_) => None,
+        Err(RestoreError::BadRecord { index }) => Some(*index),
+        Err(RestoreError::OutOfMemory) => None,
     }
 }
 
-/// The index of the bad record among these, each a join or a removal with the next version.
-fn bad_index(alloc: Global, steps: &[(bool, &[u8], u64)]) -> Result<Option<u64>, Fail> {
-    let mut records = Vec::new(alloc);
-    for (joins, member, next_version) in steps.iter() {
-        records.push(record_of(alloc, *joins, *member, *next_version)?)?;
+/// Each follows a record by which `a/1` joins at next version 3.
+#[test]
+fn bad_records_are_named_by_index(rt: HostRuntime) -> Result<(), Fail> {
+    let table: [(bool, &[u8], u64); 5] = [
+        (false, b"b/1", 3),
+        (false, b"a/2", 3),
+        (true, b"a/2", 3),
+        (true, b"b/1", 2),
+        (true, b"b/1", 4_611_686_018_427_387_905),
+    ];
+    for (joins, member, next_version) in table {
+        let mut records = Vec::new(rt.alloc());
+        note(&mut records, rt.alloc(), true, b"a/1", 3)?;
+        note(&mut records, rt.alloc(), joins, member, next_version)?;
+        assert_eq!(rt; bad_index(rt.alloc(), records.as_slice()), Some(1));
     }
-    let error = Placement::restore(alloc, records.as_slice(), 5000)
-        .err()
-        .ok_or("they were restored")?;
-    Ok(index_of(&error))
+    Ok(())
 }
 
 #[test]
-fn bad_records_are_named_by_index(rt: HostRuntime) -> Result<(), Fail> {
-    let alloc = rt.alloc();
-    let stranger = bad_index(alloc, &[(true, b"a/1", 2), (false, b"b/1", 2)])?;
-    assert_eq!(rt; stranger, Some(1));
-    let other_boot = bad_index(alloc, &[(true, b"a/1", 2), (false, b"a/2", 2)])?;
-    assert_eq!(rt; other_boot, Some(1));
-    let busy = bad_index(alloc, &[(true, b"a/1", 2), (true, b"a/2", 2)])?;
-    assert_eq!(rt; busy, Some(1));
-    let stale = bad_index(
-        alloc,
-        &[
-            (true, b"a/1", 2),
-            (false, b"a/1", 3),
-            (true, b"b/1", 3),
-            (true, b"a/1", 3),
-        ],
-    )?;
-    assert_eq!(rt; stale, Some(3));
-    let lower = bad_index(alloc, &[(true, b"a/1", 3), (true, b"b/1", 2)])?;
-    assert_eq!(rt; lower, Some(1));
-    let above = bad_index(alloc, &[(true, b"a/1", 4_611_686_018_427_387_905)])?;
-    assert_eq!(rt; above, Some(0));
+fn record_of_equal_boot_is_bad(rt: HostRuntime) -> Result<(), Fail> {
+    let mut records = Vec::new(rt.alloc());
+    note(&mut records, rt.alloc(), true, b"a/1", 2)?;
+    note(&mut records, rt.alloc(), false, b"a/1", 3)?;
+    note(&mut records, rt.alloc(), true, b"a/1", 4)?;
+    assert_eq!(rt; bad_index(rt.alloc(), records.as_slice()), Some(2));
     Ok(())
 }
 
@@ -199,11 +204,8 @@ fn record_of_member_257_is_bad(rt: HostRuntime) -> Result<(), Fail> {
     let mut records = Vec::new(rt.alloc());
     for i in 0..257u32 {
         let member = format!(in rt.alloc(); "m{i}/1")?;
-        records.push(record_of(rt.alloc(), true, member.as_bytes(), 2)?)?;
+        note(&mut records, rt.alloc(), true, member.as_bytes(), 2)?;
     }
-    let error = Placement::restore(rt.alloc(), records.as_slice(), 5000)
-        .err()
-        .ok_or("they were restored")?;
-    assert_eq!(rt; index_of(&error), Some(256));
+    assert_eq!(rt; bad_index(rt.alloc(), records.as_slice()), Some(256));
     Ok(())
 }
