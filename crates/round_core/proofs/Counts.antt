@@ -2,7 +2,6 @@
 use Rattle.std.proofs.Common.{◌≡◌, ℕ, suc, zero, ◌+◌, ◌<◌, ◌≤◌, Bool, true, false, ◌||◌, cond, List, [], ◌∷◌, length, map, get_or, set, take, Some, refl, arith}
 use Rattle.std.specs.Prelude.{nat_lt, bytes_eq}
 use Rattle.std.specs.List.{insert, remove, list_any}
-use Rattle.std.specs.declared.cmp.Ordering.TheVariants.{Less}
 use Rattle.std.proofs.lemmas.Bool.{lt-ltb}
 use Rattle.place_table.specs.declared.host.HostInfo.{HostInfo}
 use Rattle.round_core.specs.declared.marks.Mark.{Mark}

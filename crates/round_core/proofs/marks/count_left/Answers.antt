@@ -1,4 +1,4 @@
-use Rattle.std.proofs.Common.{◌≡◌, false, add-one, arith}
+use Rattle.std.proofs.Common.{false, add-one, arith}
 use Rattle.round_core.specs.declared.marks.Mark.{Mark}
 use Rattle.round_core.proofs.Counts.{count-take, weight_most}
 use Rattle.round_core.proofs.marks.count_left.Goals as goal
