@@ -18,23 +18,23 @@ use Rattle.round_core.specs.Rooms.{PlacementView, Gives, GivesInMemory}
 use Rattle.round_core.proofs.Giving.{counted}
 
 -- greatest boots and members are the same
-record Keeps (s t : PlacementState) : Type 0 where
-  boots : t.boots ≡ s.boots
-  hosts : hosts_of t.members ≡ hosts_of s.members
+pub record Keeps (s t : PlacementState) : Type 0 where
+  pub boots : t.boots ≡ s.boots
+  pub hosts : hosts_of t.members ≡ hosts_of s.members
 
-keeps_all : (s : PlacementState) → Keeps s s
+pub keeps_all : (s : PlacementState) → Keeps s s
 keeps_all s = record { boots = refl; hosts = refl }
 
-keeps_on : (s t u : PlacementState) → Keeps s t → Keeps t u → Keeps s u
+pub keeps_on : (s t u : PlacementState) → Keeps s t → Keeps t u → Keeps s u
 keeps_on s t u a b = record { boots = b.boots ∙ a.boots; hosts = b.hosts ∙ a.hosts }
 
 -- ---- hosts through a change of marks
 
-hosts_map : (f : Joined → Joined) (js : List Joined) → ((j : Joined) → (f j).host ≡ j.host) → hosts_of (map f js) ≡ hosts_of js
+pub hosts_map : (f : Joined → Joined) (js : List Joined) → ((j : Joined) → (f j).host ≡ j.host) → hosts_of (map f js) ≡ hosts_of js
 hosts_map f [] same = refl
 hosts_map f (j ∷ js) same = ap (λ (h : HostInfo). h ∷ hosts_of (map f js)) (same j) ∙ ap (λ (hs : List HostInfo). j.host ∷ hs) (hosts_map f js same)
 
-hosts_with : (js : List Joined) (node : List ℕ) (f : Joined → Joined) → ((j : Joined) → (f j).host ≡ j.host) → hosts_of (with_node js node f) ≡ hosts_of js
+pub hosts_with : (js : List Joined) (node : List ℕ) (f : Joined → Joined) → ((j : Joined) → (f j).host ≡ j.host) → hosts_of (with_node js node f) ≡ hosts_of js
 hosts_with [] node f same = refl
 hosts_with (j ∷ js) node f same = go (bytes_eq node (joined_node j)) (hosts_with js node f same)
   where
@@ -42,7 +42,7 @@ hosts_with (j ∷ js) node f same = go (bytes_eq node (joined_node j)) (hosts_wi
     go true ih = ap (λ (h : HostInfo). h ∷ hosts_of js) (same j)
     go false ih = ap (λ (hs : List HostInfo). j.host ∷ hs) ih
 
-hosts_length : (js : List Joined) → length (hosts_of js) ≡ length js
+pub hosts_length : (js : List Joined) → length (hosts_of js) ≡ length js
 hosts_length [] = refl
 hosts_length (j ∷ js) = let e = hosts_length js in omega arith
 
@@ -74,13 +74,13 @@ fully_keeps s =
     let u = advance_round t in
     keeps_on s t (advance_round u) (advance_keeps s) (keeps_on t u (advance_round u) (advance_keeps t) (advance_keeps u))
 
-settle_keeps : (s : PlacementState) → Keeps s (settle_round s)
+pub settle_keeps : (s : PlacementState) → Keeps s (settle_round s)
 settle_keeps s =
     let t = advance_fully s in
     let u = start_round t in
     keeps_on s t (advance_fully u) (fully_keeps s) (keeps_on t u (advance_fully u) (start_keeps t) (fully_keeps u))
 
-conclude_keeps : (s : PlacementState) (k : Conclusion) → Keeps s (conclude s k).state
+pub conclude_keeps : (s : PlacementState) (k : Conclusion) → Keeps s (conclude s k).state
 conclude_keeps s (Stays reply) = keeps_all s
 conclude_keeps s (Says reply) = settle_keeps s
 conclude_keeps s (Tells m) = settle_keeps s
@@ -152,7 +152,7 @@ heard_noted : (s : PlacementState) (m : Member) (f : Joined → Joined) (b : Boo
 heard_noted s m f true same = with_noted s m f same
 heard_noted s m f false same = unchanged_noted s _
 
-ack_same : (now : ℕ) (b : Bool) (j : Joined) → (cond b (acked_at now) (heard_at now) j).host ≡ j.host
+pub ack_same : (now : ℕ) (b : Bool) (j : Joined) → (cond b (acked_at now) (heard_at now) j).host ≡ j.host
 ack_same now true j = refl
 ack_same now false j = refl
 
@@ -181,7 +181,7 @@ noted s events.Look now = unchanged_noted s replies.Looked
 
 -- ---- the record
 
-none_parts : (r : RecordOf) (a b c : Bool) → cond (a || (b || not c)) (Some r) None ≡ None → (a ≡ false) × (b ≡ false) × (c ≡ true)
+pub none_parts : (r : RecordOf) (a b c : Bool) → cond (a || (b || not c)) (Some r) None ≡ None → (a ≡ false) × (b ≡ false) × (c ≡ true)
 none_parts r true b c e = absurd (cc)
 none_parts r false true c e = absurd (cc)
 none_parts r false false true e = (refl, refl, refl)

@@ -55,20 +55,6 @@ with_node-found node (h ∷ hs) (k ∷ ms) i g f d s p = go (cmp h.member.node n
     go Equal e ih (suc i) p = absurd (cc)
     go Greater e ih i p = absurd (cc)
 
-pub with_node-missing : (node : List ℕ) (hs : List HostInfo) (ms : List Mark) (i : ℕ) (f : Joined → Joined) → Ascends host_node hs → place_by host_node node hs ≡ Err i → with_node (joined_all hs ms) node f ≡ joined_all hs ms
-with_node-missing node [] ms i g a p = refl
-with_node-missing node (h ∷ hs) [] i g a p = refl
-with_node-missing node (h ∷ hs) (k ∷ ms) i g a p = go (cmp h.member.node node) refl (λ j q. with_node-missing node hs ms j g a.1 q) i p
-  where
-    go : (o : Ordering) → cmp h.member.node node ≡ o → ((j : ℕ) → place_by host_node node hs ≡ Err j → with_node (joined_all hs ms) node g ≡ joined_all hs ms) → (i : ℕ) → place_from o (place node hs) ≡ Err i → with_node (joined_all (h ∷ hs) (k ∷ ms)) node g ≡ joined_all (h ∷ hs) (k ∷ ms)
-    go Less f ih i p = let r = one_more-Err (place node hs) i p in rw (same_texts h.member.node node Less f) (ap (λ js. joined_of h k ∷ js) (ih r.0 r.1))
-    go Equal f ih i p = absurd (cc)
-    go Greater f ih i p = rw (same_texts h.member.node node Greater f) (ap (λ js. joined_of h k ∷ js) (ih 0 (none_after host_node h.member.node node hs f a.0)))
-
-joined_all-none : (hs : List HostInfo) → joined_all hs [] ≡ []
-joined_all-none [] = refl
-joined_all-none (h ∷ hs) = refl
-
 pub without_node-found : (node : List ℕ) (hs : List HostInfo) (ms : List Mark) (i : ℕ) → length ms ≡ length hs → place_by host_node node hs ≡ Ok i → without_node (joined_all hs ms) node ≡ joined_all (remove hs i) (remove ms i)
 without_node-found node [] ms i l p = absurd (cc)
 without_node-found node (h ∷ hs) [] i l p = absurd (omega arith)

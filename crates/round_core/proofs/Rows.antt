@@ -1,6 +1,6 @@
 -- Worked examples of the placement state machine.
 use Rattle.std.proofs.Common.{◌≡◌, ℕ, List, [], ◌∷◌, None, Some, refl}
-use Rattle.std.specs.declared.result.Result.TheVariants.{Err}
+use Rattle.std.specs.declared.result.Result.TheVariants.{Ok, Err}
 use Rattle.actor_names.specs.declared.member.Member.{Member}
 use Rattle.place_table.specs.declared.host.HostInfo.{HostInfo}
 use Rattle.place_table.specs.declared.ack_stage.AckStage.TheVariants as stages
@@ -10,7 +10,8 @@ use Rattle.round_core.specs.declared.event.PlaceReply.{PlaceReply}
 use Rattle.round_core.specs.declared.event.PlaceReply.TheVariants as replies
 use Rattle.round_core.specs.Members.{members_of}
 use Rattle.round_core.specs.Placement.{PlacementState, new_placement, last_version, placement_step, placement_restarted}
-use Rattle.round_core.specs.Records.{step_record, after_records}
+use Rattle.round_core.specs.Records.{RecordOf, step_record, after_records, placement_restored}
+use Rattle.round_core.specs.Runs.{Steps, Restarts, run_records}
 
 abbrev a : ℕ → Member
 a boot = record { node = 97 ∷ []; boot = boot }
@@ -87,3 +88,48 @@ beat_is_not_recorded = refl
 
 stranger_is_bad_record : after_records 0 new_placement (record { joined = Some (host (a 1)); removed = []; next_version = 2 } ∷ record { joined = None; removed = b ∷ []; next_version = 2 } ∷ []) ≡ Err 1
 stranger_is_bad_record = refl
+
+-- ---- what is restored
+
+abbrev joined_at : ℕ → Member → RecordOf
+joined_at next m = record { joined = Some (host m); removed = []; next_version = next }
+
+abbrev removed_at : ℕ → Member → RecordOf
+removed_at next m = record { joined = None; removed = m ∷ []; next_version = next }
+
+nothing_restores_opening : placement_restored [] 5 ≡ Ok new_placement
+nothing_restores_opening = refl
+
+-- of the records of a run the restart of its last state
+one_join_is_restored : placement_restored (joined_at 2 (a 1) ∷ []) 5 ≡ Ok (placement_restarted (after new_placement (joins (a 1) ∷ [])) 5)
+one_join_is_restored = refl
+
+-- the removals of a record act before its join
+removal_frees_node : placement_restored (joined_at 2 (a 1) ∷ record { joined = Some (host (a 2)); removed = a 1 ∷ []; next_version = 4 } ∷ []) 5 ≡ Ok (placement_restarted (after new_placement (joins (a 1) ∷ events.Leave (a 1) ∷ joins (a 2) ∷ [])) 5)
+removal_frees_node = refl
+
+other_boot_is_stranger : placement_restored (joined_at 2 (a 1) ∷ removed_at 2 (a 2) ∷ []) 5 ≡ Err 1
+other_boot_is_stranger = refl
+
+busy_node_is_bad : placement_restored (joined_at 2 (a 1) ∷ joined_at 2 (a 2) ∷ []) 5 ≡ Err 1
+busy_node_is_bad = refl
+
+equal_boot_is_bad : placement_restored (joined_at 2 (a 1) ∷ removed_at 2 (a 1) ∷ joined_at 2 (a 1) ∷ []) 5 ≡ Err 2
+equal_boot_is_bad = refl
+
+lower_version_is_bad : placement_restored (joined_at 3 (a 1) ∷ joined_at 2 b ∷ []) 5 ≡ Err 1
+lower_version_is_bad = refl
+
+greatest_version_is_good : after_records 0 new_placement (record { joined = None; removed = []; next_version = 4611686018427387904 } ∷ []) ≡ Ok (record new_placement { next_version = 4611686018427387904 })
+greatest_version_is_good = refl
+
+greater_version_is_bad : placement_restored (record { joined = None; removed = []; next_version = 4611686018427387905 } ∷ []) 5 ≡ Err 0
+greater_version_is_bad = refl
+
+-- ---- the records of a run: a Beat leaves none, and a restart the version that it used
+
+run_leaves_records : run_records new_placement (Steps (joins (a 1)) 0 ∷ Steps (events.Beat (a 1)) 1 ∷ Restarts 5 ∷ Steps (events.Leave (a 1)) 6 ∷ []) ≡ joined_at 2 (a 1) ∷ record { joined = None; removed = []; next_version = 3 } ∷ removed_at 4 (a 1) ∷ []
+run_leaves_records = refl
+
+restart_of_nothing_leaves_no_record : run_records new_placement (Restarts 5 ∷ []) ≡ []
+restart_of_nothing_leaves_no_record = refl

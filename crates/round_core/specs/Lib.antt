@@ -5,3 +5,4 @@ pub mod Placement
 pub mod Roster
 pub mod Records
 pub mod Rooms
+pub mod Runs

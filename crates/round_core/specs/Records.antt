@@ -1,11 +1,13 @@
 -- The records of steps, and what is restored of them. Own.
-use Rattle.std.specs.Prelude.{ℕ, ◌+◌, Bool, not, ◌&&◌, ◌||◌, ◌==◌, nat_lt, if◌then◌else◌, List, [], ◌∷◌, length, Option, None, Some, is_some}
+use Rattle.std.specs.Prelude.{◌≡◌, ℕ, ◌+◌, Bool, not, ◌&&◌, ◌||◌, ◌==◌, nat_lt, if◌then◌else◌, List, [], ◌∷◌, length, Option, None, Some, is_some}
 use Rattle.std.specs.declared.result.Result.{Result}
 use Rattle.std.specs.declared.result.Result.TheVariants.{Ok, Err}
 use Rattle.actor_names.specs.declared.member.Member.{Member}
 use Rattle.place_table.specs.declared.host.HostInfo.{HostInfo}
 use Rattle.round_core.specs.declared.event.PlaceEvent.{PlaceEvent}
 use Rattle.round_core.specs.declared.record.PlacementRecord as declared
+use Rattle.round_core.specs.declared.restore.RestoreError.{RestoreError}
+use Rattle.round_core.specs.declared.restore.RestoreError.TheVariants.{BadRecord, OutOfMemory}
 use Rattle.round_core.specs.Members.{Joined, greatest_boot, of_node, is_here, without_node}
 use Rattle.round_core.specs.Placement.{PlacementState, new_placement, version_limit, is_full, with_joined, apply_membership, placement_step, placement_restarted}
 
@@ -79,3 +81,16 @@ restarted_of (Err at) now = Err at
 
 abbrev pub placement_restored : List RecordOf → ℕ → Result PlacementState ℕ
 placement_restored records now = restarted_of (after_records 0 new_placement records) now
+
+-- what the restored placement has to write down: what the restart does
+abbrev pub recorded_of : Result PlacementState ℕ → ℕ → Option RecordOf
+recorded_of (Ok s) now = restart_record s now
+recorded_of (Err at) now = None
+
+abbrev pub restored_record : List RecordOf → ℕ → Option RecordOf
+restored_record records now = recorded_of (after_records 0 new_placement records) now
+
+-- a refusal for a bad record names the first bad one; want of memory says nothing of the records
+abbrev pub IsBadAt : RestoreError → Result PlacementState ℕ → Type 0
+IsBadAt (BadRecord index) answer = answer ≡ Err index
+IsBadAt OutOfMemory answer = Unit {0}

@@ -1,5 +1,5 @@
 -- The members as they are kept: hosts in byte order of node, with a mark and maybe a spare copy beside each. Own.
-use Rattle.std.specs.Prelude.{◌≡◌, ℕ, zero, suc, ◌≤◌, Bool, true, false, ◌⊎◌, List, [], ◌∷◌, length, Option, None, Some}
+use Rattle.std.specs.Prelude.{◌≡◌, ℕ, zero, suc, ◌+◌, ◌≤◌, Bool, true, false, if◌then◌else◌, ◌⊎◌, List, [], ◌∷◌, length, Option, None, Some}
 use Rattle.place_table.specs.declared.host.HostInfo.{HostInfo}
 use Rattle.round_core.specs.declared.marks.Mark.{Mark}
 use Rattle.round_core.specs.Members.{Joined}
@@ -24,6 +24,14 @@ targeted_mark k = record k { target = true; left = true }
 
 abbrev pub restarted_mark : ℕ → Mark → Mark
 restarted_mark now k = record k { heard = now; target = false; left = false }
+
+-- how many are left
+abbrev pub mark_weight : Mark → ℕ
+mark_weight k = if k.left then 1 else 0
+
+abbrev pub left_count : List Mark → ℕ
+left_count [] = 0
+left_count (k ∷ ks) = mark_weight k + left_count ks
 
 -- one of the hosts
 abbrev pub IsIn : HostInfo → List HostInfo → Type 0
@@ -62,13 +70,15 @@ pub record RosterState : Type 0 where
   pub table : List HostInfo
   pub room : ℕ
 
-pub record IsRosterKept (hosts : List HostInfo) (marks : List Mark) (spares : List (Option HostInfo)) (table : List HostInfo) (room : ℕ) : Type 0 where
+pub record IsRosterKept (hosts : List HostInfo) (marks : List Mark) (spares : List (Option HostInfo)) (table : List HostInfo) (room left : ℕ) : Type 0 where
   pub ascends : Ascends host_node hosts
   pub marked : length marks ≡ length hosts
   pub spared : length spares ≡ length hosts
   pub backed : AreBacked hosts spares table
   pub few : length hosts ≤ 256
   pub within : length hosts ≤ room
+  pub ordered : Ascends host_node table
+  pub counted : left ≡ left_count marks
 
 -- each vector has that much room
 pub record HasRoom (room hosts marks spares table : ℕ) : Type 0 where

@@ -1,7 +1,6 @@
 // What is kept of a member beside its host.
 ghost use Rattle.std.specs.Prelude.{◌≡◌, map, vec_capacity};
-ghost use Rattle.std.specs.List.{list_any};
-ghost use Rattle.round_core.specs.Roster.{is_mark_left, entered_mark, targeted_mark, restarted_mark};
+ghost use Rattle.round_core.specs.Roster.{mark_weight, left_count, entered_mark, targeted_mark, restarted_mark};
 
 /// When a member was last heard, and its part in the running round.
 #[derive(Clone, Copy)]
@@ -14,21 +13,34 @@ pub struct Mark {
     pub left: bool,
 }
 
-/// Whether any of them is left.
-pub(crate) fn any_mark_left(marks: &[Mark]) -> bool
-    ensures { result ≡ list_any is_mark_left marks.now }
+/// How much it adds to the count of those left.
+pub(crate) fn weigh_mark(mark: Mark) -> usize
+    ensures { result ≡ mark_weight mark }
 {
-    marks.iter().any(|mark| mark.left)
+    if mark.left { 1 } else { 0 }
 }
 
-/// The targets are left.
-pub(crate) fn enter_marks(marks: &mut Vec<Mark>)
+/// How many of them are left.
+pub(crate) fn count_left(marks: &[Mark]) -> usize
+    ensures { result ≡ left_count marks.now }
+{
+    let mut count = 0;
+    for i in 0..marks.len() {
+        count += weigh_mark(marks[i]);
+    }
+    count
+}
+
+/// The targets are left; counts them.
+pub(crate) fn enter_marks(marks: &mut Vec<Mark>) -> usize
     ensures items { marks.new.items ≡ map entered_mark marks.old.items }
     ensures room { vec_capacity marks.new ≡ vec_capacity marks.old }
+    ensures count { result ≡ left_count marks.new.items }
 {
     for mark in marks.iter_mut() {
         mark.left = mark.target;
     }
+    count_left(marks)
 }
 
 /// Each is a target, and left.

@@ -1,16 +1,21 @@
 // The placement: one step at a time, with the record of each.
-ghost use Rattle.std.specs.Prelude.{◌≡◌, ◌↔◌, ◌==◌, ◌||◌, ◌+◌, ◌≤◌, not, nat_lt, is_some, false, [], Some, None, IfOk, OnOk, OnErr, ℕ, length, option_map};
+ghost use Rattle.std.specs.Prelude.{◌≡◌, ◌↔◌, ◌==◌, ◌||◌, ◌+◌, ◌<◌, ◌≤◌, List, not, nat_lt, is_some, false, [], Some, None, map, IfOk, IfErr, OnOk, OnErr, ℕ, length, option_map};
 ghost use Rattle.std.specs.Option.{option_copied};
+ghost use Rattle.std.specs.declared.result.Result.TheVariants.{Ok};
 ghost use Rattle.round_core.specs.Members.{hosts_of, of_node};
 ghost use Rattle.round_core.specs.Placement.{placement_restarted, new_placement, last_version, settle_round, is_full, with_joined, SameDurableState};
 ghost use Rattle.round_core.specs.Places.{Ascends, host_node};
-ghost use Rattle.round_core.specs.Records.{record_of, restart_record};
+ghost use Rattle.round_core.specs.Records.{record_of, restart_record, placement_restored, restored_record, IsBadAt};
+ghost use Rattle.round_core.specs.Runs.{RunEvent, ForgetsNothing, run_state, run_records};
+ghost use Rattle.round_core.specs.declared.restore.RestoreError.TheVariants.{OutOfMemory as out_of_memory};
 ghost use Rattle.round_core.specs.Rooms.{with_state, Gives, GivesInMemory, GivesStep};
 
 use crate::copying::copy_option;
 use crate::event::{PlaceEvent, PlaceReply};
 use crate::record::{MemberList, PlacementRecord};
+use crate::restore::{RestoreError, apply_records};
 use crate::rounds::Rounds;
+use crate::seating::seat;
 use actor_names::{Member, OutOfMemory};
 use place_table::{AckStage, HostInfo};
 use std::alloc::Global;
@@ -58,7 +63,7 @@ fn go_on(rounds: &mut Rounds, record_: &mut PlacementRecord) -> bool
     record_.joined.is_some() || record_.removed.as_slice().len() > 0 || !(after == before)
 }
 
-/// A host joins: its copies and the room that it needs are made first.
+/// A host joins, and is noted.
 fn join(
     alloc: Global,
     rounds: &mut Rounds,
@@ -74,12 +79,8 @@ fn join(
     ensures removed { record_.new.removed.members ≡ record_.old.removed.members }
     ensures room { rounds.new.room ≤ record_.new.removed.room }
 {
-    let spare = host.copy(alloc)?;
     let shown = host.copy(alloc)?;
-    let wanted = rounds.len() as usize + 1;
-    record_.removed.reserve(wanted)?;
-    rounds.reserve()?;
-    rounds.join(host, spare, now)?;
+    seat(alloc, rounds, &mut record_.removed, host, now)?;
     record_.joined = Some(shown);
     Ok(())
 }
@@ -101,9 +102,34 @@ impl Placement {
         }
     }
 
+    /// The restart, at the moment `now`, of the state after these records; with no records it is the opening state.
+    /// For the records of a run, in their order, that is the restart of the state at its end.
+    pub fn restore(
+        alloc: Global,
+        records: &[PlacementRecord],
+        now: u64,
+    ) -> Result<Placement, RestoreError>
+        ensures restored { IfOk result (λ placement. placement_restored (map record_of records.now) now ≡ Ok placement.state) }
+        ensures recent { IfOk result (λ placement. restored_record (map record_of records.now) now ≡ placement.recent) }
+        ensures bad { IfErr result (λ e. IsBadAt e (placement_restored (map record_of records.now) now)) }
+        ensures run { IfOk result (λ placement. (run : List RunEvent) → map record_of records.now ≡ run_records new_placement run → placement.state ≡ placement_restarted (run_state new_placement run) now) }
+        ensures run_is_good { IfErr result (λ e. (run : List RunEvent) → map record_of records.now ≡ run_records new_placement run → e ≡ out_of_memory) }
+    {
+        let mut placement = Placement::new(alloc);
+        let rounds = &mut placement.rounds;
+        match apply_records(alloc, rounds, &mut placement.record.removed, records) {
+            Err(error) => Err(error),
+            Ok(()) => {
+                placement.restarted(now);
+                Ok(placement)
+            }
+        }
+    }
+
     /// The hosts of the table that was fixed last, in byte order of node; none before the first.
     pub fn table_hosts(&self) -> &[HostInfo]
-        ensures { result.now ≡ self.now.state.table }
+        ensures hosts { result.now ≡ self.now.state.table }
+        ensures order { Ascends host_node result.now }
     {
         self.rounds.table_hosts()
     }
@@ -158,13 +184,12 @@ impl Placement {
         ensures { Gives (PlaceEvent.Beat member) now result self.old self.new }
     {
         clear_record(&mut self.record);
-        if !self.rounds.has(&member) {
+        if !self.rounds.hear(&member, now) {
             self.recorded = false;
             return PlaceReply::NotMember {
                 greatest: self.rounds.greatest(&member.node),
             };
         }
-        self.rounds.hear(&member, now);
         self.recorded = go_on(&mut self.rounds, &mut self.record);
         self.rounds.reply_for(&member)
     }
@@ -174,13 +199,12 @@ impl Placement {
         ensures { Gives (PlaceEvent.Ack member stage version) now result self.old self.new }
     {
         clear_record(&mut self.record);
-        if !self.rounds.has(&member) {
+        if !self.rounds.ack(&member, stage, version, now) {
             self.recorded = false;
             return PlaceReply::NotMember {
                 greatest: self.rounds.greatest(&member.node),
             };
         }
-        self.rounds.ack(&member, stage, version, now);
         self.recorded = go_on(&mut self.rounds, &mut self.record);
         self.rounds.reply_for(&member)
     }
@@ -231,7 +255,7 @@ impl Placement {
         let member = host.member;
         clear_record(&mut self.record);
         if self.rounds.has(&member) {
-            self.rounds.hear(&member, now);
+            let _here = self.rounds.hear(&member, now);
             self.recorded = go_on(&mut self.rounds, &mut self.record);
             return self.rounds.reply_for(&member);
         }
@@ -264,6 +288,7 @@ impl Placement {
     pub fn step(&mut self, event: PlaceEvent, now: u64) -> PlaceReply
         ensures gives { GivesStep event now result self.old self.new }
         ensures durable { self.new.recent ≡ None ↔ SameDurableState self.old.state self.new.state }
+        ensures remembers { ForgetsNothing self.old.state self.new.state }
     {
         match event {
             PlaceEvent::Register { host } => self.register(host, now),
@@ -285,6 +310,7 @@ impl Placement {
     pub fn restarted(&mut self, now: u64)
         ensures state { self.new.state ≡ placement_restarted self.old.state now }
         ensures recent { self.new.recent ≡ restart_record self.old.state now }
+        ensures remembers { 1 < self.old.state.next_version → ForgetsNothing self.old.state self.new.state }
     {
         clear_record(&mut self.record);
         let before = self.rounds.next_version();

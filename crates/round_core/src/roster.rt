@@ -1,13 +1,14 @@
 // The members and the table that was fixed last.
-ghost use Rattle.std.specs.Prelude.{◌≡◌, ◌+◌, ◌<◌, ◌≤◌, ◌↔◌, [], ◌∷◌, ◌++◌, None, false, length, map, IfOk, OnOk, OnErr, max, option_map};
+ghost use Rattle.std.specs.Prelude.{◌≡◌, ◌==◌, ◌+◌, ◌<◌, ◌≤◌, ◌↔◌, [], ◌∷◌, ◌++◌, None, false, length, map, IfOk, OnOk, OnErr, IsTrue, IsFalse, Some, max, option_map};
 ghost use Rattle.round_core.specs.Members.{heard_at, acked_at, restarted_at, new_joined, boot_of, hosts_of, of_node, is_here, is_left, with_node, without_node, put_joined, late_of, heard_of, any_left, entered, targeted, target_hosts};
 ghost use Rattle.round_core.specs.Places.{Ascends, host_node};
+ghost use Rattle.round_core.specs.Records.{removes_all};
 ghost use Rattle.round_core.specs.Roster.{RosterState, SameButRoom};
 
 use crate::copies::{fix_table, give_back_all};
 use crate::copying::{copy_hosts, copy_marks, copy_spares};
 use crate::late::drop_late;
-use crate::marks::{Mark, any_mark_left, enter_marks, restart_marks, target_marks};
+use crate::marks::{Mark, count_left, enter_marks, restart_marks, target_marks, weigh_mark};
 use crate::record::MemberList;
 use crate::room::insert_in_room;
 use crate::search::host_place;
@@ -17,7 +18,7 @@ use std::alloc::Global;
 use std::marker::Model;
 
 /// The members in byte order of node, at most 256, and the table that was fixed last. Of each member's host there
-/// is a second copy, which is spare or in the table.
+/// is a second copy, which is spare or in the table. Those left are counted.
 #[derive(Drop)]
 pub(crate) struct Roster {
     hosts: Vec<HostInfo>,
@@ -25,6 +26,7 @@ pub(crate) struct Roster {
     spares: Vec<Option<HostInfo>>,
     table: Vec<HostInfo>,
     room: usize,
+    left: usize,
 }
 
 impl Model for Roster {
@@ -35,7 +37,14 @@ impl Model for Roster {
 
     ghost view = { λ a. record { members = joined_all a.hosts.items a.marks.items; table = a.table.items; room = a.room } };
 
-    ghost invariant = { λ a. IsRosterKept a.hosts.items a.marks.items a.spares.items a.table.items a.room × HasRoom a.room (vec_capacity a.hosts) (vec_capacity a.marks) (vec_capacity a.spares) (vec_capacity a.table) };
+    ghost invariant = { λ a. IsRosterKept a.hosts.items a.marks.items a.spares.items a.table.items a.room a.left × HasRoom a.room (vec_capacity a.hosts) (vec_capacity a.marks) (vec_capacity a.spares) (vec_capacity a.table) };
+}
+
+/// Whether the host is of the member's boot.
+fn has_boot(host: &HostInfo, member: &Member) -> bool
+    ensures { result ≡ (member.now.boot == host.now.member.boot) }
+{
+    member.boot == host.member.boot
 }
 
 impl Roster {
@@ -49,6 +58,7 @@ impl Roster {
             spares: Vec::new(alloc),
             table: Vec::new(alloc),
             room: 0,
+            left: 0,
         }
     }
 
@@ -62,7 +72,8 @@ impl Roster {
 
     /// The hosts of the table that was fixed last.
     pub(crate) fn table(&self) -> &[HostInfo]
-        ensures { result.now ≡ self.now.table }
+        ensures hosts { result.now ≡ self.now.table }
+        ensures order { Ascends host_node result.now }
     {
         self.table.as_slice()
     }
@@ -107,6 +118,9 @@ impl Roster {
     pub(crate) fn is_left(&self, member: &Member) -> bool
         ensures { result ≡ is_left self.now.members member.now }
     {
+        if self.left == 0 {
+            return false;
+        }
         match host_place(&self.hosts, &member.node) {
             Ok(at) => self.marks[at].left,
             Err(_) => false,
@@ -117,33 +131,47 @@ impl Roster {
     pub(crate) fn any_left(&self) -> bool
         ensures { result ≡ any_left self.now.members }
     {
-        any_mark_left(&self.marks)
+        self.left > 0
     }
 
-    /// The member of this node is heard.
-    pub(crate) fn hear(&mut self, node: &Node, now: u64)
-        ensures { self.new ≡ record self.old { members = with_node self.old.members node.now (heard_at now) } }
+    /// The member is heard, if it is one; says whether it is.
+    pub(crate) fn hear(&mut self, member: &Member, now: u64) -> bool
+        ensures here { result ≡ is_here self.old.members member.now }
+        ensures heard { IsTrue result → self.new ≡ record self.old { members = with_node self.old.members member.now.node (heard_at now) } }
+        ensures stranger { IsFalse result → self.new ≡ self.old }
     {
-        match host_place(&self.hosts, node) {
+        match host_place(&self.hosts, &member.node) {
             Ok(at) => {
+                if !has_boot(&self.hosts[at], member) {
+                    return false;
+                }
                 let mark = &mut self.marks[at];
                 mark.heard = now;
+                true
             }
-            Err(_) => {}
+            Err(_) => false,
         }
     }
 
-    /// The member of this node is heard, and isn't left any more.
-    pub(crate) fn ack(&mut self, node: &Node, now: u64)
-        ensures { self.new ≡ record self.old { members = with_node self.old.members node.now (acked_at now) } }
+    /// The member is heard, if it is one, and isn't left any more; says whether it is one.
+    pub(crate) fn ack(&mut self, member: &Member, now: u64) -> bool
+        ensures here { result ≡ is_here self.old.members member.now }
+        ensures acked { IsTrue result → self.new ≡ record self.old { members = with_node self.old.members member.now.node (acked_at now) } }
+        ensures stranger { IsFalse result → self.new ≡ self.old }
     {
-        match host_place(&self.hosts, node) {
+        match host_place(&self.hosts, &member.node) {
             Ok(at) => {
+                if !has_boot(&self.hosts[at], member) {
+                    return false;
+                }
+                let weight = weigh_mark(self.marks[at]);
                 let mark = &mut self.marks[at];
                 mark.heard = now;
                 mark.left = false;
+                self.left -= weight;
+                true
             }
-            Err(_) => {}
+            Err(_) => false,
         }
     }
 
@@ -195,11 +223,29 @@ impl Roster {
         match host_place(&self.hosts, node) {
             Ok(at) => {
                 let _host = self.hosts.remove(at);
-                let _mark = self.marks.remove(at);
+                let mark = self.marks.remove(at);
                 let _spare = self.spares.remove(at);
+                let weight = weigh_mark(mark);
+                self.left -= weight;
             }
             Err(_) => {}
         }
+    }
+
+    /// Removes members in their order, and says whether each was one.
+    pub(crate) fn remove_all(&mut self, members: &[Member]) -> bool
+        ensures all { IsTrue result → removes_all self.old.members members.now ≡ Some self.new.members }
+        ensures stranger { IsFalse result → removes_all self.old.members members.now ≡ None }
+        ensures table { self.new.table ≡ self.old.table }
+        ensures room { self.new.room ≡ self.old.room }
+    {
+        for i in 0..members.len() {
+            if !self.has(&members[i]) {
+                return false;
+            }
+            self.remove(&members[i].node);
+        }
+        true
     }
 
     /// The table of the targets is fixed.
@@ -213,7 +259,8 @@ impl Roster {
     pub(crate) fn enter(&mut self)
         ensures { self.new ≡ record self.old { members = map entered self.old.members } }
     {
-        enter_marks(&mut self.marks);
+        let left = enter_marks(&mut self.marks);
+        self.left = left;
     }
 
     /// A round starts: each member is a target, and left.
@@ -221,6 +268,8 @@ impl Roster {
         ensures { self.new ≡ record self.old { members = map targeted self.old.members } }
     {
         target_marks(&mut self.marks);
+        let left = self.marks.len();
+        self.left = left;
     }
 
     /// Drops each member that was not heard for 10,000 milliseconds, and lists it.
@@ -237,6 +286,8 @@ impl Roster {
             removed,
             now,
         );
+        let left = count_left(&self.marks);
+        self.left = left;
     }
 
     /// A restart: each member is heard, and there is no round and no table.
@@ -245,6 +296,7 @@ impl Roster {
     {
         give_back_all(&self.hosts, &mut self.spares, &mut self.table);
         restart_marks(&mut self.marks, now);
+        self.left = 0;
     }
 
     /// Nobody, and no table.
@@ -255,6 +307,7 @@ impl Roster {
         self.marks.clear();
         self.spares.clear();
         self.table.clear();
+        self.left = 0;
     }
     /// An equal roster, with the same room.
     pub(crate) fn copy(&self, alloc: Global) -> Result<Roster, OutOfMemory>
@@ -270,6 +323,7 @@ impl Roster {
             spares,
             table,
             room: self.room,
+            left: self.left,
         })
     }
 }

@@ -1,8 +1,9 @@
 // The members, their greatest boots, and the rounds that spread each table.
-ghost use Rattle.std.specs.Prelude.{◌≡◌, ◌==◌, ◌&&◌, true, ◌+◌, ◌<◌, ◌≤◌, ◌^◌, ◌++◌, length, IfOk, OnOk, OnErr, None, false, max, option_map};
+ghost use Rattle.std.specs.Prelude.{◌≡◌, ◌==◌, ◌&&◌, true, ◌+◌, ◌<◌, ◌≤◌, ◌^◌, ◌++◌, length, IfOk, OnOk, OnErr, Some, None, false, max, option_map, IsTrue, IsFalse};
 ghost use Rattle.round_core.specs.Members.{is_here, is_left, with_node, without_node, heard_at, hosts_of, boot_of, of_node, greatest_boot, late_of};
 ghost use Rattle.round_core.specs.Placement.{placement_restarted, new_placement, advance_round, start_round, settle_round, advance_fully, may_start, is_in_stage, is_full, with_joined, drop_late, reply_for, last_version, ack_change};
 ghost use Rattle.round_core.specs.Places.{Ascends, host_node};
+ghost use Rattle.round_core.specs.Records.{removes_all, may_join};
 ghost use Rattle.round_core.specs.Rooms.{with_state};
 
 use crate::book::BootBook;
@@ -16,7 +17,7 @@ use std::alloc::Global;
 use std::marker::Model;
 
 /// The next version never passes this.
-const VERSION_LIMIT: u64 = 4611686018427387904;
+pub(crate) const VERSION_LIMIT: u64 = 4611686018427387904;
 
 /// The members, their greatest boots and the running round.
 #[derive(Drop)]
@@ -63,7 +64,8 @@ impl Rounds {
 
     /// The hosts of the table that was fixed last.
     pub(crate) fn table_hosts(&self) -> &[HostInfo]
-        ensures { result.now ≡ self.now.state.table }
+        ensures hosts { result.now ≡ self.now.state.table }
+        ensures order { Ascends host_node result.now }
     {
         self.roster.table()
     }
@@ -190,11 +192,13 @@ impl Rounds {
         }
     }
 
-    /// A member is heard.
-    pub(crate) fn hear(&mut self, member: &Member, now: u64)
-        ensures { self.new ≡ with_state self.old (record self.old.state { members = with_node self.old.state.members member.now.node (heard_at now) }) }
+    /// The member is heard, if it is one; says whether it is.
+    pub(crate) fn hear(&mut self, member: &Member, now: u64) -> bool
+        ensures here { result ≡ is_here self.old.state.members member.now }
+        ensures heard { IsTrue result → self.new ≡ with_state self.old (record self.old.state { members = with_node self.old.state.members member.now.node (heard_at now) }) }
+        ensures stranger { IsFalse result → self.new ≡ self.old }
     {
-        self.roster.hear(&member.node, now);
+        self.roster.hear(member, now)
     }
 
     /// Whether the running round is in this stage at this version.
@@ -209,14 +213,16 @@ impl Rounds {
         }
     }
 
-    /// A member acknowledges.
-    pub(crate) fn ack(&mut self, member: &Member, stage: AckStage, version: u64, now: u64)
-        ensures { self.new ≡ with_state self.old (record self.old.state { members = with_node self.old.state.members member.now.node (ack_change self.old.state stage version now) }) }
+    /// The member acknowledges, if it is one; says whether it is.
+    pub(crate) fn ack(&mut self, member: &Member, stage: AckStage, version: u64, now: u64) -> bool
+        ensures here { result ≡ is_here self.old.state.members member.now }
+        ensures acked { IsTrue result → self.new ≡ with_state self.old (record self.old.state { members = with_node self.old.state.members member.now.node (ack_change self.old.state stage version now) }) }
+        ensures stranger { IsFalse result → self.new ≡ self.old }
     {
         if self.is_running(stage, version) {
-            self.roster.ack(&member.node, now);
+            self.roster.ack(member, now)
         } else {
-            self.roster.hear(&member.node, now);
+            self.roster.hear(member, now)
         }
     }
 
@@ -255,6 +261,34 @@ impl Rounds {
         ensures { result ≡ is_full self.now.state node.now }
     {
         self.roster.len() >= 256 || (!self.boots.knows(node) && self.boots.len() >= 65536)
+    }
+
+    /// Whether a host may join: its node has no member, its boot is above the greatest one, and there is a place.
+    pub(crate) fn may_join(&self, host: &HostInfo) -> bool
+        ensures { result ≡ may_join self.now.state host.now }
+    {
+        let node = &host.member.node;
+        self.boot_at(node).is_none()
+            && self.greatest(node) < host.member.boot
+            && !self.is_full(node)
+    }
+
+    /// Removes members in their order, and says whether each was one. No change awaits the next round by that.
+    pub(crate) fn remove_all(&mut self, members: &[Member]) -> bool
+        ensures all { IsTrue result → removes_all self.old.state.members members.now ≡ Some self.new.state.members }
+        ensures stranger { IsFalse result → removes_all self.old.state.members members.now ≡ None }
+        ensures rest { self.new ≡ with_state self.old (record self.old.state { members = self.new.state.members }) }
+    {
+        self.roster.remove_all(members)
+    }
+
+    /// The next version is this one.
+    pub(crate) fn set_version(&mut self, version: u64)
+        requires used { 1 ≤ version }
+        requires within { version ≤ 2 ^ 62 }
+        ensures { self.new ≡ with_state self.old (record self.old.state { next_version = version }) }
+    {
+        self.next_version = version;
     }
 
     /// For how many members there is room.

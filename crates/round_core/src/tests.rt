@@ -6,7 +6,7 @@ use std::alloc::Global;
 use std::test::Fail;
 
 /// A host of one type.
-fn host(alloc: Global, member: &[u8]) -> Result<HostInfo, Fail> {
+pub(crate) fn host(alloc: Global, member: &[u8]) -> Result<HostInfo, Fail> {
     let mut kinds = Vec::new(alloc);
     kinds.push(read_actor_type(alloc, b"counter")?)?;
     Ok(HostInfo {
@@ -18,7 +18,11 @@ fn host(alloc: Global, member: &[u8]) -> Result<HostInfo, Fail> {
 }
 
 /// The answer to a Register at the moment 1,000.
-fn register(alloc: Global, placement: &mut Placement, member: &[u8]) -> Result<PlaceReply, Fail> {
+pub(crate) fn register(
+    alloc: Global,
+    placement: &mut Placement,
+    member: &[u8],
+) -> Result<PlaceReply, Fail> {
     let host = host(alloc, member)?;
     Ok(placement.step(PlaceEvent::Register { host }, 1000))
 }

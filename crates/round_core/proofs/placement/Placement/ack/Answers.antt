@@ -10,15 +10,15 @@ use Rattle.round_core.proofs.placement.Placement.ack.Goals as goal
 pub returns : goal.returns
 returns c =
     let st : c.self.inside.rounds.state ≡ c.args.self.now.state = ap (λ (v : PlacementView). v.state) c.self.view_is in
-    let h : c.has.result ≡ true = search rules in
-    let here : is_here c.args.self.now.state.members c.args.member ≡ true = rw (← st) (sym c.has.ensures ∙ h) in
+    let h : c.ack.result ≡ true = search rules in
+    let here : is_here c.args.self.now.state.members c.args.member ≡ true = rw (← st) (sym c.ack.ensures.here ∙ h) in
     let g = λ (s : PlacementState). record s { members = with_node s.members c.args.member.node (ack_change s c.args.stage c.args.version c.args.now) } in
     settled_gives c.args.self.now (events.Ack c.args.member c.args.stage c.args.version) c.args.now c.ack.new.self c.go_on-self-inside.new.rounds (g c.args.self.now.state) c.clear_record.new.record_ c.go_on-self-inside.new.record_ c.go_on-self-inside.result c.reply_for.result None [] (Tells c.args.member)
     (rw here refl) refl refl
-    (ap (λ (r : RoundState). r.state) c.ack.ensures ∙ ap g st)
+    (ap (λ (r : RoundState). r.state) (c.ack.ensures.acked h) ∙ ap g st)
     c.go_on-self-inside.ensures.rounds
     (ap (λ (r : declared.PlacementRecord). r.joined) c.clear_record.ensures)
     (ap (λ (r : declared.PlacementRecord). r.removed.members) c.clear_record.ensures)
     c.go_on-self-inside.ensures.noted
     c.go_on-self-inside.ensures.changed
-    (c.reply_for.ensures ∙ ap (λ (r : RoundState). reply_for r.state c.args.member) c.go_on-self-inside.ensures.rounds ∙ ap (λ (s : PlacementState). reply_for (settle_round s) c.args.member) (ap (λ (r : RoundState). r.state) c.ack.ensures ∙ ap g st))
+    (c.reply_for.ensures ∙ ap (λ (r : RoundState). reply_for r.state c.args.member) c.go_on-self-inside.ensures.rounds ∙ ap (λ (s : PlacementState). reply_for (settle_round s) c.args.member) (ap (λ (r : RoundState). r.state) (c.ack.ensures.acked h) ∙ ap g st))

@@ -15,15 +15,15 @@ returns-then-has c =
     let g = λ (s : PlacementState). record s { members = with_node s.members c.args.host.member.node (heard_at c.args.now) } in
     let told = c.reply_for.ensures in
     had_memory (events.Register c.args.host) c.args.now c.reply_for.result c.args.self.now _ (λ e. told_memory c.go_on-self-inside.new.rounds.state c.args.host.member (sym told ∙ e))
-    (settled_gives c.args.self.now (events.Register c.args.host) c.args.now c.hear.new.self c.go_on-self-inside.new.rounds (g c.args.self.now.state) c.clear_record.new.record_ c.go_on-self-inside.new.record_ c.go_on-self-inside.result c.reply_for.result None [] (Tells c.args.host.member)
+    (settled_gives c.args.self.now (events.Register c.args.host) c.args.now c.hear-here.new.self c.go_on-self-inside.new.rounds (g c.args.self.now.state) c.clear_record.new.record_ c.go_on-self-inside.new.record_ c.go_on-self-inside.result c.reply_for.result None [] (Tells c.args.host.member)
     (rw here refl) refl refl
-    (ap (λ (r : RoundState). r.state) c.hear.ensures ∙ ap g st)
+    (ap (λ (r : RoundState). r.state) (c.hear-here.ensures.heard (c.hear-here.ensures.here ∙ sym c.has.ensures ∙ c.if-has.true)) ∙ ap g st)
     c.go_on-self-inside.ensures.rounds
     (ap (λ (r : declared.PlacementRecord). r.joined) c.clear_record.ensures)
     (ap (λ (r : declared.PlacementRecord). r.removed.members) c.clear_record.ensures)
     c.go_on-self-inside.ensures.noted
     c.go_on-self-inside.ensures.changed
-    (c.reply_for.ensures ∙ ap (λ (r : RoundState). reply_for r.state c.args.host.member) c.go_on-self-inside.ensures.rounds ∙ ap (λ (s : PlacementState). reply_for (settle_round s) c.args.host.member) (ap (λ (r : RoundState). r.state) c.hear.ensures ∙ ap g st)))
+    (c.reply_for.ensures ∙ ap (λ (r : RoundState). reply_for r.state c.args.host.member) c.go_on-self-inside.ensures.rounds ∙ ap (λ (s : PlacementState). reply_for (settle_round s) c.args.host.member) (ap (λ (r : RoundState). r.state) (c.hear-here.ensures.heard (c.hear-here.ensures.here ∙ sym c.has.ensures ∙ c.if-has.true)) ∙ ap g st)))
 
 pub returns-in-Ok : goal.returns-in-Ok
 returns-in-Ok c =

@@ -1,7 +1,8 @@
-use Rattle.std.proofs.Common.{◌≡◌, sym, ◌∙◌, ap, Ok, Err}
+use Rattle.std.proofs.Common.{◌≡◌, arith, sym, ◌∙◌, ap, Ok, Err}
 use Rattle.round_core.specs.declared.marks.Mark.{Mark}
 use Rattle.round_core.specs.Members.{is_left_in}
 use Rattle.round_core.specs.Places.{host_node, place_by}
+use Rattle.round_core.proofs.Counts.{none_left}
 use Rattle.round_core.proofs.Rosters.{no_host, of_node-found, of_node-missing}
 use Rattle.round_core.proofs.roster.Roster.is_left.Goals as goal
 
@@ -14,3 +15,8 @@ pub returns-in-Err : goal.returns-in-Err
 returns-in-Err c =
     let p : place_by host_node c.args.member.now.node c.self.inside.hosts.items ≡ Err c.in-Err.field-0 = rw c.deref.ensures.value at (sym c.host_place.ensures.place ∙ c.in-Err.is) in
     rw (← c.self.view_is) (sym (ap is_left_in (of_node-missing c.args.member.now.node c.self.inside.hosts.items c.self.inside.marks.items c.in-Err.field-0 c.self.invariant.0.ascends p)))
+
+pub returns-then-self-eq0 : goal.returns-then-self-eq0
+returns-then-self-eq0 c =
+    let k = c.self.invariant.0.counted in
+    rw (← c.self.view_is) (sym (none_left c.self.inside.hosts.items c.self.inside.marks.items c.args.member.now.node (omega arith)))

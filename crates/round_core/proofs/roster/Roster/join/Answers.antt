@@ -2,6 +2,7 @@ use Rattle.std.proofs.lemmas.List.Edits.{length-insert}
 use Rattle.round_core.proofs.Places.{err_within}
 use Rattle.round_core.proofs.Ascending.{ascends_insert}
 use Rattle.round_core.proofs.Backed.{backed_insert}
+use Rattle.round_core.proofs.Counts.{count-insert}
 use Rattle.round_core.proofs.Rosters.{put_joined-at}
 use Rattle.round_core.specs.Members.{of_node}
 use Rattle.std.proofs.Common.{◌<◌, ◌≤◌, length, arith, ◌≡◌, List, sym, ◌∙◌, ap, Ok, Err, Some, None, false}
@@ -73,6 +74,8 @@ invariant_of-self c =
         backed = rw (c.insert_in_room.ensures.items, c.insert_in_room-in-Err-2.ensures.items) (backed_insert hs c.self.inside.spares.items c.self.inside.table.items i c.args.host c.args.spare c.requires.copy k.backed);
         few = rw c.insert_in_room.ensures.items (omega arith);
         within = rw c.insert_in_room.ensures.items (omega arith);
+        ordered = k.ordered;
+        counted = rw c.insert_in_room-in-Err.ensures.items (let n = count-insert c.self.inside.marks.items i (record { heard = c.args.now; target = false; left = false }) in let kc = k.counted in omega arith);
       },
       record { hosts_room = omega arith; marks_room = omega arith; spares_room = omega arith; table_room = r.table_room },
     )

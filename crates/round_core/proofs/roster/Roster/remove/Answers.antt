@@ -5,7 +5,8 @@ use Rattle.round_core.proofs.Backed.{backed_remove}
 use Rattle.std.proofs.Common.{◌<◌, length, arith, ◌≡◌, List, sym, ◌∙◌, ap, Ok, Err}
 use Rattle.round_core.specs.Members.{Joined}
 use Rattle.round_core.specs.Places.{host_node, place_by}
-use Rattle.round_core.specs.Roster.{RosterState}
+use Rattle.round_core.specs.Roster.{RosterState, mark_weight}
+use Rattle.round_core.proofs.Counts.{count-remove}
 use Rattle.round_core.proofs.Rosters.{without_node-found, without_node-missing}
 use Rattle.round_core.proofs.roster.Roster.remove.Goals as goal
 
@@ -30,6 +31,8 @@ invariant_of-self c =
         backed = rw (c.remove-host.ensures.items, c.remove-spare.ensures.items) (backed_remove hs c.self.inside.spares.items c.self.inside.table.items i k.backed);
         few = rw c.remove-host.ensures.items (omega arith);
         within = rw c.remove-host.ensures.items (omega arith);
+        ordered = k.ordered;
+        counted = rw c.remove-mark.ensures.items (let e = count-remove c.self.inside.marks.items i c.remove-mark.result (rw k.marked within) in let w = ap mark_weight c.remove-mark.ensures.value in let x = c.weigh_mark-weight.ensures in let kc = k.counted in omega arith);
       },
       record { hosts_room = rw c.remove-host.ensures.capacity r.hosts_room; marks_room = rw c.remove-mark.ensures.capacity r.marks_room; spares_room = rw c.remove-spare.ensures.capacity r.spares_room; table_room = r.table_room },
     )
@@ -45,3 +48,15 @@ returns-in-Err c =
     let p : place_by host_node c.args.node.now c.self.inside.hosts.items ≡ Err c.in-Err.field-0 = rw c.deref.ensures.value at (sym c.host_place.ensures.place ∙ c.in-Err.is) in
     let f : List Joined → RosterState = λ js. record { members = js; table = c.self.inside.table.items; room = c.self.inside.room } in
     rw (← c.self.view_is) (ap f (sym (without_node-missing c.args.node.now c.self.inside.hosts.items c.self.inside.marks.items c.in-Err.field-0 c.self.invariant.0.ascends p)))
+
+pub overflow_sub-self : goal.overflow_sub-self
+overflow_sub-self c =
+    let k = c.self.invariant.0 in
+    let hs = c.self.inside.hosts.items in
+    let i = c.in-Ok.at in
+    let within : i < length hs = ok_within host_node c.args.node.now hs i (rw c.deref.ensures.value at (sym c.host_place.ensures.place ∙ c.in-Ok.is)) in
+    let e = count-remove c.self.inside.marks.items i c.remove-mark.result (rw k.marked within) in
+    let w = ap mark_weight c.remove-mark.ensures.value in
+    let x = c.weigh_mark-weight.ensures in
+    let kc = k.counted in
+    omega arith

@@ -4,6 +4,8 @@ use Rattle.place_table.specs.declared.host.HostInfo.{HostInfo}
 use Rattle.round_core.specs.declared.marks.Mark.{Mark}
 use Rattle.round_core.specs.Members.{Joined, restarted_at}
 use Rattle.round_core.specs.Roster.{RosterState, joined_all, restarted_mark, AreSpare}
+use Rattle.round_core.specs.Places.{Ascends, host_node}
+use Rattle.round_core.proofs.Counts.{count-restarted}
 use Rattle.round_core.proofs.Backed.{spare_all, length-spare}
 use Rattle.round_core.proofs.Rosters.{joined_all-map}
 use Rattle.round_core.proofs.roster.Roster.restart.Goals as goal
@@ -13,7 +15,7 @@ invariant_of-self c =
     let k = c.self.invariant.0 in
     let r = c.self.invariant.1 in
     let s : AreSpare c.self.inside.hosts.items c.give_back_all.new.spares.items = subst (λ (hs : List HostInfo). AreSpare hs c.give_back_all.new.spares.items) c.deref.ensures.value c.give_back_all.ensures.spares in
-    (record { ascends = k.ascends; marked = rw (c.restart_marks.ensures.items, length-map) k.marked; spared = length-spare c.self.inside.hosts.items c.give_back_all.new.spares.items s; backed = spare_all c.self.inside.hosts.items c.give_back_all.new.spares.items c.give_back_all.new.table.items s; few = k.few; within = k.within }, record { hosts_room = r.hosts_room; marks_room = rw c.restart_marks.ensures.room r.marks_room; spares_room = rw c.give_back_all.ensures.spares_room r.spares_room; table_room = rw c.give_back_all.ensures.room r.table_room })
+    (record { ascends = k.ascends; marked = rw (c.restart_marks.ensures.items, length-map) k.marked; spared = length-spare c.self.inside.hosts.items c.give_back_all.new.spares.items s; backed = spare_all c.self.inside.hosts.items c.give_back_all.new.spares.items c.give_back_all.new.table.items s; few = k.few; within = k.within; ordered = subst (λ (t : List HostInfo). Ascends host_node t) (sym c.give_back_all.ensures.table) tt; counted = rw c.restart_marks.ensures.items (sym (count-restarted c.args.now c.self.inside.marks.items)) }, record { hosts_room = r.hosts_room; marks_room = rw c.restart_marks.ensures.room r.marks_room; spares_room = rw c.give_back_all.ensures.spares_room r.spares_room; table_room = rw c.give_back_all.ensures.room r.table_room })
 
 pub returns : goal.returns
 returns c =

@@ -1,8 +1,9 @@
 use Rattle.std.proofs.lemmas.List.{length-map}
-use Rattle.std.proofs.Common.{List, sym, ◌∙◌, ap, refl}
+use Rattle.std.proofs.Common.{List, length, sym, ◌∙◌, ap, refl, arith}
 use Rattle.round_core.specs.declared.marks.Mark.{Mark}
 use Rattle.round_core.specs.Members.{Joined, targeted}
 use Rattle.round_core.specs.Roster.{RosterState, joined_all, targeted_mark}
+use Rattle.round_core.proofs.Counts.{count-targeted}
 use Rattle.round_core.proofs.Rosters.{joined_all-map}
 use Rattle.round_core.proofs.roster.Roster.target.Goals as goal
 
@@ -15,4 +16,4 @@ pub invariant_of-self : goal.invariant_of-self
 invariant_of-self c =
     let k = c.self.invariant.0 in
     let r = c.self.invariant.1 in
-    (record { ascends = k.ascends; marked = rw (c.target_marks.ensures.items, length-map) k.marked; spared = k.spared; backed = k.backed; few = k.few; within = k.within }, record { hosts_room = r.hosts_room; marks_room = rw c.target_marks.ensures.room r.marks_room; spares_room = r.spares_room; table_room = r.table_room })
+    (record { ascends = k.ascends; marked = rw (c.target_marks.ensures.items, length-map) k.marked; spared = k.spared; backed = k.backed; few = k.few; within = k.within; ordered = k.ordered; counted = rw c.target_marks.ensures.items (let a = count-targeted c.self.inside.marks.items in let b = simp length-map at (ap length c.target_marks.ensures.items) in let l = c.len-left.ensures in let n = c.target_marks.new.marks.ok.0 in omega arith) }, record { hosts_room = r.hosts_room; marks_room = rw c.target_marks.ensures.room r.marks_room; spares_room = r.spares_room; table_room = r.table_room })

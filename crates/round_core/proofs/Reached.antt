@@ -1,0 +1,164 @@
+-- What holds of each state that a run reaches.
+use Rattle.std.proofs.Common.{◌≡◌, ℕ, ◌≤◌, ◌^◌, Bool, true, false, cond, List, [], ◌∷◌, Option, None, Some, refl, sym, ap, ◌∙◌, subst, inl, inr, arith}
+use Rattle.std.specs.Prelude.{◌==◌, is_some, nat_le}
+use Rattle.std.proofs.lemmas.Bool.{cases_eq, eqb-true, eq-eqb, true≢false, cond_both}
+use Rattle.actor_names.specs.declared.member.Member.{Member}
+use Rattle.place_table.specs.declared.host.HostInfo.{HostInfo}
+use Rattle.round_core.specs.declared.event.PlaceEvent.{PlaceEvent}
+use Rattle.round_core.specs.declared.event.PlaceEvent.TheVariants as events
+use Rattle.round_core.specs.Members.{Joined, hosts_of, of_node, is_here, greatest_boot, heard_at, new_joined}
+use Rattle.round_core.specs.Placement.{PlacementState, Membership, new_placement, settle_round, conclude, not_member, with_member, join_node, is_full, ack_change, remove_member, apply_membership, placement_step, placement_restarted, awoken}
+use Rattle.round_core.specs.Runs.{RunEvent, Steps, Restarts, ForgetsNothing, state_after, run_state}
+use Rattle.round_core.proofs.Durable.{Keeps, keeps_all, hosts_with, conclude_keeps, ack_same}
+use Rattle.round_core.proofs.Hosts.{Distinct, of_node-host, put_distinct, without_distinct, heard_distinct}
+use Rattle.round_core.proofs.Memory.{forgets_self, forgets_on, step_forgets, awoken_keeps, awoken_rises}
+use Rattle.round_core.proofs.Versions.{Rises, rises_all, rises_on, conclude_rises}
+
+pub record IsReached (s : PlacementState) : Type 0 where
+  pub distinct : Distinct (hosts_of s.members)
+  pub used : 1 ≤ s.next_version
+  pub within : s.next_version ≤ 2 ^ 62
+  pub unused : s.next_version ≡ 1 → s ≡ new_placement
+
+-- ---- nodes that differ
+
+abbrev Differs : Membership → Type 0
+Differs t = Distinct (hosts_of t.state.members)
+
+node_differs : (s : PlacementState) (host : HostInfo) (now : ℕ) → Distinct (hosts_of s.members) → (o : Option Joined) → of_node s.members host.member.node ≡ o → Differs (join_node s host now o)
+node_differs s host now d (Some j) e = d
+node_differs s host now d None e =
+    cond_both (is_full s host.member.node) _ _ Differs
+    (λ _. d)
+    (λ _. put_distinct s.members (new_joined host now) (sym (of_node-host s.members host.member.node) ∙ ap (λ (o : Option Joined). is_some o) e) d)
+
+heard_differs : (s : PlacementState) (m : Member) (f : Joined → Joined) (b : Bool) → ((j : Joined) → (f j).host ≡ j.host) → Distinct (hosts_of s.members) → Differs (cond b (with_member s m f) (not_member s m))
+heard_differs s m f true same d = subst (λ (hs : List HostInfo). Distinct hs) (sym (hosts_with s.members m.node f same)) d
+heard_differs s m f false same d = d
+
+remove_differs : (s : PlacementState) (m : Member) → Distinct (hosts_of s.members) → Differs (remove_member s m)
+remove_differs s m d = cond_both (is_here s.members m) _ _ Differs (λ _. without_distinct s.members m.node d) (λ _. d)
+
+differs : (s : PlacementState) (event : PlaceEvent) (now : ℕ) → Distinct (hosts_of s.members) → Differs (apply_membership s event now)
+differs s (events.Register host) now d =
+    cond_both (is_here s.members host.member) _ _ Differs
+    (λ _. heard_differs s host.member (heard_at now) true (λ j. refl) d)
+    (λ _. cond_both (nat_le host.member.boot (greatest_boot s.boots host.member.node)) _ _ Differs
+    (λ _. d)
+    (λ _. node_differs s host now d (of_node s.members host.member.node) refl))
+differs s (events.Beat m) now d = heard_differs s m (heard_at now) _ (λ j. refl) d
+differs s (events.Ack m stage version) now d = heard_differs s m (ack_change s stage version now) _ (ack_same now _) d
+differs s (events.Leave m) now d = remove_differs s m d
+differs s (events.Lost m) now d = remove_differs s m d
+differs s events.Tick now d = heard_distinct s.members now d
+differs s events.Look now d = d
+
+-- ---- versions
+
+-- a change of the members uses no version
+abbrev Same : PlacementState → Membership → Type 0
+Same s t = t.state.next_version ≡ s.next_version
+
+node_version : (s : PlacementState) (host : HostInfo) (now : ℕ) (o : Option Joined) → Same s (join_node s host now o)
+node_version s host now (Some j) = refl
+node_version s host now None = cond_both (is_full s host.member.node) _ _ (Same s) (λ _. refl) (λ _. refl)
+
+membership_version : (s : PlacementState) (event : PlaceEvent) (now : ℕ) → Same s (apply_membership s event now)
+membership_version s (events.Register host) now =
+    cond_both (is_here s.members host.member) _ _ (Same s)
+    (λ _. refl)
+    (λ _. cond_both (nat_le host.member.boot (greatest_boot s.boots host.member.node)) _ _ (Same s) (λ _. refl) (λ _. node_version s host now (of_node s.members host.member.node)))
+membership_version s (events.Beat m) now = cond_both (is_here s.members m) _ _ (Same s) (λ _. refl) (λ _. refl)
+membership_version s (events.Ack m stage version) now = cond_both (is_here s.members m) _ _ (Same s) (λ _. refl) (λ _. refl)
+membership_version s (events.Leave m) now = cond_both (is_here s.members m) _ _ (Same s) (λ _. refl) (λ _. refl)
+membership_version s (events.Lost m) now = cond_both (is_here s.members m) _ _ (Same s) (λ _. refl) (λ _. refl)
+membership_version s events.Tick now = refl
+membership_version s events.Look now = refl
+
+pub step_rises : (s : PlacementState) (event : PlaceEvent) (now : ℕ) → Rises s (placement_step s event now).state
+step_rises s event now =
+    let t = apply_membership s event now in
+    rises_on s t.state (conclude t.state t.conclusion).state (rises_all s t.state (membership_version s event now)) (conclude_rises t.state t.conclusion)
+
+-- ---- before the first round there is nobody
+
+abbrev Unused : PlacementState → Type 0
+Unused s = s.next_version ≡ 1 → s ≡ new_placement
+
+first_unused : (event : PlaceEvent) (now : ℕ) → Unused (placement_step new_placement event now).state
+first_unused (events.Register host) now =
+    cond_both (nat_le host.member.boot 0) _ _ (λ (t : Membership). Unused (conclude t.state t.conclusion).state) (λ _ _. refl) (λ _ z. absurd (cc))
+first_unused (events.Beat m) now = λ _. refl
+first_unused (events.Ack m stage version) now = λ _. refl
+first_unused (events.Leave m) now = λ _. refl
+first_unused (events.Lost m) now = λ _. refl
+first_unused events.Tick now = λ _. refl
+first_unused events.Look now = λ _. refl
+
+step_unused : (s : PlacementState) (event : PlaceEvent) (now : ℕ) → IsReached s → Unused (placement_step s event now).state
+step_unused s event now r = elim (cases_eq s.next_version 1) [
+  | inl e ↦ subst (λ (t : PlacementState). Unused (placement_step t event now).state) (sym (r.unused e)) (first_unused event now)
+  | inr off ↦ λ z. (let u = r.used in let l = (step_rises s event now).low in absurd (one_off s.next_version u (omega arith) off))
+]
+  where
+    one_off : (n : ℕ) → 1 ≤ n → n ≤ 1 → (n ≡ 1 → ⊥) → ⊥
+    one_off n a b off = off (omega arith)
+
+-- ---- each state that a run reaches
+
+pub new_reached : IsReached new_placement
+new_reached = record { distinct = tt; used = omega arith; within = omega arith; unused = λ _. refl }
+
+step_reached : (s : PlacementState) (event : PlaceEvent) (now : ℕ) → IsReached s → IsReached (placement_step s event now).state
+step_reached s event now r =
+    let t = apply_membership s event now in
+    let v = step_rises s event now in
+    record {
+      distinct = subst (λ (hs : List HostInfo). Distinct hs) (sym (conclude_keeps t.state t.conclusion).hosts) (differs s event now r.distinct);
+      used = (let a = v.low in let b = r.used in omega arith);
+      within = v.high r.within;
+      unused = step_unused s event now r;
+    }
+
+-- the restart of a reached state
+pub restart_keeps : (s : PlacementState) (now : ℕ) → IsReached s → Keeps s (placement_restarted s now)
+restart_keeps s now r =
+    cond_both (s.next_version == 1) new_placement (settle_round (awoken s now)) (λ (t : PlacementState). Keeps s t)
+    (λ e. subst (λ (t : PlacementState). Keeps t new_placement) (sym (r.unused (eqb-true s.next_version 1 e))) (keeps_all new_placement))
+    (λ _. awoken_keeps s now)
+
+pub restart_rises : (s : PlacementState) (now : ℕ) → IsReached s → Rises s (placement_restarted s now)
+restart_rises s now r =
+    cond_both (s.next_version == 1) new_placement (settle_round (awoken s now)) (λ (t : PlacementState). Rises s t)
+    (λ e. let z = eqb-true s.next_version 1 e in rises_all s new_placement (sym z))
+    (λ _. awoken_rises s now)
+
+restart_unused : (s : PlacementState) (now : ℕ) → IsReached s → Unused (placement_restarted s now)
+restart_unused s now r =
+    cond_both (s.next_version == 1) new_placement (settle_round (awoken s now)) Unused
+    (λ _ _. refl)
+    (λ f z. absurd (true≢false (sym (eq-eqb s.next_version 1 (let a = (awoken_rises s now).low in let b = r.used in omega arith)) ∙ f)))
+
+restart_reached : (s : PlacementState) (now : ℕ) → IsReached s → IsReached (placement_restarted s now)
+restart_reached s now r =
+    let v = restart_rises s now r in
+    record {
+      distinct = subst (λ (hs : List HostInfo). Distinct hs) (sym (restart_keeps s now r).hosts) r.distinct;
+      used = (let a = v.low in let b = r.used in omega arith);
+      within = v.high r.within;
+      unused = restart_unused s now r;
+    }
+
+pub event_reached : (s : PlacementState) (e : RunEvent) → IsReached s → IsReached (state_after s e)
+event_reached s (Steps event now) r = step_reached s event now r
+event_reached s (Restarts now) r = restart_reached s now r
+
+pub run_reached : (s : PlacementState) (run : List RunEvent) → IsReached s → IsReached (run_state s run)
+run_reached s [] r = r
+run_reached s (e ∷ es) r = run_reached (state_after s e) es (event_reached s e r)
+
+-- ---- no event of a run forgets anything
+
+pub event_forgets : (s : PlacementState) (e : RunEvent) → IsReached s → ForgetsNothing s (state_after s e)
+event_forgets s (Steps event now) r = step_forgets s event now
+event_forgets s (Restarts now) r = forgets_on s s (placement_restarted s now) (forgets_self s) (restart_keeps s now r) (restart_rises s now r)

@@ -1,0 +1,211 @@
+// Restores of the records of worked runs, and of records that no run leaves.
+use super::*;
+use crate::tests::{host, register};
+use actor_names::read_member;
+use std::alloc::Global;
+use std::test::Fail;
+
+/// A run that is going on: the placement, and the records that it has left.
+#[derive(Drop)]
+struct Run {
+    alloc: Global,
+    placement: Placement,
+    records: Vec<PlacementRecord>,
+}
+
+impl Run {
+    fn new(alloc: Global) -> Run {
+        Run {
+            alloc,
+            placement: Placement::new(alloc),
+            records: Vec::new(alloc),
+        }
+    }
+
+    /// Keeps the record of the last step, if there is one.
+    fn keep(&mut self) -> Result<(), Fail> {
+        if let Some(record_) = self.placement.record() {
+            let joined = match &record_.joined {
+                Some(host) => Some(host.copy(self.alloc)?),
+                None => None,
+            };
+            let removed = record_.removed.copy(self.alloc)?;
+            let next_version = record_.next_version;
+            self.records.push(PlacementRecord {
+                joined,
+                removed,
+                next_version,
+            })?;
+        }
+        Ok(())
+    }
+
+    fn step(&mut self, event: PlaceEvent, now: u64) -> Result<(), Fail> {
+        let _reply = self.placement.step(event, now);
+        self.keep()
+    }
+
+    fn join_all(&mut self, members: &[&[u8]]) -> Result<(), Fail> {
+        for i in 0..members.len() {
+            let _reply = register(self.alloc, &mut self.placement, members[i])?;
+            self.keep()?;
+        }
+        Ok(())
+    }
+
+    fn leave(&mut self, member: &[u8]) -> Result<(), Fail> {
+        let member = read_member(member)?;
+        self.step(PlaceEvent::Leave { member }, 1000)
+    }
+
+    fn beat(&mut self, member: &[u8]) -> Result<(), Fail> {
+        let member = read_member(member)?;
+        self.step(PlaceEvent::Beat { member }, 9000)
+    }
+
+    fn restart(&mut self) -> Result<(), Fail> {
+        self.placement.restarted(2000);
+        self.keep()
+    }
+}
+
+/// Nodes `a` to `j` join, two leave and come back, it restarts, and a Tick drops the seven that were not heard
+/// since; four join then, and one of them leaves.
+fn go_through(run: &mut Run) -> Result<(), Fail> {
+    run.join_all(&[b"a/1", b"b/1", b"c/1", b"d/1", b"e/1"])?;
+    run.join_all(&[b"f/1", b"g/1", b"h/1", b"i/1", b"j/1"])?;
+    run.leave(b"b/1")?;
+    run.leave(b"c/1")?;
+    run.join_all(&[b"b/2", b"c/7"])?;
+    run.restart()?;
+    run.beat(b"a/1")?;
+    run.beat(b"b/2")?;
+    run.beat(b"c/7")?;
+    run.step(PlaceEvent::Tick, 12_000)?;
+    run.join_all(&[b"d/2", b"e/2", b"k/1", b"l/1"])?;
+    run.leave(b"k/1")
+}
+
+/// The answer to a Beat.
+fn told(placement: &mut Placement, member: &[u8]) -> Result<PlaceReply, Fail> {
+    let member = read_member(member)?;
+    Ok(placement.step(PlaceEvent::Beat { member }, 20_001))
+}
+
+/// Whether both answer a Beat of each member with the Lock of `version`, and those of strangers as they have to.
+fn tell_same(restored: &mut Placement, live: &mut Placement, version: u64) -> Result<bool, Fail> {
+    let table: [(&[u8], PlaceReply); 9] = [
+        (b"a/1", PlaceReply::Lock { version }),
+        (b"b/2", PlaceReply::Lock { version }),
+        (b"c/7", PlaceReply::Lock { version }),
+        (b"d/2", PlaceReply::Lock { version }),
+        (b"e/2", PlaceReply::Lock { version }),
+        (b"l/1", PlaceReply::Lock { version }),
+        (b"f/1", PlaceReply::NotMember { greatest: 1 }),
+        (b"k/2", PlaceReply::NotMember { greatest: 1 }),
+        (b"m/1", PlaceReply::NotMember { greatest: 0 }),
+    ];
+    for (member, wanted) in table {
+        if told(restored, member)? != wanted || told(live, member)? != wanted {
+            return Ok(false);
+        }
+    }
+    Ok(true)
+}
+
+#[test]
+fn records_of_run_restore_its_restart(rt: HostRuntime) -> Result<(), Fail> {
+    let mut run = Run::new(rt.alloc());
+    go_through(&mut run)?;
+    assert_eq!(rt; run.records.len(), 21);
+    let mut restored = Placement::restore(rt.alloc(), run.records.as_slice(), 20_000)?;
+    run.placement.restarted(20_000);
+    let version = run.placement.last_version();
+    assert_eq!(rt; restored.last_version(), version);
+    assert_eq!(rt; restored.members().len(), 6);
+    let same = tell_same(&mut restored, &mut run.placement, version)?;
+    assert!(rt; same);
+    Ok(())
+}
+
+#[test]
+fn no_records_restore_opening_state(rt: HostRuntime) -> Result<(), Fail> {
+    let records = Vec::new(rt.alloc());
+    let placement = Placement::restore(rt.alloc(), records.as_slice(), 5000)?;
+    assert_eq!(rt; placement.last_version(), 0);
+    assert_eq!(rt; placement.members().len(), 0);
+    assert!(rt; placement.record().is_none());
+    Ok(())
+}
+
+/// Puts a record at the end: a member that joins or is removed, and the next version.
+fn note(
+    records: &mut Vec<PlacementRecord>,
+    alloc: Global,
+    joins: bool,
+    member: &[u8],
+    next_version: u64,
+) -> Result<(), Fail> {
+    let mut removed = Vec::new(alloc);
+    let mut joined = None;
+    if joins {
+        joined = Some(host(alloc, member)?);
+    } else {
+        removed.push(read_member(member)?)?;
+    }
+    records.push(PlacementRecord {
+        joined,
+        removed: MemberList::from_vec(removed),
+        next_version,
+    })?;
+    Ok(())
+}
+
+/// The index of the bad record, where there is one.
+fn bad_index(alloc: Global, records: &[PlacementRecord]) -> Option<u64> {
+    match &Placement::restore(alloc, records, 5000) {
+        Ok(_) => None,
+        Err(RestoreError::BadRecord { index }) => Some(*index),
+        Err(RestoreError::OutOfMemory) => None,
+    }
+}
+
+/// Each follows a record by which `a/1` joins at next version 3.
+#[test]
+fn bad_records_are_named_by_index(rt: HostRuntime) -> Result<(), Fail> {
+    let table: [(bool, &[u8], u64); 5] = [
+        (false, b"b/1", 3),
+        (false, b"a/2", 3),
+        (true, b"a/2", 3),
+        (true, b"b/1", 2),
+        (true, b"b/1", 4_611_686_018_427_387_905),
+    ];
+    for (joins, member, next_version) in table {
+        let mut records = Vec::new(rt.alloc());
+        note(&mut records, rt.alloc(), true, b"a/1", 3)?;
+        note(&mut records, rt.alloc(), joins, member, next_version)?;
+        assert_eq!(rt; bad_index(rt.alloc(), records.as_slice()), Some(1));
+    }
+    Ok(())
+}
+
+#[test]
+fn record_of_equal_boot_is_bad(rt: HostRuntime) -> Result<(), Fail> {
+    let mut records = Vec::new(rt.alloc());
+    note(&mut records, rt.alloc(), true, b"a/1", 2)?;
+    note(&mut records, rt.alloc(), false, b"a/1", 3)?;
+    note(&mut records, rt.alloc(), true, b"a/1", 4)?;
+    assert_eq!(rt; bad_index(rt.alloc(), records.as_slice()), Some(2));
+    Ok(())
+}
+
+#[test]
+fn record_of_member_257_is_bad(rt: HostRuntime) -> Result<(), Fail> {
+    let mut records = Vec::new(rt.alloc());
+    for i in 0..257u32 {
+        let member = format!(in rt.alloc(); "m{i}/1")?;
+        note(&mut records, rt.alloc(), true, member.as_bytes(), 2)?;
+    }
+    assert_eq!(rt; bad_index(rt.alloc(), records.as_slice()), Some(256));
+    Ok(())
+}

@@ -1,0 +1,34 @@
+// A host takes its place among the members, with all the room that it needs.
+ghost use Rattle.std.specs.Prelude.{◌≡◌, ◌≤◌, None, false, OnOk, OnErr};
+ghost use Rattle.round_core.specs.Members.{of_node};
+ghost use Rattle.round_core.specs.Placement.{is_full, with_joined};
+
+use crate::record::MemberList;
+use crate::rounds::Rounds;
+use actor_names::OutOfMemory;
+use place_table::HostInfo;
+use std::alloc::Global;
+
+/// A host joins: its second copy, and the room to remove it and all others, are made first.
+pub(crate) fn seat(
+    alloc: Global,
+    rounds: &mut Rounds,
+    removed: &mut MemberList,
+    host: HostInfo,
+    now: u64,
+) -> Result<(), OutOfMemory>
+    requires room { rounds.old.room ≤ removed.old.room }
+    requires places { is_full rounds.old.state host.member.node ≡ false }
+    requires free { of_node rounds.old.state.members host.member.node ≡ None }
+    ensures ok { OnOk result (rounds.new.state ≡ with_joined rounds.old.state host now) }
+    ensures err { OnErr result (rounds.new.state ≡ rounds.old.state) }
+    ensures removed { removed.new.members ≡ removed.old.members }
+    ensures room { rounds.new.room ≤ removed.new.room }
+{
+    let spare = host.copy(alloc)?;
+    let wanted = rounds.len() as usize + 1;
+    removed.reserve(wanted)?;
+    rounds.reserve()?;
+    rounds.join(host, spare, now)?;
+    Ok(())
+}
