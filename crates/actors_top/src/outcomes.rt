@@ -7,14 +7,14 @@ use itoa::Buffer;
 use std::alloc::AllocError;
 
 /// Appends a text.
-fn push_text(text: &mut Vec<u8>, word: &str) -> Result<(), AllocError>
+pub(crate) fn push_text(text: &mut Vec<u8>, word: &str) -> Result<(), AllocError>
     ensures { OnOk result (text.new.items ≡ text.old.items ++ word.now) }
 {
     text.extend_from_slice(word.as_bytes())
 }
 
 /// Appends a word and a number behind it.
-fn push_number(text: &mut Vec<u8>, word: &str, number: u64) -> Result<(), AllocError>
+pub(crate) fn push_number(text: &mut Vec<u8>, word: &str, number: u64) -> Result<(), AllocError>
     ensures { OnOk result (text.new.items ≡ text.old.items ++ word.now ++ decimal number) }
 {
     let mut buffer = Buffer::new();

@@ -11,14 +11,15 @@ use crate::late::drop_late;
 use crate::marks::{Mark, count_left, enter_marks, restart_marks, target_marks, weigh_mark};
 use crate::record::MemberList;
 use crate::room::insert_in_room;
-use crate::search::host_place;
+use crate::search::{host_place, host_place_near};
 use actor_names::{Member, Node, OutOfMemory};
 use place_table::HostInfo;
 use std::alloc::Global;
 use std::marker::Model;
 
 /// The members in byte order of node, at most 256, and the table that was fixed last. Of each member's host there
-/// is a second copy, which is spare or in the table. Those left are counted.
+/// is a second copy, which is spare or in the table. Those left are counted, and the place of the member that was
+/// heard last is kept, since it is asked for again.
 #[derive(Drop)]
 pub(crate) struct Roster {
     hosts: Vec<HostInfo>,
@@ -27,6 +28,7 @@ pub(crate) struct Roster {
     table: Vec<HostInfo>,
     room: usize,
     left: usize,
+    near: usize,
 }
 
 impl Model for Roster {
@@ -59,6 +61,7 @@ impl Roster {
             table: Vec::new(alloc),
             room: 0,
             left: 0,
+            near: 0,
         }
     }
 
@@ -121,7 +124,7 @@ impl Roster {
         if self.left == 0 {
             return false;
         }
-        match host_place(&self.hosts, &member.node) {
+        match host_place_near(&self.hosts, &member.node, self.near) {
             Ok(at) => self.marks[at].left,
             Err(_) => false,
         }
@@ -147,6 +150,7 @@ impl Roster {
                 }
                 let mark = &mut self.marks[at];
                 mark.heard = now;
+                self.near = at;
                 true
             }
             Err(_) => false,
@@ -169,6 +173,7 @@ impl Roster {
                 mark.heard = now;
                 mark.left = false;
                 self.left -= weight;
+                self.near = at;
                 true
             }
             Err(_) => false,
@@ -324,6 +329,7 @@ impl Roster {
             table,
             room: self.room,
             left: self.left,
+            near: self.near,
         })
     }
 }

@@ -26,6 +26,18 @@ pub(crate) fn host_place(hosts: &[HostInfo], node: &Node) -> Result<usize, usize
     hosts.binary_search_by(|host| node_cmp(&host.member.node, node))
 }
 
+/// The same, where it may well stand at `near`.
+pub(crate) fn host_place_near(hosts: &[HostInfo], node: &Node, near: usize) -> Result<usize, usize>
+    requires { Ascends host_node hosts.now }
+    ensures place { result ≡ place_by host_node node.now hosts.now }
+    ensures within { IsSearchInRange result (length hosts.now) }
+{
+    if near < hosts.len() && node_cmp(&hosts[near].member.node, node) == Ordering::Equal {
+        return Ok(near);
+    }
+    host_place(hosts, node)
+}
+
 /// Where the greatest boot of this node stands, or is to stand.
 pub(crate) fn known_place(known: &[Known], node: &Node) -> Result<usize, usize>
     requires { Ascends known_node known.now }
