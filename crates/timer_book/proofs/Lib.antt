@@ -1,7 +1,10 @@
 mod Places
-mod Ascending
 mod Maps
 mod Firsts
 mod Actors
-mod Shelves
+mod Fires
+mod Forks
+mod Runs
+mod Keeps
+mod Tops
 mod Rows

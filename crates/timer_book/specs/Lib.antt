@@ -1,2 +1,5 @@
 pub mod Entries
 pub mod Book
+pub mod Soonest
+pub mod Changes
+pub mod Tree

@@ -1,14 +1,13 @@
 // One timer of a book.
 ghost use Rattle.std.specs.Prelude.{◌≡◌, ◌<◌, IfOk};
 ghost use Rattle.schedule_text.specs.Range.{end_of_time};
-ghost use Rattle.timer_book.specs.Entries.{due_of, is_of, is_waiting, is_earlier, next_of, new_entry};
+ghost use Rattle.timer_book.specs.Entries.{due_of, next_of, new_entry};
+ghost use Rattle.timer_book.specs.Changes.{changed};
 
-use crate::order::timer_cmp;
 use crate::timer::Timer;
 use actor_names::{ActorKey, OutOfMemory, RecordName};
 use schedule_text::{Moment, Next, Schedule};
 use std::alloc::Global;
-use std::cmp::Ordering;
 
 /// A registered timer, as a book has it.
 #[derive(Debug, Drop)]
@@ -45,37 +44,13 @@ pub struct DueTimer {
 }
 
 impl TimerEntry {
-    /// Whether it is a timer of this actor.
-    pub(crate) fn is_of(&self, key: &ActorKey) -> bool
-        ensures { result ≡ is_of key.now self.now }
+    /// Another moment, firings left and mark of a running timer.
+    pub(crate) fn change(&mut self, moment: Moment, left: Option<u32>, running: bool)
+        ensures { self.new ≡ changed self.old moment left running }
     {
-        self.key.kind.as_slice() == key.kind.as_slice()
-            && self.key.id.as_slice() == key.id.as_slice()
-    }
-
-    /// Whether it is to fire at `now`, and doesn't run.
-    pub(crate) fn is_waiting(&self, now: Moment) -> bool
-        ensures { result ≡ is_waiting now self.now }
-    {
-        !self.running && self.moment.nanos() <= now.nanos()
-    }
-
-    /// Whether it fires before the other: by moment, then by key and name.
-    pub(crate) fn is_earlier(&self, other: &TimerEntry) -> bool
-        ensures { result ≡ is_earlier self.now other.now }
-    {
-        let moment = self.moment.nanos();
-        let limit = other.moment.nanos();
-        if moment < limit {
-            return true;
-        }
-        if limit < moment {
-            return false;
-        }
-        match timer_cmp(self, &other.key, &other.name) {
-            Ordering::Less => true,
-            _ => false,
-        }
+        self.moment = moment;
+        self.left = left;
+        self.running = running;
     }
 
     /// What follows a firing whose callback ended at this moment.

@@ -4,15 +4,18 @@
 // is the change of it that `specs/Book` says. Stands on `actor_names` and `schedule_text`.
 #![tactic(auto)]
 
+mod balance;
 mod book;
+mod change;
 mod entry;
 mod error;
 mod law;
 mod order;
-mod scan;
 mod shelf;
+mod soonest;
 mod text;
 mod timer;
+mod tree;
 
 pub use book::{MOST_TIMERS, TimerBook};
 pub use entry::{DueTimer, TimerEntry};

@@ -1,7 +1,6 @@
-// Timers in order of type, id and name, searched by halving.
-ghost use Rattle.std.specs.Prelude.{◌≡◌, ◌≤◌, true, false, length};
-ghost use Rattle.std.specs.List.Sorted.{IsSearchInRange, IsPartitionPoint};
-ghost use Rattle.timer_book.specs.Entries.{entry_place, timer_place, place_cmp, place_in, Ascends, is_before_actor};
+// The order of timers: by type, id and name.
+ghost use Rattle.std.specs.Prelude.{◌≡◌};
+ghost use Rattle.timer_book.specs.Entries.{entry_place, timer_place, actor_place, place_cmp};
 
 use crate::entry::TimerEntry;
 use actor_names::{ActorKey, RecordName};
@@ -20,38 +19,12 @@ pub(crate) fn timer_cmp(entry: &TimerEntry, key: &ActorKey, name: &RecordName) -
     }
 }
 
-/// Where the timer of this key and name stands, or is to stand.
-pub(crate) fn timer_index(
-    entries: &[TimerEntry],
-    key: &ActorKey,
-    name: &RecordName,
-) -> Result<usize, usize>
-    requires { Ascends entries.now }
-    ensures place { result ≡ place_in (timer_place key.now name.now) entries.now }
-    ensures within { IsSearchInRange result (length entries.now) }
-{
-    entries.binary_search_by(|entry| timer_cmp(entry, key, name))
-}
-
-/// Whether a timer stands before those of the actor.
-fn is_before_actor(entry: &TimerEntry, key: &ActorKey) -> bool
-    ensures { result ≡ is_before_actor key.now entry.now }
+/// The order of a timer's actor and of this one: by type, then by id.
+pub(crate) fn actor_cmp(entry: &TimerEntry, key: &ActorKey) -> Ordering
+    ensures { result ≡ place_cmp (actor_place entry.now.key) (actor_place key.now) }
 {
     match entry.key.kind.as_slice().cmp(&key.kind.as_slice()) {
-        Ordering::Less => true,
-        Ordering::Equal => match entry.key.id.as_slice().cmp(&key.id.as_slice()) {
-            Ordering::Less => true,
-            _ => false,
-        },
-        Ordering::Greater => false,
+        Ordering::Equal => entry.key.id.as_slice().cmp(&key.id.as_slice()),
+        other => other,
     }
-}
-
-/// Where the actor's timers begin, or are to stand.
-pub(crate) fn actor_index(entries: &[TimerEntry], key: &ActorKey) -> usize
-    requires { Ascends entries.now }
-    ensures place { IsPartitionPoint (λ e. is_before_actor key.now e ≡ true) (λ e. is_before_actor key.now e ≡ false) entries.now result }
-    ensures within { result ≤ length entries.now }
-{
-    entries.partition_point(|entry| is_before_actor(entry, key))
 }

@@ -1,33 +1,39 @@
 // The timers of a book, in order of key and name.
-ghost use Rattle.std.specs.Prelude.{◌≡◌, ◌<◌, [], Some, length, is_some, IfOk, OnOk, OnErr, option_copied, slice_get};
+ghost use Rattle.std.specs.Prelude.{◌≡◌, [], Some, is_some, OnOk, OnErr, option_copied};
 ghost use Rattle.timer_book.specs.declared.entry.TimerEntry.{TimerEntry};
 ghost use Rattle.timer_book.specs.Entries.{timer_place, entry_at, put_entry, without_entry, count_of, without_actor, due_entry, Ascends};
 ghost use Rattle.timer_book.specs.Book.{registered, started_entry, finished_entry, fired_entry, next_after};
 
+use crate::change::{change, put, remove, remove_all_of};
 use crate::entry::TimerEntry;
-use crate::order::timer_index;
-use crate::scan::{count_timers, due_index};
+use crate::tree::Tree;
 use actor_names::{ActorKey, OutOfMemory, RecordName};
 use schedule_text::{Moment, Next};
 use std::alloc::Global;
 use std::marker::Model;
 
+// How many timers may be put, in all; a book draws no more numbers.
+const MOST_PUT: u64 = 1 << 62;
+
 /// Timers in order of type, id and name.
 #[derive(Drop)]
 pub(crate) struct Shelf {
-    entries: Vec<TimerEntry>,
+    tree: Tree,
+    // How many timers were put, so no fewer than there are.
+    was_put: u64,
+    alloc: Global,
 }
 
 impl Model for Shelf {
-    ghost use Rattle.std.specs.Prelude.{List};
+    ghost use Rattle.std.specs.Prelude.{List, length, ◌≤◌, ◌^◌};
     ghost use Rattle.timer_book.specs.declared.entry.TimerEntry.{TimerEntry};
     ghost use Rattle.timer_book.specs.Entries.{Ascends};
 
     ghost Value = { List TimerEntry };
 
-    ghost view = { λ a. a.entries.items };
+    ghost view = { λ a. a.tree };
 
-    ghost invariant = { λ a. Ascends a.entries.items };
+    ghost invariant = { λ a. Ascends a.tree × (length a.tree ≤ a.was_put) × (a.was_put ≤ 2 ^ 62) };
 }
 
 impl Shelf {
@@ -36,7 +42,9 @@ impl Shelf {
         ensures { result ≡ [] }
     {
         Shelf {
-            entries: Vec::new(alloc),
+            tree: Tree::new(),
+            was_put: 0,
+            alloc,
         }
     }
 
@@ -44,41 +52,37 @@ impl Shelf {
     pub(crate) fn in_order(&self)
         ensures { Ascends self.now }
     {
-        let _entries = self.entries.as_slice();
+        let _tree = &self.tree;
     }
 
     /// How many timers the actor has.
     pub(crate) fn count(&self, key: &ActorKey) -> usize
         ensures { result ≡ count_of key.now self.now }
     {
-        count_timers(&self.entries, key)
+        self.tree.count(key)
     }
 
     /// Whether there is a timer of this key and name.
     pub(crate) fn has(&self, key: &ActorKey, name: &RecordName) -> bool
         ensures { result ≡ is_some (entry_at (timer_place key.now name.now) self.now) }
     {
-        match timer_index(&self.entries, key, name) {
-            Ok(_) => true,
-            Err(_) => false,
+        match self.tree.get(key, name) {
+            None => false,
+            Some(_) => true,
         }
     }
 
-    /// Puts a timer in its place, in the stead of one of its key and name.
+    /// Puts a timer in its place, in the stead of one of its key and name. After 2^62 timers it refuses every other.
     pub(crate) fn put(&mut self, entry: TimerEntry) -> Result<(), OutOfMemory>
         ensures ok { OnOk result (self.new ≡ put_entry entry self.old) }
         ensures err { OnErr result (self.new ≡ self.old) }
     {
-        match timer_index(&self.entries, &entry.key, &entry.name) {
-            Ok(at) => {
-                self.entries[at] = entry;
-                Ok(())
-            }
-            Err(at) => {
-                self.entries.insert(at, entry)?;
-                Ok(())
-            }
+        if self.was_put >= MOST_PUT {
+            return Err(OutOfMemory);
         }
+        put(&mut self.tree, self.alloc, entry)?;
+        self.was_put += 1;
+        Ok(())
     }
 
     /// Removes the timer of this key and name, and tells whether there was one; takes no memory.
@@ -86,32 +90,22 @@ impl Shelf {
         ensures there { result ≡ is_some (entry_at (timer_place key.now name.now) self.old) }
         ensures gone { self.new ≡ without_entry (timer_place key.now name.now) self.old }
     {
-        match timer_index(&self.entries, key, name) {
-            Ok(at) => {
-                let _gone = self.entries.remove(at);
-                true
-            }
-            Err(_) => false,
-        }
+        remove(&mut self.tree, key, name)
     }
 
-    // The timer at an index fires again, or goes.
-    fn refire(&mut self, at: usize, next: &Next)
-        requires { at < length self.old }
-        ensures { (e : TimerEntry) → slice_get self.old at ≡ Some e → self.new ≡ fired_entry e next.now self.old }
+    // The timer of this key and name fires again, or goes.
+    fn refire(&mut self, key: &ActorKey, name: &RecordName, next: &Next)
+        ensures { (e : TimerEntry) → entry_at (timer_place key.now name.now) self.old ≡ Some e → self.new ≡ fired_entry e next.now self.old }
     {
         match *next {
             Next::At { moment, left } => {
-                let entry = &mut self.entries[at];
-                entry.moment = moment;
-                entry.left = left;
-                entry.running = false;
+                change(&mut self.tree, key, name, moment, left, false);
             }
             Next::Done => {
-                let _gone = self.entries.remove(at);
+                let _there = self.remove(key, name);
             }
             Next::OutOfRange => {
-                let _gone = self.entries.remove(at);
+                let _there = self.remove(key, name);
             }
         }
     }
@@ -120,9 +114,15 @@ impl Shelf {
     pub(crate) fn due(&self, now: Moment) -> Option<&TimerEntry>
         ensures { option_copied result ≡ due_entry now self.now }
     {
-        match due_index(&self.entries, now) {
+        match self.tree.first() {
             None => None,
-            Some(at) => Some(&self.entries[at]),
+            Some(entry) => {
+                if entry.moment.nanos() <= now.nanos() {
+                    Some(entry)
+                } else {
+                    None
+                }
+            }
         }
     }
 
@@ -131,17 +131,18 @@ impl Shelf {
         ensures there { result ≡ is_some (registered self.old key.now name.now number) }
         ensures started { self.new ≡ started_entry (registered self.old key.now name.now number) self.old }
     {
-        match timer_index(&self.entries, key, name) {
-            Ok(at) => {
-                let drawn = self.entries[at].number;
+        match self.tree.get(key, name) {
+            None => false,
+            Some(entry) => {
+                let drawn = entry.number;
                 if drawn != number {
                     return false;
                 }
-                let entry = &mut self.entries[at];
-                entry.running = true;
+                let moment = entry.moment;
+                let left = entry.left;
+                change(&mut self.tree, key, name, moment, left, true);
                 true
             }
-            Err(_) => false,
         }
     }
 
@@ -156,16 +157,16 @@ impl Shelf {
         ensures next { result ≡ next_after (registered self.old key.now name.now number) ended }
         ensures finished { self.new ≡ finished_entry (registered self.old key.now name.now number) ended self.old }
     {
-        match timer_index(&self.entries, key, name) {
-            Ok(at) => {
-                if self.entries[at].number != number {
+        match self.tree.get(key, name) {
+            None => Next::Done,
+            Some(entry) => {
+                if entry.number != number {
                     return Next::Done;
                 }
-                let next = self.entries[at].next(ended);
-                self.refire(at, &next);
+                let next = entry.next(ended);
+                self.refire(key, name, &next);
                 next
             }
-            Err(_) => Next::Done,
         }
     }
 
@@ -173,6 +174,6 @@ impl Shelf {
     pub(crate) fn drop_actor(&mut self, key: &ActorKey)
         ensures { self.new ≡ without_actor key.now self.old }
     {
-        self.entries.retain(|entry| !entry.is_of(key));
+        remove_all_of(&mut self.tree, key);
     }
 }
