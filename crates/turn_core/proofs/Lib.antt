@@ -1,6 +1,6 @@
 mod CellBounds
 mod MovedLine
-mod Places
+pub mod Places
 pub mod Elements
 pub mod Overlaps
 pub mod CellSteps

@@ -12,7 +12,7 @@ use Rattle.turn_core.specs.declared.cell.Waiter.{Waiter}
 use Rattle.turn_core.specs.Cell.{has_turn, without_turn, waiter_of, place_of, without_waiter, first_unmoved, without_first_unmoved}
 
 -- nothing passes where nothing is found
-fails_past : {X : Type 0} (p : X → Bool) (xs : List X) → position p xs ≡ None → (k : ℕ) (d : X) → k < length xs → p (get_or xs k d) ≡ false
+pub fails_past : {X : Type 0} (p : X → Bool) (xs : List X) → position p xs ≡ None → (k : ℕ) (d : X) → k < length xs → p (get_or xs k d) ≡ false
 fails_past p xs e k d l =
     let past = cond_both (nat_lt (position_or_len p xs) (length xs)) _ _ (λ r. r ≡ None → length xs ≤ position_or_len p xs) (λ _ q. absurd (cc)) (λ g _. ltb-false _ _ g) e in
     fails_before_first p xs k d (omega arith)

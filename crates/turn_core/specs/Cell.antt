@@ -192,6 +192,11 @@ abbrev pub chain_of : List Turn → Option (List ℕ)
 chain_of [] = None
 chain_of (t ∷ ts) = t.chain
 
+-- the calls of the open turns, the one that began first before the others
+abbrev pub turn_calls : List Turn → List ℕ
+turn_calls [] = []
+turn_calls (t ∷ ts) = t.call ∷ turn_calls ts
+
 -- whether the call is open or in the line
 abbrev pub is_in_cell : ℕ → CellState → Bool
 is_in_cell call c = has_turn call c.turns || is_some (waiter_of call c.line)

@@ -1,12 +1,15 @@
 // The cell of one actor: which call begins, which waits and which is refused.
-ghost use Rattle.std.specs.Prelude.{◌≡◌, ◌+◌, ◌^◌, ◌<◌, ◌≤◌, ◌↔◌, max, length, false, [], IfOk, IfErr, IsSome, OnOk, OnErr, option_map};
+ghost use Rattle.std.specs.Prelude.{◌≡◌, ◌+◌, ◌^◌, ◌<◌, ◌≤◌, ◌↔◌, ◌++◌, max, length, vec_len, vec_capacity, false, [], IfOk, IfErr, IsSome, OnOk, OnErr, option_map};
 ghost use Rattle.std.specs.Option.{option_copied};
-ghost use Rattle.turn_core.specs.Cell.{new_cell, greatest_depth, longest_line, admit_call, cell_end, cell_poll, cell_begin_next, first_unmoved, call_of, unmoved, chain_of, is_in_cell, with_hold, without_hold, with_line_moved, without_turns, GivesStep};
+ghost use Rattle.turn_core.specs.Cell.{new_cell, greatest_depth, longest_line, admit_call, cell_end, cell_poll, cell_begin_next, first_unmoved, call_of, unmoved, turn_calls, chain_of, is_in_cell, with_hold, without_hold, with_line_moved, without_turns, GivesStep};
 ghost use Rattle.turn_core.specs.CellSound.{IsCellSound};
 
 use crate::answer::{Asked, CellEnd, CellError, CellPoll, NotHeld};
-use crate::line::{begin_first, end_in_line, join_line, move_line, take_at, waiter_place};
-use crate::turns::{carry_chain, chain_at, end_turn, is_open, open_turn};
+use crate::line::{
+    begin_first, count_unmoved, end_in_line, is_waiting, join_line, move_line, take_at,
+    waiter_place,
+};
+use crate::turns::{carry_chain, chain_at, end_turn, is_open, list_calls, open_turn};
 use actor_names::ChainId;
 use std::alloc::Global;
 use std::collections::VecDeque;
@@ -148,6 +151,33 @@ impl Cell {
         }
     }
 
+    /// Where the call stands; a moved one stays in the line.
+    pub fn look(&self, call: u64) -> CellPoll
+        ensures { result ≡ (cell_poll self.now call).answer }
+    {
+        if is_open(&self.turns, call) {
+            return CellPoll::Begun;
+        }
+        match waiter_place(&self.line, call) {
+            None => CellPoll::Gone,
+            Some(at) => {
+                if self.line[at].moved {
+                    return CellPoll::Moved;
+                }
+                CellPoll::Waits {
+                    place: at as u64 + 1,
+                }
+            }
+        }
+    }
+
+    /// Whether the call is open or in the line.
+    pub fn has(&self, call: u64) -> bool
+        ensures { result ≡ is_in_cell call self.now }
+    {
+        is_open(&self.turns, call) || is_waiting(&self.line, call)
+    }
+
     /// Begins the first call in the line that isn't moved, and gives its number.
     pub fn begin_next(&mut self) -> Option<u64>
         requires { self.old.turns ≡ [] }
@@ -213,13 +243,24 @@ impl Cell {
         }
     }
 
-    /// How many turns are open: at most the depth, and at depth 0 at most one.
+    /// How many turns are open: at most the depth, which is at most 1,024, and at depth 0 at most one.
     pub fn turns(&self) -> u32
         ensures count { result ≡ length self.now.turns }
         ensures within { result ≤ max self.now.depth 1 }
+        ensures few { result ≤ greatest_depth }
         ensures sound { IsCellSound self.now }
     {
         self.turns.len() as u32
+    }
+
+    /// Puts the calls of the open turns at the end of a list with room for them, the one that began first before
+    /// the others.
+    pub fn list_turns(&self, calls: &mut Vec<u64>)
+        requires { vec_len calls.old + length self.now.turns ≤ vec_capacity calls.old }
+        ensures items { calls.new.items ≡ calls.old.items ++ turn_calls self.now.turns }
+        ensures room { vec_capacity calls.old ≤ vec_capacity calls.new }
+    {
+        list_calls(&self.turns, calls);
     }
 
     /// How many calls are in the line, moved ones among them: at most 1,024.
@@ -228,6 +269,13 @@ impl Cell {
         ensures within { result ≤ longest_line }
     {
         self.line.len() as u32
+    }
+
+    /// How many calls in the line aren't moved: at most 1,024.
+    pub fn unmoved(&self) -> u32
+        ensures { result ≡ unmoved self.now.line }
+    {
+        count_unmoved(&self.line)
     }
 
     /// How many holds there are, at most 2^62.

@@ -1,5 +1,5 @@
 // The calls that wait in a cell, first come first.
-ghost use Rattle.std.specs.Prelude.{◌≡◌, ◌<◌, ◌≤◌, ◌^◌, ◌==◌, ◌∷◌, ◌++◌, [], not, true, false, if◌then◌else◌, length, position, remove, OnOk, IfErr, option_map, vec_len, vec_capacity};
+ghost use Rattle.std.specs.Prelude.{◌≡◌, ◌<◌, ◌≤◌, ◌^◌, ◌==◌, ◌∷◌, ◌++◌, [], not, true, false, if◌then◌else◌, length, is_some, position, remove, OnOk, IfErr, option_map, vec_len, vec_capacity};
 ghost use Rattle.std.specs.List.{slice_index_or};
 ghost use Rattle.std.specs.Option.{option_copied};
 ghost use Rattle.turn_core.specs.Cell.{waiter_of, not_open, first_unmoved, without_first_unmoved, begun_turns, call_of, unmoved, all_moved};
@@ -16,6 +16,16 @@ pub(crate) fn waiter_place(line: &VecDeque<Waiter>, call: u64) -> Option<usize>
     ensures { result ≡ position (λ w. call == w.call) line.now.items }
 {
     line.iter().position(|waiter| call == waiter.call)
+}
+
+/// Whether the call is in the line.
+pub(crate) fn is_waiting(line: &VecDeque<Waiter>, call: u64) -> bool
+    ensures { result ≡ is_some (waiter_of call line.now.items) }
+{
+    match waiter_place(line, call) {
+        None => false,
+        Some(_) => true,
+    }
 }
 
 /// The place of the first call that isn't moved, from 0.
@@ -95,6 +105,20 @@ pub(crate) fn begin_first(turns: &mut Vec<Turn>, line: &mut VecDeque<Waiter>) ->
             Some(call)
         }
     }
+}
+
+/// How many calls aren't moved.
+pub(crate) fn count_unmoved(line: &VecDeque<Waiter>) -> u32
+    requires { length line.now.items < 2 ^ 32 }
+    ensures { result ≡ unmoved line.now.items }
+{
+    let mut count = 0;
+    for i in 0..line.len() {
+        if !line[i].moved {
+            count += 1;
+        }
+    }
+    count
 }
 
 /// Marks the call as moved, and counts it where it wasn't.

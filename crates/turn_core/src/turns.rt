@@ -1,7 +1,7 @@
 // The open turns of a cell.
-ghost use Rattle.std.specs.Prelude.{◌≡◌, ◌<◌, ◌≤◌, ◌==◌, if◌then◌else◌, position, [], ◌∷◌, ◌++◌, IfOk, OnOk, IfErr, vec_len, vec_capacity};
+ghost use Rattle.std.specs.Prelude.{◌≡◌, ◌+◌, ◌<◌, ◌≤◌, ◌==◌, if◌then◌else◌, position, [], ◌∷◌, ◌++◌, IfOk, OnOk, IfErr, length, vec_len, vec_capacity};
 ghost use Rattle.std.specs.Option.{option_copied};
-ghost use Rattle.turn_core.specs.Cell.{same_chain, is_first_chain, has_turn, without_turn};
+ghost use Rattle.turn_core.specs.Cell.{same_chain, is_first_chain, has_turn, without_turn, turn_calls};
 
 use crate::answer::CellError;
 use crate::cell::Turn;
@@ -111,6 +111,20 @@ pub(crate) fn end_turn(turns: &mut Vec<Turn>, call: u64) -> bool
         Some(at) => {
             let _ended = turns.remove(at);
             true
+        }
+    }
+}
+
+/// Puts the calls of the turns at the end of a list with room for them.
+pub(crate) fn list_calls(turns: &[Turn], calls: &mut Vec<u64>)
+    requires { vec_len calls.old + length turns.now ≤ vec_capacity calls.old }
+    ensures items { calls.new.items ≡ calls.old.items ++ turn_calls turns.now }
+    ensures room { vec_capacity calls.old ≤ vec_capacity calls.new }
+{
+    for turn in turns {
+        match calls.push(turn.call) {
+            Ok(()) => {}
+            Err(_) => unreachable!(),
         }
     }
 }
