@@ -1,0 +1,46 @@
+-- What each step of a part keeps and tells, by what it gives.
+use Rattle.std.proofs.Common.{ap}
+use Rattle.part_core.specs.declared.event.PartEvent.{PartEvent}
+use Rattle.part_core.specs.declared.event.PartEvent.TheVariants as events
+use Rattle.part_core.specs.declared.event.PartReply.{PartReply}
+use Rattle.part_core.specs.declared.event.PartReply.TheVariants as replies
+use Rattle.part_core.specs.Part.{PartState, part_step, ring_owner}
+use Rattle.part_core.specs.Rooms.{PartView, Gives, GivesEnded, GivesInMemory, GivesStep}
+use Rattle.part_core.specs.Sound.{IsPartSound, TellsState}
+use Rattle.part_core.proofs.PartTables.{part_stepped}
+use Rattle.part_core.proofs.PartTells.{part_honest}
+
+-- the part is sound, and a receipt in the reply is that of the new state
+pub record IsGoodStep (reply : PartReply) (new : PartState) : Type 0 where
+  pub sound : IsPartSound ring_owner new
+  pub tells : TellsState ring_owner reply new
+
+good : (old : PartState) (event : PartEvent) → IsPartSound ring_owner old → IsGoodStep (part_step ring_owner old event).reply (part_step ring_owner old event).part
+good old event s = let h = part_honest ring_owner old event in let t = part_stepped ring_owner old event s in record { sound = t.sound; tells = h.tells }
+
+module _ (reply : PartReply) (old : PartState) (new : PartView) (s : IsPartSound ring_owner old) where
+  by_gives : (event : PartEvent) → Gives (part_step ring_owner old event) reply new → IsGoodStep reply new.state
+  by_gives event g = rw (g.0, ap (λ (v : PartView). v.state) g.1) (good old event s)
+
+  by_ended : (event : PartEvent) → GivesEnded (part_step ring_owner old event) reply new → IsGoodStep reply new.state
+  by_ended event g = rw (g.0, ap (λ (v : PartView). v.state) g.1) (good old event s)
+
+in_memory : (reply : PartReply) (old : PartState) (new : PartView) → IsPartSound ring_owner old → (event : PartEvent) → GivesInMemory (part_step ring_owner old event) reply old new → IsGoodStep reply new.state
+in_memory replies.OutOfMemory old new s event g = rw (ap (λ (v : PartView). v.state) g.0) (record { sound = s; tells = tt })
+in_memory reply old new s event g = by_gives reply old new s event g
+
+pub step_good : (reply : PartReply) (old : PartState) (new : PartView) → IsPartSound ring_owner old → (event : PartEvent) → GivesStep event reply old new → IsGoodStep reply new.state
+step_good reply old new s (events.Ask key chain now) g = in_memory reply old new s (events.Ask key chain now) g
+step_good reply old new s (events.AskAt key chain least now) g = in_memory reply old new s (events.AskAt key chain least now) g
+step_good reply old new s events.Draw g = by_gives reply old new s events.Draw g
+step_good reply old new s (events.Poll call) g = in_memory reply old new s (events.Poll call) g
+step_good reply old new s (events.End call now) g = by_gives reply old new s (events.End call now) g
+step_good reply old new s (events.Hold key) g = by_gives reply old new s (events.Hold key) g
+step_good reply old new s (events.Release key now) g = by_gives reply old new s (events.Release key now) g
+step_good reply old new s (events.Lock version) g = by_gives reply old new s (events.Lock version) g
+step_good reply old new s (events.Update table now) g = by_gives reply old new s (events.Update table now) g
+step_good reply old new s (events.Unlock version) g = by_gives reply old new s (events.Unlock version) g
+step_good reply old new s (events.Tick now) g = by_ended reply old new s (events.Tick now) g
+step_good reply old new s (events.TakeClosing now) g = in_memory reply old new s (events.TakeClosing now) g
+step_good reply old new s (events.Closed key) g = by_gives reply old new s (events.Closed key) g
+step_good reply old new s events.StopPart g = by_ended reply old new s events.StopPart g

@@ -1,0 +1,108 @@
+-- The actors of a part without its stage and table: the numbers drawn, the cells, and the calls of the last step.
+-- Own.
+use Rattle.std.specs.Prelude.{◌≡◌, ◌≤◌, ◌^◌, ℕ, Bool, true, false, zero, suc, if◌then◌else◌, List, [], ◌∷◌, length, Option, None, Some}
+use Rattle.turn_core.specs.declared.cell.Turn.{Turn}
+use Rattle.turn_core.specs.declared.cell.Waiter.{Waiter}
+use Rattle.turn_core.specs.Cell.{CellState}
+use Rattle.turn_core.specs.CellSound.{In}
+use Rattle.part_core.specs.declared.actor_cell.ActorCell.{ActorCell}
+use Rattle.part_core.specs.declared.standing.Standing.{Standing}
+use Rattle.part_core.specs.declared.event.PartReply.{PartReply}
+use Rattle.part_core.specs.declared.event.PartReply.TheVariants as replies
+use Rattle.part_core.specs.Cells.{is_kept, total_calls}
+use Rattle.part_core.specs.Marks.{marks_of_begin}
+use Rattle.part_core.specs.Part.{PartState, PartStep, next_drawn, with_cell, refused}
+use Rattle.part_core.specs.Rooms.{PartView}
+use Rattle.part_core.specs.Settings.{AreShallow}
+use Rattle.part_core.specs.Sound.{AreInOrder}
+
+pub record ActorsState : Type 0 where
+  pub drawn : ℕ
+  pub cells : List ActorCell
+  pub recent : List ℕ  -- the calls that the last step began or ended
+
+abbrev pub no_actors : ActorsState
+no_actors = record { drawn = 0; cells = []; recent = [] }
+
+-- the part of these actors
+abbrev pub state_of : Standing → ActorsState → PartState
+state_of s a =
+    record {
+      member = s.member;
+      number = s.number;
+      kinds = s.kinds;
+      stage = s.stage;
+      seen = s.seen;
+      opened = s.opened;
+      table = s.table;
+      since = s.since;
+      drawn = a.drawn;
+      cells = a.cells;
+    }
+
+abbrev pub view_of : Standing → ActorsState → PartView
+view_of s a = record { state = state_of s a; recent = a.recent }
+
+-- depths are in range, and versions at most 2^62
+pub record IsStandingKept (s : Standing) : Type 0 where
+  pub shallow : AreShallow s.kinds
+  pub seen_fits : s.seen ≤ 2 ^ 62
+  pub opened_fits : s.opened ≤ 2 ^ 62
+
+-- the number of each call of a cell was drawn, and a number for each hold
+pub record IsNumbered (drawn : ℕ) (c : CellState) : Type 0 where
+  pub open_turns : (t : Turn) → In t c.turns → t.call ≤ drawn
+  pub waiters : (w : Waiter) → In w c.line → w.call ≤ drawn
+  pub held : c.holds ≤ drawn
+
+-- What is kept beside the cells: a count of the calls that are open or wait, and room for as many in the list of
+-- the last step.
+pub record AreActorsKept (drawn : ℕ) (cells : List ActorCell) (count room : ℕ) : Type 0 where
+  pub drawn_fits : drawn ≤ 2 ^ 62
+  pub in_order : AreInOrder cells
+  pub numbered : (c : ActorCell) → In c cells → IsNumbered drawn c.inner
+  pub few : length cells ≤ 65536
+  pub counted : total_calls cells ≤ count
+  pub count_drawn : count ≤ drawn
+  pub has_room : count ≤ room
+
+-- the cells, where the one at this place is dropped if it isn't kept
+abbrev pub settled : List ActorCell → ℕ → List ActorCell
+settled [] i = []
+settled (c ∷ cs) zero = if is_kept c then c ∷ cs else cs
+settled (c ∷ cs) (suc i) = c ∷ settled cs i
+
+-- ---- a call asked at a cell
+
+-- whether the call has begun or waits
+abbrev pub is_accepted : PartReply → Bool
+is_accepted (replies.Begun call chain) = true
+is_accepted (replies.Waits call place) = true
+is_accepted reply = false
+
+-- the step of which this is the reply, and `after` the call's cell
+abbrev pub asked_with : PartState → ActorCell → ActorCell → PartReply → PartStep
+asked_with p c after (replies.Begun call chain) =
+    record { part = next_drawn (with_cell p after); reply = replies.Begun call chain; marks = marks_of_begin c.active c.key p.opened call chain }
+asked_with p c after (replies.Waits call place) = record { part = next_drawn (with_cell p after); reply = replies.Waits call place; marks = [] }
+asked_with p c after reply = refused p reply
+
+-- this is the step in a part of this standing that has drawn so many numbers, or there was no memory
+abbrev pub AsksIn : (PartState → PartStep) → Standing → ℕ → ActorCell → ActorCell → PartReply → Type 0
+AsksIn step s drawn c after replies.OutOfMemory = after ≡ c
+AsksIn step s drawn c after reply = (a : ActorsState) → a.drawn ≡ drawn → step (state_of s a) ≡ asked_with (state_of s a) c after reply
+
+-- the same of any part
+abbrev pub AsksAtCell : (PartState → PartStep) → ℕ → ActorCell → ActorCell → PartReply → Type 0
+AsksAtCell step drawn c after replies.OutOfMemory = after ≡ c
+AsksAtCell step drawn c after reply = (p : PartState) → p.drawn ≡ drawn → step p ≡ asked_with p c after reply
+
+-- the call that has begun, by the reply
+abbrev pub begun_in : PartReply → List ℕ
+begun_in (replies.Begun call chain) = call ∷ []
+begun_in reply = []
+
+-- the call that has begun, if there is one
+abbrev pub begun_next_in : Option ℕ → List ℕ
+begun_next_in None = []
+begun_next_in (Some call) = call ∷ []

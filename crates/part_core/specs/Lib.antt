@@ -1,0 +1,13 @@
+pub mod Keys
+pub mod Receipts
+pub mod Settings
+pub mod Cells
+pub mod Places
+pub mod Marks
+pub mod Part
+pub mod Sound
+pub mod Rooms
+pub mod Actors
+pub mod PartMoves
+pub mod Activity
+pub mod PartRuns

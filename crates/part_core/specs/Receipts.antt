@@ -1,0 +1,11 @@
+-- What a receipt tells of a part. Own.
+use Rattle.std.specs.Prelude.{ℕ}
+use Rattle.actor_names.specs.declared.member.Member.{Member}
+use Rattle.part_core.specs.declared.receipt.SeenStage.{SeenStage}
+
+pub record ReceiptState : Type 0 where
+  pub member : Member
+  pub part : ℕ
+  pub version : ℕ  -- the greatest version seen
+  pub opened : ℕ  -- the version at which the part opened last, 0 before the first
+  pub stage : SeenStage

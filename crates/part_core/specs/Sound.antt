@@ -1,0 +1,88 @@
+-- What stays true of a part, whatever happens to it. Own.
+use Rattle.std.specs.Prelude.{◌≡◌, ◌≤◌, ◌+◌, ℕ, true, false, List, [], ◌∷◌, Option, None, Some, IfSome}
+use Rattle.actor_names.specs.declared.actor_key.ActorKey.{ActorKey}
+use Rattle.place_table.specs.declared.host.HostInfo.{HostInfo}
+use Rattle.place_table.specs.Hosts.{PlacementTable}
+use Rattle.turn_core.specs.declared.cell.Turn.{Turn}
+use Rattle.turn_core.specs.declared.cell.Waiter.{Waiter}
+use Rattle.turn_core.specs.Cell.{CellState}
+use Rattle.turn_core.specs.CellSound.{In, IsCellSound}
+use Rattle.part_core.specs.declared.stage.Stage.{Stage}
+use Rattle.part_core.specs.declared.stage.Stage.TheVariants.{Locked, Updated, Open, Stopped}
+use Rattle.part_core.specs.declared.actor_cell.ActorCell.{ActorCell}
+use Rattle.part_core.specs.declared.event.PartReply.{PartReply}
+use Rattle.part_core.specs.declared.event.PartReply.TheVariants as replies
+use Rattle.part_core.specs.Keys.{key_before}
+use Rattle.part_core.specs.Receipts.{ReceiptState}
+use Rattle.part_core.specs.Cells.{is_kept}
+use Rattle.part_core.specs.Part.{PartState, is_own, receipt_of}
+
+-- each key stands before those that follow
+abbrev pub AreInOrder : List ActorCell → Type 0
+AreInOrder [] = Unit {0}
+AreInOrder (c ∷ cs) = ((d : ActorCell) → In d cs → key_before c.key d.key ≡ true) × AreInOrder cs
+
+-- how many holds there are
+abbrev pub total_holds : List ActorCell → ℕ
+total_holds [] = 0
+total_holds (c ∷ cs) = c.inner.holds + total_holds cs
+
+-- no call that isn't moved is in the line
+abbrev pub HasNoWaiter : CellState → Type 0
+HasNoWaiter c = (w : Waiter) → In w c.line → w.moved ≡ true
+
+-- What is true of one cell: its turns are sound; one with an open turn is active; a closing one is active and has
+-- no open turn.
+pub record IsActorSound (c : ActorCell) : Type 0 where
+  pub sound : IsCellSound c.inner
+  pub open_active : (t : Turn) → In t c.inner.turns → c.active ≡ true
+  pub closing_active : c.closing ≡ true → c.active ≡ true
+  pub closing_free : c.closing ≡ true → c.inner.turns ≡ []
+
+-- the receipt in a reply, where there is one
+abbrev pub receipt_in : PartReply → Option ReceiptState
+receipt_in (replies.TableStep receipt changed) = Some receipt
+receipt_in (replies.Opened receipt begun moved) = Some receipt
+receipt_in (replies.NotDrained receipt) = Some receipt
+receipt_in (replies.Ticked receipt ended) = Some receipt
+receipt_in (replies.StoppedNow receipt) = Some receipt
+receipt_in _ = None
+
+module _ (owner : PlacementTable → ActorKey → Option HostInfo) where
+  -- In a cell of another owner no call that isn't moved waits; nor in an own one that has no open turn and isn't
+  -- closing.
+  pub record IsWorkDone (p : PartState) (c : ActorCell) : Type 0 where
+    pub foreign : is_own owner p c.key ≡ false → HasNoWaiter c.inner
+    pub free : c.inner.turns ≡ [] → c.closing ≡ false → HasNoWaiter c.inner
+
+  abbrev pub NoIdleWaiterAt : Stage → PartState → Type 0
+  NoIdleWaiterAt Open p = (c : ActorCell) → In c p.cells → IsWorkDone p c
+  NoIdleWaiterAt Locked p = Unit {0}
+  NoIdleWaiterAt Updated p = Unit {0}
+  NoIdleWaiterAt Stopped p = Unit {0}
+
+  -- an open part leaves no call waiting that could run
+  abbrev pub NoIdleWaiter : PartState → Type 0
+  NoIdleWaiter p = NoIdleWaiterAt p.stage p
+
+  abbrev pub HasNoCellAt : Stage → PartState → Type 0
+  HasNoCellAt Stopped p = p.cells ≡ []
+  HasNoCellAt Locked p = Unit {0}
+  HasNoCellAt Updated p = Unit {0}
+  HasNoCellAt Open p = Unit {0}
+
+  -- a stopped part has no cell
+  abbrev pub IsEmptyWhenStopped : PartState → Type 0
+  IsEmptyWhenStopped p = HasNoCellAt p.stage p
+
+  -- a receipt in a reply is that of this state
+  abbrev pub TellsState : PartReply → PartState → Type 0
+  TellsState reply p = IfSome (receipt_in reply) (λ r. r ≡ receipt_of owner p)
+
+  pub record IsPartSound (p : PartState) : Type 0 where
+    pub in_order : AreInOrder p.cells
+    pub each_sound : (c : ActorCell) → In c p.cells → IsActorSound c
+    pub each_kept : (c : ActorCell) → In c p.cells → is_kept c ≡ true
+    pub holds_drawn : total_holds p.cells ≤ p.drawn
+    pub no_idle_waiter : NoIdleWaiter p
+    pub stopped_empty : IsEmptyWhenStopped p

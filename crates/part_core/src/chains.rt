@@ -1,0 +1,82 @@
+// The chains of calls.
+ghost use Rattle.std.specs.Prelude.{◌≡◌, ◌+◌, ◌<◌, ◌^◌, ◌==◌, if◌then◌else◌, None, IfOk, IsSome};
+ghost use Rattle.std.specs.Option.{option_copied};
+ghost use Rattle.turn_core.specs.Cell.{is_open_chain};
+ghost use Rattle.part_core.specs.Part.{made_chain, chain_or};
+
+use crate::standing::Standing;
+use actor_names::{ChainId, Member, OutOfMemory, read_chain_id};
+use std::alloc::Global;
+use turn_core::Cell;
+
+/// The identifier in a text. One that can't be made is want of memory: the text has the form of a chain.
+fn chain_in(alloc: Global, text: &[u8]) -> Result<ChainId, OutOfMemory>
+    ensures { IfOk result (λ chain. chain ≡ text.now) }
+{
+    match read_chain_id(alloc, text) {
+        Ok(chain) => Ok(chain),
+        Err(_) => Err(OutOfMemory),
+    }
+}
+
+/// The chain that a part makes of a number that it draws: `<node>.<boot>.<part>.<n>`.
+fn made_chain(alloc: Global, member: &Member, part: u8, n: u64) -> Result<ChainId, OutOfMemory>
+    ensures { IfOk result (λ chain. chain ≡ made_chain member.now part n) }
+{
+    let boot = member.boot;
+    let numbers = format!(in alloc; ".{boot}.{part}.{n}")?;
+    let mut text = Vec::from_slice(alloc, member.node.as_slice())?;
+    text.extend_from_slice(numbers.as_bytes())?;
+    chain_in(alloc, text.as_slice())
+}
+
+/// The chain of the next call in a cell of this depth: none where reentrancy is off, made where it brings none.
+pub(crate) fn call_chain(
+    alloc: Global,
+    standing: &Standing,
+    drawn: u64,
+    depth: u32,
+    chain: Option<ChainId>,
+) -> Result<Option<ChainId>, OutOfMemory>
+    requires { drawn < 2 ^ 62 }
+    ensures chain { IfOk result (λ made. made ≡ (if depth == 0 then None else chain_or chain (made_chain standing.now.member standing.now.number (drawn + 1)))) }
+    ensures chained { IfOk result (λ made. 0 < depth → IsSome made) }
+{
+    if depth == 0 {
+        return Ok(None);
+    }
+    match chain {
+        Some(chain) => Ok(Some(chain)),
+        None => {
+            let made = made_chain(alloc, &standing.member, standing.number, drawn + 1)?;
+            Ok(Some(made))
+        }
+    }
+}
+
+/// Whether the open turns carry this chain, and reentrancy is on.
+pub(crate) fn carries(cell: &Cell, chain: Option<&ChainId>) -> bool
+    requires { 0 < cell.now.depth → IsSome chain }
+    ensures { result ≡ is_open_chain cell.now (option_copied chain.entry) }
+{
+    if cell.depth() == 0 {
+        return false;
+    }
+    match (cell.chain(), chain) {
+        (Some(open), Some(chain)) => open.as_slice() == chain.as_slice(),
+        _ => false,
+    }
+}
+
+/// An equal chain, or none for none.
+pub(crate) fn copy_chain(
+    alloc: Global,
+    chain: Option<&ChainId>,
+) -> Result<Option<ChainId>, OutOfMemory>
+    ensures { IfOk result (λ copy. copy ≡ option_copied chain.entry) }
+{
+    match chain {
+        None => Ok(None),
+        Some(chain) => Ok(Some(chain.copy(alloc)?)),
+    }
+}

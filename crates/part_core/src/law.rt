@@ -1,0 +1,60 @@
+// What holds of a part over every list of events.
+ghost use Rattle.std.specs.Prelude.{◌≡◌, ◌↔◌, ℕ, List, Option, true};
+ghost use Rattle.actor_names.specs.declared.actor_key.ActorKey.{ActorKey};
+ghost use Rattle.actor_names.specs.declared.member.Member.{Member};
+ghost use Rattle.place_table.specs.declared.host.HostInfo.{HostInfo};
+ghost use Rattle.place_table.specs.Hosts.{PlacementTable};
+ghost use Rattle.part_core.specs.declared.settings.TypeSettings.{TypeSettings};
+ghost use Rattle.part_core.specs.declared.event.PartEvent.{PartEvent};
+ghost use Rattle.part_core.specs.declared.receipt.SeenStage.TheVariants.{Drained};
+ghost use Rattle.turn_core.specs.CellMarks.{TurnsIsolated};
+ghost use Rattle.part_core.specs.Settings.{settings_of};
+ghost use Rattle.part_core.specs.Cells.{cell_at};
+ghost use Rattle.part_core.specs.Activity.{Replays, activity_of, no_activity, replay, turn_marks};
+ghost use Rattle.part_core.specs.Part.{PartState, new_part, part_step, seen_stage};
+ghost use Rattle.part_core.specs.Sound.{IsPartSound, NoIdleWaiter, TellsState};
+ghost use Rattle.part_core.specs.PartMoves.{Stepped};
+ghost use Rattle.part_core.specs.PartRuns.{part_after, marks_after, refuses, LeavesAsWas, AreVersionsTied, OwnsWhenOpen, IsTrulyDrained, BeginsRightly};
+
+/// Whatever the owners of actors are, after every list of events from a new part: no call waits in an open part
+/// that could run, the part is sound, its versions are tied, and an open part's active actors are its own. Each
+/// further step moves stage, versions and table in one of five ways, and opens only drained.
+///
+/// Of every state: a receipt in a reply is that of the new state, its stage is drained exactly where the part is
+/// updated and no active actor is foreign, and a refused event leaves the part as it was.
+///
+/// An event for which there was no memory changes nothing, and stands in no list.
+pub fn part_law()
+    ensures idle { (owner : PlacementTable → ActorKey → Option HostInfo) (m : Member) (number : ℕ) (kinds : List TypeSettings) (events : List PartEvent) →
+        NoIdleWaiter owner (part_after owner (new_part m number kinds) events) }
+    ensures sound { (owner : PlacementTable → ActorKey → Option HostInfo) (m : Member) (number : ℕ) (kinds : List TypeSettings) (events : List PartEvent) →
+        IsPartSound owner (part_after owner (new_part m number kinds) events) }
+    ensures tied { (owner : PlacementTable → ActorKey → Option HostInfo) (m : Member) (number : ℕ) (kinds : List TypeSettings) (events : List PartEvent) →
+        AreVersionsTied (part_after owner (new_part m number kinds) events) }
+    ensures owns { (owner : PlacementTable → ActorKey → Option HostInfo) (m : Member) (number : ℕ) (kinds : List TypeSettings) (events : List PartEvent) →
+        OwnsWhenOpen owner (part_after owner (new_part m number kinds) events) }
+    ensures stepped { (owner : PlacementTable → ActorKey → Option HostInfo) (p : PartState) (event : PartEvent) → IsPartSound owner p →
+        Stepped owner p event (part_step owner p event).part }
+    ensures tells { (owner : PlacementTable → ActorKey → Option HostInfo) (p : PartState) (event : PartEvent) →
+        TellsState owner (part_step owner p event).reply (part_step owner p event).part }
+    ensures drained { (owner : PlacementTable → ActorKey → Option HostInfo) (p : PartState) →
+        (seen_stage owner p p.stage ≡ Drained) ↔ IsTrulyDrained owner p }
+    ensures refused { (owner : PlacementTable → ActorKey → Option HostInfo) (p : PartState) (event : PartEvent) → refuses event (part_step owner p event).reply ≡ true →
+        LeavesAsWas p (part_step owner p event) }
+{}
+
+/// Whatever the owners of actors are: over every list of events from a new part the turns of each actor are
+/// isolated, so that two that overlap carry one chain and at most the depth of the actor's type are open, and the
+/// marks tell which actors are active and with which open turns. The marks of each step of a sound part tell what
+/// its cells came to, and a turn begins only in an open part that owns the actor, or beside an open turn of its
+/// chain.
+pub fn part_turns_law()
+    ensures isolated { (owner : PlacementTable → ActorKey → Option HostInfo) (m : Member) (number : ℕ) (kinds : List TypeSettings) (events : List PartEvent) (key : ActorKey) →
+        TurnsIsolated (settings_of kinds key.kind).depth (turn_marks key (marks_after owner (new_part m number kinds) events)) }
+    ensures told { (owner : PlacementTable → ActorKey → Option HostInfo) (m : Member) (number : ℕ) (kinds : List TypeSettings) (events : List PartEvent) (key : ActorKey) →
+        activity_of (cell_at (part_after owner (new_part m number kinds) events).cells key) ≡ replay (marks_after owner (new_part m number kinds) events) key no_activity }
+    ensures replayed { (owner : PlacementTable → ActorKey → Option HostInfo) (p : PartState) (event : PartEvent) → IsPartSound owner p →
+        Replays event p (part_step owner p event).part (part_step owner p event).marks }
+    ensures begins { (owner : PlacementTable → ActorKey → Option HostInfo) (p : PartState) (event : PartEvent) → IsPartSound owner p →
+        BeginsRightly owner p (part_step owner p event) }
+{}

@@ -1,0 +1,36 @@
+// One part of a sidecar: the actors whose keys fall into it, its stage in a placement round and its table.
+//
+// Promise: each step of a `Part` is the part's state machine (`specs/Part`). Stands on `place_table`, `turn_core`
+// and `actor_names`.
+#![tactic(auto)]
+
+mod actor_cell;
+mod actors;
+mod asking;
+mod calling;
+mod chains;
+mod closing;
+mod event;
+mod holding;
+mod law;
+mod opening;
+mod owners;
+mod part;
+mod receipt;
+mod rounds;
+mod search;
+mod settings;
+mod shard;
+mod stage;
+mod standing;
+mod stopping;
+mod ticking;
+
+pub use event::{PartEvent, PartReply};
+pub use law::{part_law, part_turns_law};
+pub use part::Part;
+pub use receipt::{Receipt, SeenStage};
+pub use settings::{PartSettings, TypeList, TypeSettings};
+
+#[cfg(test)]
+mod tests;

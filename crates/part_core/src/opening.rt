@@ -1,0 +1,97 @@
+// The opening of a part: waiting calls begin in its own cells, and are moved in those of other owners.
+ghost use Rattle.std.specs.Prelude.{◌≡◌, ◌+◌, ◌<◌, ◌≤◌, ◌++◌, length, option_map, vec_len, vec_capacity};
+ghost use Rattle.turn_core.specs.Cell.{call_of, next_call, begun_next};
+ghost use Rattle.part_core.specs.Actors.{no_actors, state_of, begun_next_in};
+ghost use Rattle.part_core.specs.Cells.{calls_in, total_calls};
+ghost use Rattle.part_core.specs.Marks.{begun_calls};
+ghost use Rattle.part_core.specs.Part.{open_cell, each_cell, ring_owner};
+
+use crate::actor_cell::ActorCell;
+use crate::actors::{Actors, note_next};
+use crate::owners::is_own;
+use crate::standing::Standing;
+use turn_core::Cell;
+
+/// The call that began in a cell, and how many of its calls were moved.
+#[derive(Clone, Copy)]
+pub(crate) struct CellOpening {
+    pub(crate) next: Option<u64>,
+    pub(crate) moved: u32,
+}
+
+/// The first call of the line begins, where it may and no turn is open.
+pub(crate) fn begin_if(cell: &mut Cell, may_begin: bool) -> Option<u64>
+    ensures answer { result ≡ option_map call_of (next_call may_begin cell.old) }
+    ensures cell { cell.new ≡ begun_next cell.old (next_call may_begin cell.old) }
+{
+    if may_begin && cell.turns() == 0 {
+        cell.begin_next()
+    } else {
+        None
+    }
+}
+
+/// What the opening does with one cell.
+fn open_cell(standing: &Standing, cell: &mut ActorCell) -> CellOpening
+    ensures cell { cell.new ≡ (open_cell ring_owner (state_of standing.now no_actors) cell.old).cell }
+    ensures next { begun_next_in result.next ≡ begun_calls (open_cell ring_owner (state_of standing.now no_actors) cell.old).marks }
+    ensures begun { length (begun_next_in result.next) ≡ (open_cell ring_owner (state_of standing.now no_actors) cell.old).first }
+    ensures moved { result.moved ≡ (open_cell ring_owner (state_of standing.now no_actors) cell.old).second }
+    ensures few { result.moved ≤ 1024 }
+    ensures in_line { length (begun_next_in result.next) ≤ calls_in cell.old }
+{
+    if is_own(&standing.table, &standing.member, &cell.key) {
+        let next = begin_if(&mut cell.inner, !cell.closing);
+        if next.is_some() {
+            cell.active = true;
+        }
+        return CellOpening { next, moved: 0 };
+    }
+    let _waiting = cell.inner.waiting();
+    let moved = cell.inner.move_waiting();
+    CellOpening { next: None, moved }
+}
+
+/// How many calls began, and how many were moved.
+#[derive(Clone, Copy)]
+pub(crate) struct Opening {
+    pub(crate) begun: u32,
+    pub(crate) moved: u32,
+}
+
+/// One where a call began.
+fn begun_count(next: Option<u64>) -> u32
+    ensures count { result ≡ length (begun_next_in next) }
+    ensures few { result ≤ 1 }
+{
+    match next {
+        None => 0,
+        Some(_) => 1,
+    }
+}
+
+/// What the opening does with every cell, one after another.
+pub(crate) fn open_cells(
+    standing: &Standing,
+    cells: &mut Vec<ActorCell>,
+    calls: &mut Vec<u64>,
+) -> Opening
+    requires few { length cells.old.items ≤ 65536 }
+    requires room { vec_len calls.old + total_calls cells.old.items ≤ vec_capacity calls.old }
+    ensures cells { cells.new.items ≡ (each_cell (open_cell ring_owner (state_of standing.now no_actors)) cells.old.items).cells }
+    ensures calls { calls.new.items ≡ calls.old.items ++ begun_calls (each_cell (open_cell ring_owner (state_of standing.now no_actors)) cells.old.items).marks }
+    ensures begun { result.begun ≡ (each_cell (open_cell ring_owner (state_of standing.now no_actors)) cells.old.items).first }
+    ensures moved { result.moved ≡ (each_cell (open_cell ring_owner (state_of standing.now no_actors)) cells.old.items).second }
+    ensures kept_room { vec_capacity calls.old ≤ vec_capacity calls.new }
+{
+    let mut begun = 0;
+    let mut moved = 0;
+    for i in 0..cells.len() {
+        let cell = &mut cells[i];
+        let opening = open_cell(standing, cell);
+        begun += begun_count(opening.next);
+        moved += opening.moved;
+        note_next(calls, opening.next);
+    }
+    Opening { begun, moved }
+}

@@ -1,0 +1,89 @@
+// Which actors belong to this member.
+ghost use Rattle.std.specs.Prelude.{◌≡◌, ◌<◌, ◌&&◌, not, length, IfOk};
+ghost use Rattle.std.specs.Option.{option_copied};
+ghost use Rattle.part_core.specs.Actors.{ActorsState, state_of};
+ghost use Rattle.part_core.specs.Keys.{same_member};
+ghost use Rattle.part_core.specs.Part.{ring_owner, is_owned_by, is_open, owner_reply, no_active_foreign};
+
+use crate::actor_cell::ActorCell;
+use crate::event::PartReply;
+use crate::stage::Stage;
+use crate::standing::Standing;
+use actor_names::{ActorKey, Member, OutOfMemory};
+use place_table::{HostInfo, Table};
+use std::alloc::Global;
+
+/// Whether two members are the same.
+pub(crate) fn is_same_member(a: &Member, b: &Member) -> bool
+    ensures { result ≡ same_member a.now b.now }
+{
+    a.node.as_slice() == b.node.as_slice() && a.boot == b.boot
+}
+
+/// The host that owns the actor.
+#[tactic(auto, unfolding(crate::specs::Part::ring_owner))]
+pub(crate) fn owner_host<'a>(table: &'a Table, key: &ActorKey) -> Option<&'a HostInfo>
+    ensures { option_copied result ≡ ring_owner table.now key.now }
+{
+    table.owner(key)
+}
+
+/// Whether the table gives the actor to the member.
+pub(crate) fn is_own(table: &Table, member: &Member, key: &ActorKey) -> bool
+    ensures { result ≡ is_owned_by member.now (ring_owner table.now key.now) }
+{
+    match owner_host(table, key) {
+        None => false,
+        Some(host) => is_same_member(&host.member, member),
+    }
+}
+
+/// Whether no active actor belongs to another owner.
+pub(crate) fn is_drained(standing: &Standing, cells: &[ActorCell]) -> bool
+    ensures { (a : ActorsState) → result ≡ no_active_foreign ring_owner (state_of standing.now a) cells.now }
+{
+    for cell in cells {
+        if cell.active && !is_own(&standing.table, &standing.member, &cell.key) {
+            return false;
+        }
+    }
+    true
+}
+
+/// Where a moved call should go, by the installed table.
+pub(crate) fn moved_reply(
+    alloc: Global,
+    table: &Table,
+    key: &ActorKey,
+) -> Result<PartReply, OutOfMemory>
+    ensures { IfOk result (λ reply. reply ≡ owner_reply table.now.version (ring_owner table.now key.now)) }
+{
+    let version = table.version();
+    match owner_host(table, key) {
+        None => Ok(PartReply::NoHost { version }),
+        Some(host) => {
+            let owner = host.copy(alloc)?;
+            Ok(PartReply::Elsewhere { version, owner })
+        }
+    }
+}
+
+/// Whether the part is open and the table gives the actor to its member.
+pub(crate) fn is_served(standing: &Standing, key: &ActorKey) -> bool
+    ensures { result ≡ (is_open standing.now.stage && is_owned_by standing.now.member (ring_owner standing.now.table key.now)) }
+{
+    match standing.stage {
+        Stage::Open => is_own(&standing.table, &standing.member, key),
+        _ => false,
+    }
+}
+
+/// Whether a new chain may begin in the cell when its turns are over. The owner isn't looked up where no call waits.
+pub(crate) fn may_hand_over(standing: &Standing, cell: &ActorCell) -> bool
+    ensures { 0 < length cell.now.inner.line → result ≡ ((is_open standing.now.stage && is_owned_by standing.now.member (ring_owner standing.now.table cell.now.key)) && not cell.now.closing) }
+{
+    if cell.inner.waiting() == 0 || cell.closing {
+        return false;
+    }
+    is_served(standing, &cell.key)
+}

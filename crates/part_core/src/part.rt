@@ -1,0 +1,89 @@
+// A part of a sidecar.
+ghost use Rattle.std.specs.Prelude.{◌≡◌, [], IfOk, IfSome};
+ghost use Rattle.part_core.specs.Part.{new_part, receipt_of, ring_owner};
+ghost use Rattle.part_core.specs.Rooms.{GivesStep, IsInRange};
+ghost use Rattle.part_core.specs.Settings.{AreShallow};
+ghost use Rattle.part_core.specs.Sound.{NoIdleWaiter, IsPartSound, receipt_in};
+
+use crate::actors::Actors;
+use crate::event::{PartEvent, PartReply};
+use crate::settings::PartSettings;
+use crate::shard::Shard;
+use crate::stage::Stage;
+use crate::standing::Standing;
+use actor_names::OutOfMemory;
+use place_table::build_table;
+use std::alloc::Global;
+use std::marker::Model;
+
+/// One part of a sidecar: the actors whose keys fall into it, with at most 65,536 cells.
+#[derive(Drop)]
+pub struct Part {
+    shard: Shard,
+}
+
+impl Model for Part {
+    ghost use Rattle.part_core.specs.Part.{ring_owner};
+    ghost use Rattle.part_core.specs.Rooms.{PartView};
+    ghost use Rattle.part_core.specs.Sound.{IsPartSound};
+
+    ghost Value = { PartView };
+
+    ghost view = { λ a. a.shard };
+
+    ghost invariant = { λ a. IsPartSound ring_owner a.shard.state };
+}
+
+impl Part {
+    /// A part that waits for its first round: it is locked at version 0, has the empty table and no actor, and has
+    /// drawn no number. The settings' depths are at most 1,024.
+    pub fn new(alloc: Global, settings: PartSettings) -> Result<Part, OutOfMemory>
+        requires { AreShallow settings.kinds }
+        ensures { IfOk result (λ part. part ≡ record { state = new_part settings.member settings.part settings.kinds; recent = [] }) }
+    {
+        let PartSettings {
+            member,
+            part,
+            kinds,
+        } = settings;
+        match build_table(alloc, 0, &[]) {
+            Err(_) => Err(OutOfMemory),
+            Ok(table) => {
+                let standing = Standing {
+                    member,
+                    number: part,
+                    kinds,
+                    stage: Stage::Locked,
+                    seen: 0,
+                    opened: 0,
+                    table,
+                    since: 0,
+                };
+                let actors = Actors::new(alloc);
+                Ok(Part {
+                    shard: Shard { standing, actors },
+                })
+            }
+        }
+    }
+
+    /// One step of the part. A refused event leaves the part as it was; an Ask, an AskAt, a Poll and a TakeClosing
+    /// may want memory, and no other event. After each step an open part leaves no call waiting that could run.
+    pub fn step(&mut self, event: PartEvent) -> PartReply
+        requires { IsInRange event }
+        ensures gives { GivesStep event result self.old.state self.new }
+        ensures no_idle_waiter { NoIdleWaiter ring_owner self.new.state }
+        ensures sound { IsPartSound ring_owner self.new.state }
+        ensures tells { IfSome (receipt_in result) (λ r. r ≡ receipt_of ring_owner self.new.state) }
+    {
+        self.shard.step(event)
+    }
+
+    /// The calls whose turns the last step began or, for Tick and StopPart, ended: actors in order of type, then
+    /// id, and of each actor the turn that began first before the others. Lent without memory.
+    pub fn calls(&self) -> &[u64]
+        ensures { result.now ≡ self.now.recent }
+    {
+        self.shard.calls()
+    }
+}

@@ -1,0 +1,104 @@
+// Receipts: what a part shows of itself.
+ghost use Rattle.std.specs.Prelude.{◌≡◌, ◌≤◌, ◌^◌};
+ghost use Rattle.part_core.specs.Keys.{same_member};
+
+use actor_names::Member;
+use std::marker::Model;
+
+/// The stage of a part as a receipt tells it.
+#[derive(Clone, Copy, Debug, PartialEq, Eq)]
+pub enum SeenStage {
+    /// No new chain begins.
+    Locked,
+    /// The round's table is installed, and an active actor belongs to another owner.
+    Draining,
+    /// The round's table is installed, and no active actor belongs to another owner.
+    Drained,
+    /// Actors begin by the installed table.
+    Open,
+    /// Nothing happens any more.
+    Stopped,
+}
+
+/// What a part was after one of its steps. Only a part's step makes one, and it is copied without memory.
+#[derive(Clone, Copy, Debug)]
+pub struct Receipt {
+    member: Member,
+    part: u8,
+    version: u64,
+    opened: u64,
+    stage: SeenStage,
+}
+
+impl Model for Receipt {
+    ghost use Rattle.std.specs.Prelude.{◌≤◌, ◌^◌};
+    ghost use Rattle.part_core.specs.Receipts.{ReceiptState};
+
+    ghost Value = { ReceiptState };
+
+    ghost view = { λ a. record { member = a.member; part = a.part; version = a.version; opened = a.opened; stage = a.stage } };
+
+    ghost invariant = { λ a. (a.version ≤ 2 ^ 62) × (a.opened ≤ 2 ^ 62) };
+
+    ghost inverse = { λ r. record { member = r.member; part = r.part; version = r.version; opened = r.opened; stage = r.stage } };
+}
+
+impl Receipt {
+    // The receipt of these facts.
+    pub(crate) fn of(
+        member: Member,
+        part: u8,
+        version: u64,
+        opened: u64,
+        stage: SeenStage,
+    ) -> Receipt
+        requires version { version ≤ 2 ^ 62 }
+        requires opened { opened ≤ 2 ^ 62 }
+        ensures { result ≡ record { member = member; part = part; version = version; opened = opened; stage = stage } }
+    {
+        Receipt {
+            member,
+            part,
+            version,
+            opened,
+            stage,
+        }
+    }
+
+    /// The part's number among those of its member.
+    pub fn part(&self) -> u8
+        ensures { result ≡ self.now.part }
+    {
+        self.part
+    }
+
+    /// The greatest version that the part has seen, at most 2^62.
+    pub fn version(&self) -> u64
+        ensures value { result ≡ self.now.version }
+        ensures within { result ≤ 2 ^ 62 }
+    {
+        self.version
+    }
+
+    /// The version at which the part opened last, at most 2^62; 0 before the first.
+    pub fn opened(&self) -> u64
+        ensures value { result ≡ self.now.opened }
+        ensures within { result ≤ 2 ^ 62 }
+    {
+        self.opened
+    }
+
+    /// The part's stage.
+    pub fn stage(&self) -> SeenStage
+        ensures { result ≡ self.now.stage }
+    {
+        self.stage
+    }
+
+    /// Whether it is a receipt of this member's part.
+    pub fn is_of(&self, member: &Member) -> bool
+        ensures { result ≡ same_member self.now.member member.now }
+    {
+        self.member.node.as_slice() == member.node.as_slice() && self.member.boot == member.boot
+    }
+}

@@ -1,0 +1,90 @@
+// What table events, time and the stop do with the actors of a part.
+ghost use Rattle.std.specs.Prelude.{◌≡◌, ◌≤◌, ◌^◌, []};
+ghost use Rattle.part_core.specs.Actors.{no_actors, state_of};
+ghost use Rattle.part_core.specs.Marks.{begun_calls, ended_calls, marks_of_stop};
+ghost use Rattle.part_core.specs.Part.{is_drained, seen_stage, receipt_of, open_cell, tick_cell, each_cell, ring_owner};
+
+use crate::actors::Actors;
+use crate::opening::{Opening, open_cells};
+use crate::owners::is_drained;
+use crate::receipt::{Receipt, SeenStage};
+use crate::stage::Stage;
+use crate::standing::Standing;
+use crate::stopping::list_open;
+use crate::ticking::tick_cells;
+
+impl Actors {
+    /// Whether no active actor belongs to another owner.
+    pub(crate) fn is_drained(&self, standing: &Standing) -> bool
+        ensures { result ≡ is_drained ring_owner (state_of standing.now self.now) }
+    {
+        is_drained(standing, self.cells.as_slice())
+    }
+
+    /// The stage as a receipt tells it.
+    fn seen_stage(&self, standing: &Standing) -> SeenStage
+        ensures { result ≡ seen_stage ring_owner (state_of standing.now self.now) standing.now.stage }
+    {
+        match standing.stage {
+            Stage::Locked => SeenStage::Locked,
+            Stage::Open => SeenStage::Open,
+            Stage::Stopped => SeenStage::Stopped,
+            Stage::Updated => {
+                if self.is_drained(standing) {
+                    SeenStage::Drained
+                } else {
+                    SeenStage::Draining
+                }
+            }
+        }
+    }
+
+    /// What the part shows of itself.
+    pub(crate) fn receipt(&self, standing: &Standing) -> Receipt
+        requires seen { standing.now.seen ≤ 2 ^ 62 }
+        requires opened { standing.now.opened ≤ 2 ^ 62 }
+        ensures { result ≡ receipt_of ring_owner (state_of standing.now self.now) }
+    {
+        let stage = self.seen_stage(standing);
+        Receipt::of(
+            standing.member,
+            standing.number,
+            standing.seen,
+            standing.opened,
+            stage,
+        )
+    }
+
+    /// The part opens: waiting calls begin in its own cells, and are moved in the others.
+    pub(crate) fn open(&mut self, standing: &Standing) -> Opening
+        ensures drawn { self.new.drawn ≡ self.old.drawn }
+        ensures cells { self.new.cells ≡ (each_cell (open_cell ring_owner (state_of standing.now no_actors)) self.old.cells).cells }
+        ensures recent { self.new.recent ≡ begun_calls (each_cell (open_cell ring_owner (state_of standing.now no_actors)) self.old.cells).marks }
+        ensures begun { result.begun ≡ (each_cell (open_cell ring_owner (state_of standing.now no_actors)) self.old.cells).first }
+        ensures moved { result.moved ≡ (each_cell (open_cell ring_owner (state_of standing.now no_actors)) self.old.cells).second }
+    {
+        self.calls.clear();
+        open_cells(standing, &mut self.cells, &mut self.calls)
+    }
+
+    /// The turns of other owners' actors end where their drain time is over; says how many.
+    pub(crate) fn tick(&mut self, standing: &Standing, now: u64) -> u32
+        ensures drawn { self.new.drawn ≡ self.old.drawn }
+        ensures cells { self.new.cells ≡ (each_cell (tick_cell ring_owner (state_of standing.now no_actors) now) self.old.cells).cells }
+        ensures recent { self.new.recent ≡ ended_calls (each_cell (tick_cell ring_owner (state_of standing.now no_actors) now) self.old.cells).marks }
+        ensures ended { result ≡ (each_cell (tick_cell ring_owner (state_of standing.now no_actors) now) self.old.cells).first }
+    {
+        self.calls.clear();
+        tick_cells(standing, now, &mut self.cells, &mut self.calls)
+    }
+
+    /// Every turn ends, and every cell is dropped.
+    pub(crate) fn stop(&mut self)
+        ensures { self.new ≡ record { drawn = self.old.drawn; cells = []; recent = ended_calls (marks_of_stop self.old.cells) } }
+    {
+        self.calls.clear();
+        list_open(self.cells.as_slice(), &mut self.calls);
+        self.cells.clear();
+        self.count = 0;
+    }
+}

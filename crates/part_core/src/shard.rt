@@ -1,0 +1,188 @@
+// A part as a state machine: what it is, and its actors.
+ghost use Rattle.std.specs.Prelude.{◌≡◌, ◌≤◌, ◌^◌, false, true, []};
+ghost use Rattle.part_core.specs.Part.{is_stopped, unchanged, lock_part, update_part, unlock_part, tick_part, stop_part, running_step, stopped_step, part_step, ring_owner};
+ghost use Rattle.part_core.specs.Rooms.{Gives, GivesEnded, GivesRunning, GivesStep, IsInRange};
+
+use crate::actors::Actors;
+use crate::event::{PartEvent, PartReply};
+use crate::stage::{Stage, is_locked, is_updated};
+use crate::standing::Standing;
+use place_table::Table;
+use std::marker::Model;
+
+/// What a part is, and its actors.
+#[derive(Drop)]
+pub(crate) struct Shard {
+    pub(crate) standing: Standing,
+    pub(crate) actors: Actors,
+}
+
+impl Model for Shard {
+    ghost use Rattle.part_core.specs.Rooms.{PartView};
+    ghost use Rattle.part_core.specs.Actors.{view_of, IsStandingKept};
+
+    ghost Value = { PartView };
+
+    ghost view = { λ a. view_of a.standing a.actors };
+
+    ghost invariant = { λ a. IsStandingKept a.standing };
+}
+
+impl Shard {
+    /// The calls that the last step began or ended.
+    pub(crate) fn calls(&self) -> &[u64]
+        ensures { result.now ≡ self.now.recent }
+    {
+        self.actors.calls()
+    }
+
+    /// Nothing has changed.
+    fn unchanged(&mut self) -> PartReply
+        ensures { Gives (unchanged ring_owner self.old.state) result self.new }
+    {
+        self.actors.forget();
+        PartReply::TableStep {
+            receipt: self.actors.receipt(&self.standing),
+            changed: false,
+        }
+    }
+
+    /// A round locks the part.
+    fn lock(&mut self, version: u64) -> PartReply
+        requires { version ≤ 2 ^ 62 }
+        ensures { Gives (lock_part ring_owner self.old.state version) result self.new }
+    {
+        if version <= self.standing.seen {
+            return self.unchanged();
+        }
+        self.actors.forget();
+        self.standing.stage = Stage::Locked;
+        self.standing.seen = version;
+        PartReply::TableStep {
+            receipt: self.actors.receipt(&self.standing),
+            changed: true,
+        }
+    }
+
+    /// The table of the round is installed.
+    fn update(&mut self, table: Table, now: u64) -> PartReply
+        ensures { Gives (update_part ring_owner self.old.state table now) result self.new }
+    {
+        if !is_locked(&self.standing.stage) || table.version() != self.standing.seen {
+            return self.unchanged();
+        }
+        self.actors.forget();
+        self.standing.stage = Stage::Updated;
+        self.standing.table = table;
+        self.standing.since = now;
+        PartReply::TableStep {
+            receipt: self.actors.receipt(&self.standing),
+            changed: true,
+        }
+    }
+
+    /// The part opens by the installed table, where it is drained.
+    fn unlock(&mut self, version: u64) -> PartReply
+        ensures { Gives (unlock_part ring_owner self.old.state version) result self.new }
+    {
+        if !is_updated(&self.standing.stage) || version != self.standing.seen {
+            return self.unchanged();
+        }
+        if !self.actors.is_drained(&self.standing) {
+            self.actors.forget();
+            return PartReply::NotDrained {
+                receipt: self.actors.receipt(&self.standing),
+            };
+        }
+        self.standing.stage = Stage::Open;
+        self.standing.opened = self.standing.seen;
+        let opening = self.actors.open(&self.standing);
+        PartReply::Opened {
+            receipt: self.actors.receipt(&self.standing),
+            begun: opening.begun,
+            moved: opening.moved,
+        }
+    }
+
+    /// Time has passed.
+    fn tick(&mut self, now: u64) -> PartReply
+        ensures { GivesEnded (tick_part ring_owner self.old.state now) result self.new }
+    {
+        if !is_updated(&self.standing.stage) {
+            self.actors.forget();
+            return PartReply::Ticked {
+                receipt: self.actors.receipt(&self.standing),
+                ended: 0,
+            };
+        }
+        let ended = self.actors.tick(&self.standing, now);
+        PartReply::Ticked {
+            receipt: self.actors.receipt(&self.standing),
+            ended,
+        }
+    }
+
+    /// The part stops for good.
+    fn stop(&mut self) -> PartReply
+        ensures { GivesEnded (stop_part ring_owner self.old.state) result self.new }
+    {
+        self.actors.stop();
+        self.standing.stage = Stage::Stopped;
+        PartReply::StoppedNow {
+            receipt: self.actors.receipt(&self.standing),
+        }
+    }
+
+    /// What happens to a part that has stopped.
+    fn stopped(&mut self, event: PartEvent) -> PartReply
+        ensures { GivesEnded (stopped_step ring_owner self.old.state event) result self.new }
+    {
+        self.actors.forget();
+        match event {
+            PartEvent::StopPart => PartReply::StoppedNow {
+                receipt: self.actors.receipt(&self.standing),
+            },
+            _ => PartReply::Stopped,
+        }
+    }
+
+    /// What happens to a part that has not stopped.
+    fn run(&mut self, event: PartEvent) -> PartReply
+        requires running { is_stopped self.old.state.stage ≡ false }
+        requires range { IsInRange event }
+        ensures { GivesRunning event result self.old.state self.new }
+    {
+        match event {
+            PartEvent::Ask { key, chain, .. } => self.actors.ask(&self.standing, key, chain, 0),
+            PartEvent::AskAt {
+                key,
+                chain,
+                least,
+                ..
+            } => self.actors.ask(&self.standing, key, chain, least),
+            PartEvent::Draw => self.actors.draw(),
+            PartEvent::Poll { call } => self.actors.poll(&self.standing, call),
+            PartEvent::End { call, now } => self.actors.end(&self.standing, call, now),
+            PartEvent::Hold { key } => self.actors.hold(&self.standing, &key),
+            PartEvent::Release { key, now } => self.actors.release(&self.standing, &key, now),
+            PartEvent::Lock { version } => self.lock(version),
+            PartEvent::Update { table, now } => self.update(table, now),
+            PartEvent::Unlock { version } => self.unlock(version),
+            PartEvent::Tick { now } => self.tick(now),
+            PartEvent::TakeClosing { now } => self.actors.take_closing(&self.standing, now),
+            PartEvent::Closed { key } => self.actors.closed(&self.standing, &key),
+            PartEvent::StopPart => self.stop(),
+        }
+    }
+
+    /// One step of the part.
+    pub(crate) fn step(&mut self, event: PartEvent) -> PartReply
+        requires { IsInRange event }
+        ensures { GivesStep event result self.old.state self.new }
+    {
+        match self.standing.stage {
+            Stage::Stopped => self.stopped(event),
+            _ => self.run(event),
+        }
+    }
+}
