@@ -75,6 +75,17 @@ fn in_short(reply: &PartReply) -> Told {
     }
 }
 
+/// Whether the call has begun under this chain.
+fn is_begun_under(reply: &PartReply, wanted: &[u8]) -> bool {
+    match reply {
+        PartReply::Begun {
+            chain: Some(chain),
+            ..
+        } => chain.as_slice() == wanted,
+        _ => false,
+    }
+}
+
 /// The table at `version` with one host, which serves `counter` and `nested`.
 fn table_of(alloc: Global, version: u64, member: &[u8]) -> Result<Table, Fail>
     ensures { IfOk result (λ table. table.version ≡ version) }
@@ -178,13 +189,8 @@ fn call_without_chain_gets_one_of_the_part(rt: HostRuntime) -> Result<(), Fail> 
         least: 1,
         now: 20,
     };
-    match part.step(event) {
-        PartReply::Begun {
-            chain: Some(chain),
-            ..
-        } => assert!(rt; chain.as_slice() == b"a.1.3.1".as_slice()),
-        _ => Err("no chain")?,
-    }
+    let reply = part.step(event);
+    assert!(rt; is_begun_under(&reply, b"a.1.3.1"));
     Ok(())
 }
 
@@ -228,17 +234,16 @@ fn receipt_tells_its_part(rt: HostRuntime) -> Result<(), Fail> {
     let mut part = open_part(rt.alloc())?;
     let member = read_member(b"a/1")?;
     let other = read_member(b"a/2")?;
-    match part.step(PartEvent::Lock { version: 4 }) {
-        PartReply::TableStep { receipt, .. } => {
-            assert_eq!(rt; receipt.part(), 3);
-            assert_eq!(rt; receipt.version(), 4);
-            assert_eq!(rt; receipt.opened(), 1);
-            assert_eq!(rt; receipt.stage(), SeenStage::Locked);
-            assert!(rt; receipt.is_of(&member));
-            assert!(rt; !receipt.is_of(&other));
-        }
-        _ => Err("no receipt")?,
-    }
+    let reply = part.step(PartEvent::Lock { version: 4 });
+    let PartReply::TableStep { receipt, .. } = &reply else {
+        return Err("no receipt")?;
+    };
+    assert_eq!(rt; receipt.part(), 3);
+    assert_eq!(rt; receipt.version(), 4);
+    assert_eq!(rt; receipt.opened(), 1);
+    assert_eq!(rt; receipt.stage(), SeenStage::Locked);
+    assert!(rt; receipt.is_of(&member));
+    assert!(rt; !receipt.is_of(&other));
     Ok(())
 }
 
