@@ -97,5 +97,5 @@ no_boot (Some j) e = absurd (cc)
 
 -- ---- a restart
 
-pub restarted_gives : (s : PlacementState) (now : ℕ) (rounds : RoundState) (before : declared.PlacementRecord) (n m : ℕ) → rounds.state ≡ placement_restarted s now → n ≡ s.next_version → m ≡ rounds.state.next_version → before.joined ≡ None → before.removed.members ≡ [] → cond (not (m == n)) (Some (record_of (record before { next_version = m }))) None ≡ restart_record s now
-restarted_gives s now rounds before n m re ne me bj br = rw (bj, br, me, ne, re) refl
+pub restarted_gives : (s : PlacementState) (now : ℕ) (before after : declared.PlacementRecord) (b : Bool) → after ≡ record before { next_version = (placement_restarted s now).next_version } → before.joined ≡ None → before.removed.members ≡ [] → b ≡ not ((placement_restarted s now).next_version == s.next_version) → cond b (Some (record_of after)) None ≡ restart_record s now
+restarted_gives s now before after b ar bj br be = rw (be, ar, bj, br) refl

@@ -7,6 +7,7 @@ mod Giving
 mod Hosts
 mod Lateness
 mod Memory
+mod Openings
 mod Places
 mod Reached
 mod Replays

@@ -157,9 +157,3 @@ awoken_keeps s now =
 
 pub awoken_rises : (s : PlacementState) (now : ℕ) → Rises s (settle_round (awoken s now))
 awoken_rises s now = let r = settle_rises (awoken s now) in record { low = r.low; high = r.high }
-
-pub restart_forgets : (s : PlacementState) (now : ℕ) → 1 < s.next_version → ForgetsNothing s (placement_restarted s now)
-restart_forgets s now h =
-    cond_both (s.next_version == 1) new_placement (settle_round (awoken s now)) (λ (t : PlacementState). ForgetsNothing s t)
-    (λ e. let z = eqb-true s.next_version 1 e in absurd (omega arith))
-    (λ _. forgets_on s s (settle_round (awoken s now)) (forgets_self s) (awoken_keeps s now) (awoken_rises s now))

@@ -7,18 +7,19 @@ use Rattle.place_table.specs.declared.host.HostInfo.{HostInfo}
 use Rattle.round_core.specs.declared.event.PlaceEvent.{PlaceEvent}
 use Rattle.round_core.specs.declared.event.PlaceEvent.TheVariants as events
 use Rattle.round_core.specs.Members.{Joined, hosts_of, of_node, is_here, greatest_boot, heard_at, new_joined}
+use Rattle.round_core.specs.Openings.{IsNewOrUsed}
 use Rattle.round_core.specs.Placement.{PlacementState, Membership, new_placement, settle_round, conclude, not_member, with_member, join_node, is_full, ack_change, remove_member, apply_membership, placement_step, placement_restarted, awoken}
 use Rattle.round_core.specs.Runs.{RunEvent, Steps, Restarts, ForgetsNothing, state_after, run_state}
 use Rattle.round_core.proofs.Durable.{Keeps, keeps_all, hosts_with, conclude_keeps, ack_same}
 use Rattle.round_core.proofs.Hosts.{Distinct, of_node-host, put_distinct, without_distinct, heard_distinct}
 use Rattle.round_core.proofs.Memory.{forgets_self, forgets_on, step_forgets, awoken_keeps, awoken_rises}
+use Rattle.round_core.proofs.Openings.{new_kept, used_kept, by_use, restart_kept}
 use Rattle.round_core.proofs.Versions.{Rises, rises_all, rises_on, conclude_rises}
 
 pub record IsReached (s : PlacementState) : Type 0 where
   pub distinct : Distinct (hosts_of s.members)
-  pub used : 1 ≤ s.next_version
+  pub kept : IsNewOrUsed s
   pub within : s.next_version ≤ 2 ^ 62
-  pub unused : s.next_version ≡ 1 → s ≡ new_placement
 
 -- ---- nodes that differ
 
@@ -80,7 +81,7 @@ step_rises s event now =
     let t = apply_membership s event now in
     rises_on s t.state (conclude t.state t.conclusion).state (rises_all s t.state (membership_version s event now)) (conclude_rises t.state t.conclusion)
 
--- ---- before the first round there is nobody
+-- ---- before the first round it is the opening state
 
 abbrev Unused : PlacementState → Type 0
 Unused s = s.next_version ≡ 1 → s ≡ new_placement
@@ -95,19 +96,16 @@ first_unused (events.Lost m) now = λ _. refl
 first_unused events.Tick now = λ _. refl
 first_unused events.Look now = λ _. refl
 
-step_unused : (s : PlacementState) (event : PlaceEvent) (now : ℕ) → IsReached s → Unused (placement_step s event now).state
-step_unused s event now r = elim (cases_eq s.next_version 1) [
-  | inl e ↦ subst (λ (t : PlacementState). Unused (placement_step t event now).state) (sym (r.unused e)) (first_unused event now)
-  | inr off ↦ λ z. (let u = r.used in let l = (step_rises s event now).low in absurd (one_off s.next_version u (omega arith) off))
-]
-  where
-    one_off : (n : ℕ) → 1 ≤ n → n ≤ 1 → (n ≡ 1 → ⊥) → ⊥
-    one_off n a b off = off (omega arith)
+step_kept : (s : PlacementState) (event : PlaceEvent) (now : ℕ) → IsNewOrUsed s → IsNewOrUsed (placement_step s event now).state
+step_kept s event now k =
+    by_use (λ (t : PlacementState). IsNewOrUsed (placement_step t event now).state) s k
+    (record { used = (step_rises new_placement event now).low; unused = first_unused event now })
+    (λ l. used_kept s (placement_step s event now).state l (step_rises s event now))
 
 -- ---- each state that a run reaches
 
 pub new_reached : IsReached new_placement
-new_reached = record { distinct = tt; used = omega arith; within = omega arith; unused = λ _. refl }
+new_reached = record { distinct = tt; kept = new_kept; within = omega arith }
 
 step_reached : (s : PlacementState) (event : PlaceEvent) (now : ℕ) → IsReached s → IsReached (placement_step s event now).state
 step_reached s event now r =
@@ -115,38 +113,29 @@ step_reached s event now r =
     let v = step_rises s event now in
     record {
       distinct = subst (λ (hs : List HostInfo). Distinct hs) (sym (conclude_keeps t.state t.conclusion).hosts) (differs s event now r.distinct);
-      used = (let a = v.low in let b = r.used in omega arith);
+      kept = step_kept s event now r.kept;
       within = v.high r.within;
-      unused = step_unused s event now r;
     }
 
 -- the restart of a reached state
-pub restart_keeps : (s : PlacementState) (now : ℕ) → IsReached s → Keeps s (placement_restarted s now)
-restart_keeps s now r =
+pub restart_keeps : (s : PlacementState) (now : ℕ) → IsNewOrUsed s → Keeps s (placement_restarted s now)
+restart_keeps s now k =
     cond_both (s.next_version == 1) new_placement (settle_round (awoken s now)) (λ (t : PlacementState). Keeps s t)
-    (λ e. subst (λ (t : PlacementState). Keeps t new_placement) (sym (r.unused (eqb-true s.next_version 1 e))) (keeps_all new_placement))
+    (λ e. subst (λ (t : PlacementState). Keeps t new_placement) (sym (k.unused (eqb-true s.next_version 1 e))) (keeps_all new_placement))
     (λ _. awoken_keeps s now)
 
-pub restart_rises : (s : PlacementState) (now : ℕ) → IsReached s → Rises s (placement_restarted s now)
-restart_rises s now r =
+pub restart_rises : (s : PlacementState) (now : ℕ) → Rises s (placement_restarted s now)
+restart_rises s now =
     cond_both (s.next_version == 1) new_placement (settle_round (awoken s now)) (λ (t : PlacementState). Rises s t)
     (λ e. let z = eqb-true s.next_version 1 e in rises_all s new_placement (sym z))
     (λ _. awoken_rises s now)
 
-restart_unused : (s : PlacementState) (now : ℕ) → IsReached s → Unused (placement_restarted s now)
-restart_unused s now r =
-    cond_both (s.next_version == 1) new_placement (settle_round (awoken s now)) Unused
-    (λ _ _. refl)
-    (λ f z. absurd (true≢false (sym (eq-eqb s.next_version 1 (let a = (awoken_rises s now).low in let b = r.used in omega arith)) ∙ f)))
-
 restart_reached : (s : PlacementState) (now : ℕ) → IsReached s → IsReached (placement_restarted s now)
 restart_reached s now r =
-    let v = restart_rises s now r in
     record {
-      distinct = subst (λ (hs : List HostInfo). Distinct hs) (sym (restart_keeps s now r).hosts) r.distinct;
-      used = (let a = v.low in let b = r.used in omega arith);
-      within = v.high r.within;
-      unused = restart_unused s now r;
+      distinct = subst (λ (hs : List HostInfo). Distinct hs) (sym (restart_keeps s now r.kept).hosts) r.distinct;
+      kept = restart_kept s now r.kept.used;
+      within = (restart_rises s now).high r.within;
     }
 
 pub event_reached : (s : PlacementState) (e : RunEvent) → IsReached s → IsReached (state_after s e)
@@ -159,6 +148,9 @@ run_reached s (e ∷ es) r = run_reached (state_after s e) es (event_reached s e
 
 -- ---- no event of a run forgets anything
 
+pub restart_forgets : (s : PlacementState) (now : ℕ) → IsNewOrUsed s → ForgetsNothing s (placement_restarted s now)
+restart_forgets s now k = forgets_on s s (placement_restarted s now) (forgets_self s) (restart_keeps s now k) (restart_rises s now)
+
 pub event_forgets : (s : PlacementState) (e : RunEvent) → IsReached s → ForgetsNothing s (state_after s e)
 event_forgets s (Steps event now) r = step_forgets s event now
-event_forgets s (Restarts now) r = forgets_on s s (placement_restarted s now) (forgets_self s) (restart_keeps s now r) (restart_rises s now r)
+event_forgets s (Restarts now) r = restart_forgets s now r.kept

@@ -180,7 +180,7 @@ event_kept : (s : PlacementState) (e : RunEvent) → IsReached s → record_afte
 event_kept s (Steps event now) r n = (recorded_durable s event now).0 n
 event_kept s (Restarts now) r n =
     let u = placement_restarted s now in
-    let k = restart_keeps s now r in
+    let k = restart_keeps s now r.kept in
     let p = none_parts (record { joined = None; removed = []; next_version = u.next_version }) false false (u.next_version == s.next_version) n in
     record { next_version = eqb-true u.next_version s.next_version p.2; boots = k.boots; members = k.hosts }
 
@@ -201,7 +201,7 @@ event_replayed s t (Restarts now) r reached d e =
     let u = placement_restarted s now in
     let m = unchanged s replies.Looked in
     let is = record_is _ (record { joined = None; removed = []; next_version = u.next_version }) r e in
-    let f = recorded s t d m u (unchanged_replays s t d m refl refl refl refl) (restart_keeps s now reached) (restart_rises s now reached) reached.within in
+    let f = recorded s t d m u (unchanged_replays s t d m refl refl refl refl) (restart_keeps s now reached.kept) (restart_rises s now) reached.within in
     record { after = f.0; is = rw is f.1; same = f.2 }
 
 -- ---- a run

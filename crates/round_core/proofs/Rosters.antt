@@ -1,13 +1,15 @@
 -- Members where a search finds their node, and where it doesn't.
-use Rattle.std.proofs.Common.{◌≡◌, ℕ, suc, zero, false, ◌||◌, List, [], ◌∷◌, length, map, get_or, set, None, Some, refl, ap, arith}
+use Rattle.std.proofs.Common.{◌≡◌, ℕ, suc, zero, Bool, false, ◌||◌, List, [], ◌∷◌, length, map, get_or, set, None, Some, refl, sym, ap, ◌∙◌, arith}
+use Rattle.std.specs.Prelude.{◌==◌}
 use Rattle.std.specs.List.{insert, remove, list_any}
 use Rattle.std.specs.declared.cmp.Ordering.{Ordering}
 use Rattle.std.specs.declared.cmp.Ordering.TheVariants.{Less, Equal, Greater}
 use Rattle.std.specs.declared.result.Result.{Result}
 use Rattle.std.specs.declared.result.Result.TheVariants.{Ok, Err}
+use Rattle.actor_names.specs.declared.member.Member.{Member}
 use Rattle.place_table.specs.declared.host.HostInfo.{HostInfo}
 use Rattle.round_core.specs.declared.marks.Mark.{Mark}
-use Rattle.round_core.specs.Members.{Joined, of_node, with_node, without_node, put_joined, any_left, hosts_of}
+use Rattle.round_core.specs.Members.{Joined, has_boot, is_here, of_node, with_node, without_node, put_joined, any_left, hosts_of}
 use Rattle.round_core.specs.Places.{host_node, Ascends, place_from, place_by}
 use Rattle.round_core.specs.Roster.{joined_of, joined_all}
 use Rattle.round_core.proofs.Places.{cmp, same_texts, before_texts, one_more-Ok, one_more-Err, none_after}
@@ -43,6 +45,13 @@ of_node-missing node (h ∷ hs) (k ∷ ms) i a p = go (cmp h.member.node node) r
     go Equal f ih i p = absurd (cc)
     go Greater f ih i p = rw (same_texts h.member.node node Greater f) (ih 0 (none_after host_node h.member.node node hs f a.0))
 
+pub is_here-found : (m : Member) (b : Bool) (hs : List HostInfo) (ms : List Mark) (i : ℕ) (h : HostInfo) → length ms ≡ length hs → place_by host_node m.node hs ≡ Ok i → h ≡ get_or hs i h → b ≡ (m.boot == h.member.boot) → b ≡ is_here (joined_all hs ms) m
+is_here-found m b hs ms i h l p e f =
+    f ∙ ap (λ (x : HostInfo). m.boot == x.member.boot) e ∙ sym (ap (has_boot m.boot) (of_node-found m.node hs ms i h no_mark l p))
+
+pub is_here-missing : (m : Member) (hs : List HostInfo) (ms : List Mark) (i : ℕ) → Ascends host_node hs → place_by host_node m.node hs ≡ Err i → false ≡ is_here (joined_all hs ms) m
+is_here-missing m hs ms i a p = sym (ap (has_boot m.boot) (of_node-missing m.node hs ms i a p))
+
 -- a change of the mark at the place
 pub with_node-found : (node : List ℕ) (hs : List HostInfo) (ms : List Mark) (i : ℕ) (g : Mark → Mark) (f : Joined → Joined) (d : Mark) → ((h : HostInfo) (k : Mark) → f (joined_of h k) ≡ joined_of h (g k)) → place_by host_node node hs ≡ Ok i → with_node (joined_all hs ms) node f ≡ joined_all hs (set ms i (g (get_or ms i d)))
 with_node-found node [] ms i g f d s p = refl
@@ -65,16 +74,6 @@ without_node-found node (h ∷ hs) (k ∷ ms) i l p = go (cmp h.member.node node
     go Equal e ih zero p = rw (same_texts h.member.node node Equal e) refl
     go Equal e ih (suc i) p = absurd (cc)
     go Greater e ih i p = absurd (cc)
-
-pub without_node-missing : (node : List ℕ) (hs : List HostInfo) (ms : List Mark) (i : ℕ) → Ascends host_node hs → place_by host_node node hs ≡ Err i → without_node (joined_all hs ms) node ≡ joined_all hs ms
-without_node-missing node [] ms i a p = refl
-without_node-missing node (h ∷ hs) [] i a p = refl
-without_node-missing node (h ∷ hs) (k ∷ ms) i a p = go (cmp h.member.node node) refl (λ j q. without_node-missing node hs ms j a.1 q) i p
-  where
-    go : (o : Ordering) → cmp h.member.node node ≡ o → ((j : ℕ) → place_by host_node node hs ≡ Err j → without_node (joined_all hs ms) node ≡ joined_all hs ms) → (i : ℕ) → place_from o (place node hs) ≡ Err i → without_node (joined_all (h ∷ hs) (k ∷ ms)) node ≡ joined_all (h ∷ hs) (k ∷ ms)
-    go Less f ih i p = let r = one_more-Err (place node hs) i p in rw (same_texts h.member.node node Less f) (ap (λ js. joined_of h k ∷ js) (ih r.0 r.1))
-    go Equal f ih i p = absurd (cc)
-    go Greater f ih i p = rw (same_texts h.member.node node Greater f) (ap (λ js. joined_of h k ∷ js) (ih 0 (none_after host_node h.member.node node hs f a.0)))
 
 pub put_joined-at : (x : HostInfo) (y : Mark) (hs : List HostInfo) (ms : List Mark) (i : ℕ) → length ms ≡ length hs → place_by host_node x.member.node hs ≡ Err i → put_joined (joined_all hs ms) (joined_of x y) ≡ joined_all (insert hs i x) (insert ms i y)
 put_joined-at x y [] [] i l p = let z : i ≡ 0 = cc in rw z refl

@@ -3,6 +3,7 @@ pub mod Places
 pub mod Members
 pub mod Placement
 pub mod Roster
+pub mod Openings
 pub mod Records
 pub mod Rooms
 pub mod Runs

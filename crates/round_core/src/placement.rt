@@ -32,6 +32,7 @@ pub struct Placement {
 
 impl Model for Placement {
     ghost use Rattle.std.specs.Prelude.{◌≤◌, if◌then◌else◌, Some, None};
+    ghost use Rattle.round_core.specs.Openings.{IsNewOrUsed};
     ghost use Rattle.round_core.specs.Records.{record_of};
     ghost use Rattle.round_core.specs.Rooms.{PlacementView};
 
@@ -39,7 +40,19 @@ impl Model for Placement {
 
     ghost view = { λ a. record { state = a.rounds.state; recent = if a.recorded then Some (record_of a.record) else None } };
 
-    ghost invariant = { λ a. a.rounds.room ≤ a.record.removed.room };
+    ghost invariant = { λ a. (a.rounds.room ≤ a.record.removed.room) × IsNewOrUsed a.rounds.state };
+}
+
+/// A record of nothing.
+fn new_record(alloc: Global) -> PlacementRecord
+    ensures joined { result.joined ≡ None }
+    ensures removed { result.removed.members ≡ [] }
+{
+    PlacementRecord {
+        joined: None,
+        removed: MemberList::from_vec(Vec::new(alloc)),
+        next_version: 1,
+    }
 }
 
 /// Nobody joined or was removed.
@@ -61,6 +74,20 @@ fn go_on(rounds: &mut Rounds, record_: &mut PlacementRecord) -> bool
     let after = rounds.next_version();
     record_.next_version = after;
     record_.joined.is_some() || record_.removed.as_slice().len() > 0 || !(after == before)
+}
+
+/// The rounds are restarted; says whether that has to be on the disk.
+fn restart(rounds: &mut Rounds, record_: &mut PlacementRecord, now: u64) -> bool
+    ensures rounds { rounds.new ≡ with_state rounds.old (placement_restarted rounds.old.state now) }
+    ensures noted { record_.new ≡ record record_.old { next_version = (placement_restarted rounds.old.state now).next_version } }
+    ensures changed { result ≡ not ((placement_restarted rounds.old.state now).next_version == rounds.old.state.next_version) }
+    ensures used { 1 ≤ rounds.old.state.next_version }
+{
+    let before = rounds.next_version();
+    rounds.restart(now);
+    let after = rounds.next_version();
+    record_.next_version = after;
+    !(after == before)
 }
 
 /// A host joins, and is noted.
@@ -93,11 +120,7 @@ impl Placement {
         Placement {
             alloc,
             rounds: Rounds::new(alloc),
-            record: PlacementRecord {
-                joined: None,
-                removed: MemberList::from_vec(Vec::new(alloc)),
-                next_version: 1,
-            },
+            record: new_record(alloc),
             recorded: false,
         }
     }
@@ -115,13 +138,19 @@ impl Placement {
         ensures run { IfOk result (λ placement. (run : List RunEvent) → map record_of records.now ≡ run_records new_placement run → placement.state ≡ placement_restarted (run_state new_placement run) now) }
         ensures run_is_good { IfErr result (λ e. (run : List RunEvent) → map record_of records.now ≡ run_records new_placement run → e ≡ out_of_memory) }
     {
-        let mut placement = Placement::new(alloc);
-        let rounds = &mut placement.rounds;
-        match apply_records(alloc, rounds, &mut placement.record.removed, records) {
+        let mut rounds = Rounds::new(alloc);
+        let mut record_ = new_record(alloc);
+        match apply_records(alloc, &mut rounds, &mut record_.removed, records) {
             Err(error) => Err(error),
             Ok(()) => {
-                placement.restarted(now);
-                Ok(placement)
+                clear_record(&mut record_);
+                let recorded = restart(&mut rounds, &mut record_, now);
+                Ok(Placement {
+                    alloc,
+                    rounds,
+                    record: record_,
+                    recorded,
+                })
             }
         }
     }
@@ -235,15 +264,14 @@ impl Placement {
         ensures lost { (now : ℕ) → Gives (PlaceEvent.Lost member) now result self.old self.new }
     {
         clear_record(&mut self.record);
-        if !self.rounds.has(&member) {
+        let _members = self.rounds.len();
+        if !self.rounds.remove(&member) {
             self.recorded = false;
             return PlaceReply::NotMember {
                 greatest: self.rounds.greatest(&member.node),
             };
         }
-        let _members = self.rounds.len();
         self.record.removed.push_in_room(member);
-        self.rounds.remove(&member);
         self.recorded = go_on(&mut self.rounds, &mut self.record);
         PlaceReply::Gone
     }
@@ -254,8 +282,7 @@ impl Placement {
     {
         let member = host.member;
         clear_record(&mut self.record);
-        if self.rounds.has(&member) {
-            let _here = self.rounds.hear(&member, now);
+        if self.rounds.hear(&member, now) {
             self.recorded = go_on(&mut self.rounds, &mut self.record);
             return self.rounds.reply_for(&member);
         }
@@ -310,13 +337,9 @@ impl Placement {
     pub fn restarted(&mut self, now: u64)
         ensures state { self.new.state ≡ placement_restarted self.old.state now }
         ensures recent { self.new.recent ≡ restart_record self.old.state now }
-        ensures remembers { 1 < self.old.state.next_version → ForgetsNothing self.old.state self.new.state }
+        ensures remembers { ForgetsNothing self.old.state self.new.state }
     {
         clear_record(&mut self.record);
-        let before = self.rounds.next_version();
-        self.rounds.restart(now);
-        let after = self.rounds.next_version();
-        self.record.next_version = after;
-        self.recorded = !(after == before);
+        self.recorded = restart(&mut self.rounds, &mut self.record, now);
     }
 }

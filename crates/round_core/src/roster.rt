@@ -107,16 +107,6 @@ impl Roster {
         }
     }
 
-    /// Whether it is a member.
-    pub(crate) fn has(&self, member: &Member) -> bool
-        ensures { result ≡ is_here self.now.members member.now }
-    {
-        match self.boot_at(&member.node) {
-            Some(boot) => member.boot == boot,
-            None => false,
-        }
-    }
-
     /// Whether the member of its node is among those left.
     pub(crate) fn is_left(&self, member: &Member) -> bool
         ensures { result ≡ is_left self.now.members member.now }
@@ -221,19 +211,25 @@ impl Roster {
         }
     }
 
-    /// The member of this node is removed.
-    pub(crate) fn remove(&mut self, node: &Node)
-        ensures { self.new ≡ record self.old { members = without_node self.old.members node.now } }
+    /// The member is removed, if it is one; says whether it was.
+    pub(crate) fn remove(&mut self, member: &Member) -> bool
+        ensures here { result ≡ is_here self.old.members member.now }
+        ensures removed { IsTrue result → self.new ≡ record self.old { members = without_node self.old.members member.now.node } }
+        ensures stranger { IsFalse result → self.new ≡ self.old }
     {
-        match host_place(&self.hosts, node) {
+        match host_place(&self.hosts, &member.node) {
             Ok(at) => {
+                if !has_boot(&self.hosts[at], member) {
+                    return false;
+                }
                 let _host = self.hosts.remove(at);
                 let mark = self.marks.remove(at);
                 let _spare = self.spares.remove(at);
                 let weight = weigh_mark(mark);
                 self.left -= weight;
+                true
             }
-            Err(_) => {}
+            Err(_) => false,
         }
     }
 
@@ -245,10 +241,9 @@ impl Roster {
         ensures room { self.new.room ≡ self.old.room }
     {
         for i in 0..members.len() {
-            if !self.has(&members[i]) {
+            if !self.remove(&members[i]) {
                 return false;
             }
-            self.remove(&members[i].node);
         }
         true
     }

@@ -79,13 +79,6 @@ impl Rounds {
         self.next_version
     }
 
-    /// Whether it is a member.
-    pub(crate) fn has(&self, member: &Member) -> bool
-        ensures { result ≡ is_here self.now.state.members member.now }
-    {
-        self.roster.has(member)
-    }
-
     /// The greatest boot of the node, 0 for an unknown one.
     pub(crate) fn greatest(&self, node: &Node) -> u64
         ensures { result ≡ greatest_boot self.now.state.boots node.now }
@@ -226,12 +219,17 @@ impl Rounds {
         }
     }
 
-    /// A member is removed.
-    pub(crate) fn remove(&mut self, member: &Member)
-        ensures { self.new ≡ with_state self.old (record self.old.state { members = without_node self.old.state.members member.now.node; dirty = true }) }
+    /// The member is removed, if it is one; says whether it was.
+    pub(crate) fn remove(&mut self, member: &Member) -> bool
+        ensures here { result ≡ is_here self.old.state.members member.now }
+        ensures removed { IsTrue result → self.new ≡ with_state self.old (record self.old.state { members = without_node self.old.state.members member.now.node; dirty = true }) }
+        ensures stranger { IsFalse result → self.new ≡ self.old }
     {
-        self.roster.remove(&member.node);
+        if !self.roster.remove(member) {
+            return false;
+        }
         self.dirty = true;
+        true
     }
 
     /// The boot of the member of this node.

@@ -1,10 +1,12 @@
-use Rattle.std.proofs.Common.{◌≡◌, true, [], None, refl, ap, sym, ◌∙◌, rules}
+use Rattle.std.proofs.Common.{◌≡◌, true, [], None, refl, ap, sym, subst, ◌∙◌, rules}
 use Rattle.round_core.specs.declared.record.PlacementRecord as declared
 use Rattle.round_core.specs.declared.event.PlaceEvent.TheVariants as events
 use Rattle.round_core.specs.Members.{is_here, with_node}
+use Rattle.round_core.specs.Openings.{IsNewOrUsed}
 use Rattle.round_core.specs.Placement.{PlacementState, Tells, reply_for, ack_change, settle_round}
 use Rattle.round_core.specs.Rooms.{RoundState, PlacementView}
 use Rattle.round_core.proofs.Giving.{settled_gives}
+use Rattle.round_core.proofs.Openings.{told_kept}
 use Rattle.round_core.proofs.placement.Placement.ack.Goals as goal
 
 pub returns : goal.returns
@@ -22,3 +24,10 @@ returns c =
     c.go_on-self-inside.ensures.noted
     c.go_on-self-inside.ensures.changed
     (c.reply_for.ensures ∙ ap (λ (r : RoundState). reply_for r.state c.args.member) c.go_on-self-inside.ensures.rounds ∙ ap (λ (s : PlacementState). reply_for (settle_round s) c.args.member) (ap (λ (r : RoundState). r.state) (c.ack.ensures.acked h) ∙ ap g st))
+
+pub invariant_of-self-2 : goal.invariant_of-self-2
+invariant_of-self-2 c =
+    let h : c.ack.result ≡ true = search rules in
+    let e = ap (λ (r : RoundState). r.state) (c.ack.ensures.acked h) in
+    let kept = told_kept c.self.inside.rounds.state c.ack.new.self.state c.args.member c.self.invariant.1 (sym c.ack.ensures.here ∙ h) (ap (λ (s : PlacementState). s.next_version) e) in
+    (search rules, subst (λ (r : RoundState). IsNewOrUsed r.state) (sym c.go_on-self-inside.ensures.rounds) kept)

@@ -1,24 +1,31 @@
-use Rattle.std.proofs.Common.{◌≡◌, ap, sym, ◌∙◌, subst}
+use Rattle.std.proofs.Common.{◌≡◌, rules, refl, ap, sym, ◌∙◌, subst}
 use Rattle.round_core.specs.declared.record.PlacementRecord as declared
+use Rattle.round_core.specs.Openings.{IsNewOrUsed}
 use Rattle.round_core.specs.Placement.{PlacementState, placement_restarted}
+use Rattle.round_core.specs.Records.{restart_record}
 use Rattle.round_core.specs.Rooms.{RoundState, PlacementView}
 use Rattle.round_core.specs.Runs.{ForgetsNothing}
 use Rattle.round_core.proofs.Giving.{restarted_gives}
-use Rattle.round_core.proofs.Memory.{restart_forgets}
+use Rattle.round_core.proofs.Openings.{restart_kept}
+use Rattle.round_core.proofs.Reached.{restart_forgets}
 use Rattle.round_core.proofs.placement.Placement.restarted.Goals as goal
 
 pub returns-clause-recent : goal.returns-clause-recent
 returns-clause-recent c =
     let st : c.self.inside.rounds.state ≡ c.args.self.now.state = ap (λ (v : PlacementView). v.state) c.self.view_is in
-    restarted_gives c.args.self.now.state c.args.now c.restart.new.self c.clear_record.new.record_ c.next_version-before.result c.next_version-after.result
-    (ap (λ (r : RoundState). r.state) c.restart.ensures ∙ ap (λ (s : PlacementState). placement_restarted s c.args.now) st)
-    (c.next_version-before.ensures.version ∙ ap (λ (s : PlacementState). s.next_version) st)
-    c.next_version-after.ensures.version
+    restarted_gives c.self.inside.rounds.state c.args.now c.clear_record.new.record_ c.restart-self-inside.new.record_ c.restart-self-inside.result
+    c.restart-self-inside.ensures.noted
     (ap (λ (r : declared.PlacementRecord). r.joined) c.clear_record.ensures)
     (ap (λ (r : declared.PlacementRecord). r.removed.members) c.clear_record.ensures)
+    c.restart-self-inside.ensures.changed
+    ∙ ap (λ (s : PlacementState). restart_record s c.args.now) st
 
 pub returns-clause-remembers : goal.returns-clause-remembers
-returns-clause-remembers c = λ h.
+returns-clause-remembers c =
     let st : c.self.inside.rounds.state ≡ c.args.self.now.state = ap (λ (v : PlacementView). v.state) c.self.view_is in
-    let e : c.restart.new.self.state ≡ placement_restarted c.args.self.now.state c.args.now = ap (λ (r : RoundState). r.state) c.restart.ensures ∙ ap (λ (s : PlacementState). placement_restarted s c.args.now) st in
-    subst (λ (t : PlacementState). ForgetsNothing c.args.self.now.state t) (sym e) (restart_forgets c.args.self.now.state c.args.now h)
+    let e : c.restart-self-inside.new.rounds.state ≡ placement_restarted c.args.self.now.state c.args.now = ap (λ (r : RoundState). r.state) c.restart-self-inside.ensures.rounds ∙ ap (λ (s : PlacementState). placement_restarted s c.args.now) st in
+    subst (λ (t : PlacementState). ForgetsNothing c.args.self.now.state t) (sym e) (restart_forgets c.args.self.now.state c.args.now (subst IsNewOrUsed st c.self.invariant.1))
+
+pub invariant_of-self : goal.invariant_of-self
+invariant_of-self c =
+    (search rules, subst (λ (r : RoundState). IsNewOrUsed r.state) (sym c.restart-self-inside.ensures.rounds) (restart_kept c.self.inside.rounds.state c.args.now c.restart-self-inside.ensures.used))

@@ -1,18 +1,24 @@
-use Rattle.std.proofs.Common.{◌≡◌, List, ◌∙◌, ap, map, subst}
+use Rattle.std.proofs.Common.{◌≡◌, List, ◌∙◌, ap, map, sym, subst, rules}
 use Rattle.std.specs.declared.result.Result.TheVariants.{Ok}
+use Rattle.round_core.specs.Openings.{IsNewOrUsed}
 use Rattle.round_core.specs.Placement.{PlacementState, new_placement}
 use Rattle.round_core.specs.Records.{RecordOf, record_of, after_records, IsBadAt}
-use Rattle.round_core.specs.Rooms.{PlacementView}
+use Rattle.round_core.specs.Rooms.{RoundState}
+use Rattle.round_core.proofs.Openings.{restart_kept}
 use Rattle.round_core.proofs.Replays.{run_restarts, run_is_good}
 use Rattle.round_core.proofs.placement.Placement.restore.Goals as goal
 
 pub returns-in-Ok-clause-run : goal.returns-in-Ok-clause-run
 returns-in-Ok-clause-run c = λ run e.
-    let st : c.placement.inside.rounds.state ≡ new_placement = ap (λ (v : PlacementView). v.state) (c.placement.view_is ∙ c.new-placement.ensures) in
+    let st : c.new-rounds.result.state ≡ new_placement = ap (λ (r : RoundState). r.state) c.new-rounds.ensures in
     let after = subst (λ (rs : List RecordOf). after_records 0 new_placement rs ≡ Ok c.apply_records.new.rounds.state) e (subst (λ (s : PlacementState). after_records 0 s (map record_of c.args.records.now) ≡ Ok c.apply_records.new.rounds.state) st c.in-Ok.ensures.after) in
-    c.restarted.ensures.state ∙ run_restarts run c.args.now c.apply_records.new.rounds.state after
+    ap (λ (r : RoundState). r.state) c.restart-recorded.ensures.rounds ∙ run_restarts run c.args.now c.apply_records.new.rounds.state after
 
 pub returns-in-Err-clause-run_is_good : goal.returns-in-Err-clause-run_is_good
 returns-in-Err-clause-run_is_good c = λ run e.
-    let st : c.placement.inside.rounds.state ≡ new_placement = ap (λ (v : PlacementView). v.state) (c.placement.view_is ∙ c.new-placement.ensures) in
+    let st : c.new-rounds.result.state ≡ new_placement = ap (λ (r : RoundState). r.state) c.new-rounds.ensures in
     run_is_good c.in-Err.error run (subst (λ (rs : List RecordOf). IsBadAt c.in-Err.error (after_records 0 new_placement rs)) e (subst (λ (s : PlacementState). IsBadAt c.in-Err.error (after_records 0 s (map record_of c.args.records.now))) st c.in-Err.ensures.bad))
+
+pub invariant_of-result : goal.invariant_of-result
+invariant_of-result c =
+    (search rules, subst (λ (r : RoundState). IsNewOrUsed r.state) (sym c.restart-recorded.ensures.rounds) (restart_kept c.apply_records.new.rounds.state c.args.now c.restart-recorded.ensures.used))

@@ -1,11 +1,13 @@
-use Rattle.std.proofs.Common.{◌≡◌, ℕ, ◌++◌, None, length, refl, ap, ◌∙◌}
+use Rattle.std.proofs.Common.{◌≡◌, ℕ, ◌++◌, None, length, refl, ap, sym, subst, ◌∙◌, rules}
 use Rattle.round_core.specs.declared.record.PlacementRecord as declared
 use Rattle.round_core.specs.declared.event.PlaceEvent.TheVariants as events
 use Rattle.round_core.specs.declared.event.PlaceReply.TheVariants as replies
 use Rattle.round_core.specs.Members.{late_of}
-use Rattle.round_core.specs.Placement.{PlacementState, Says, drop_late}
+use Rattle.round_core.specs.Openings.{IsNewOrUsed}
+use Rattle.round_core.specs.Placement.{PlacementState, Says, drop_late, settle_round}
 use Rattle.round_core.specs.Rooms.{RoundState, PlacementView}
 use Rattle.round_core.proofs.Giving.{settled_gives}
+use Rattle.round_core.proofs.Openings.{dropped_kept}
 use Rattle.round_core.proofs.placement.Placement.tick.Goals as goal
 
 pub returns : goal.returns
@@ -22,3 +24,9 @@ returns c =
     c.go_on-self-inside.ensures.noted
     c.go_on-self-inside.ensures.changed
     (ap (λ (n : ℕ). replies.Ticked n) (c.drop_late-dropped.ensures.count ∙ ap (λ (s : PlacementState). length (late_of s.members c.args.now)) st))
+
+pub invariant_of-self : goal.invariant_of-self
+invariant_of-self c =
+    let e = ap (λ (r : RoundState). r.state) c.drop_late-dropped.ensures.state in
+    let kept = dropped_kept c.self.inside.rounds.state c.args.now c.self.invariant.1 in
+    (search rules, subst (λ (r : RoundState). IsNewOrUsed r.state) (sym c.go_on-self-inside.ensures.rounds) (subst (λ (s : PlacementState). IsNewOrUsed (settle_round s)) (sym e) kept))

@@ -1,14 +1,11 @@
-use Rattle.std.proofs.Common.{◌≡◌, ◌<◌, rules, List, length, length-set, sym, ◌∙◌, ap, Ok, Err, set, refl, false, arith, ℕ, Bool, true, get_or}
-use Rattle.std.specs.Prelude.{◌==◌}
-use Rattle.actor_names.specs.declared.member.Member.{Member}
-use Rattle.place_table.specs.declared.host.HostInfo.{HostInfo}
+use Rattle.std.proofs.Common.{◌≡◌, ◌<◌, rules, List, length, length-set, sym, ◌∙◌, ap, Ok, Err, set, refl, false, arith, true}
 use Rattle.round_core.specs.declared.marks.Mark.{Mark}
-use Rattle.round_core.specs.Members.{Joined, acked_at, has_boot, is_here}
+use Rattle.round_core.specs.Members.{Joined, acked_at}
 use Rattle.round_core.specs.Places.{host_node, place_by}
 use Rattle.round_core.specs.Roster.{RosterState, joined_all, mark_weight}
 use Rattle.round_core.proofs.Counts.{count-set}
 use Rattle.round_core.proofs.Places.{ok_within}
-use Rattle.round_core.proofs.Rosters.{no_mark, of_node-found, of_node-missing, with_node-found}
+use Rattle.round_core.proofs.Rosters.{is_here-found, is_here-missing, with_node-found}
 use Rattle.round_core.proofs.roster.Roster.ack.Goals as goal
 
 pub returns-else-not-has_boot-clause-acked : goal.returns-else-not-has_boot-clause-acked
@@ -21,23 +18,19 @@ returns-else-not-has_boot-clause-acked c = λ yes.
 pub returns-in-Err-clause-here : goal.returns-in-Err-clause-here
 returns-in-Err-clause-here c =
     let p : place_by host_node c.args.member.now.node c.self.inside.hosts.items ≡ Err c.in-Err.field-0 = rw c.deref.ensures.value at (sym c.host_place.ensures.place ∙ c.in-Err.is) in
-    rw (← c.self.view_is) (sym (ap (has_boot c.args.member.now.boot) (of_node-missing c.args.member.now.node c.self.inside.hosts.items c.self.inside.marks.items c.in-Err.field-0 c.self.invariant.0.ascends p)))
-
-here_is : (m : Member) (b : Bool) (hs : List HostInfo) (ms : List Mark) (i : ℕ) (h : HostInfo) → length ms ≡ length hs → place_by host_node m.node hs ≡ Ok i → h ≡ get_or hs i h → b ≡ (m.boot == h.member.boot) → b ≡ is_here (joined_all hs ms) m
-here_is m b hs ms i h l p e f =
-    f ∙ ap (λ (x : HostInfo). m.boot == x.member.boot) e ∙ sym (ap (has_boot m.boot) (of_node-found m.node hs ms i h no_mark l p))
+    rw (← c.self.view_is) (is_here-missing c.args.member.now c.self.inside.hosts.items c.self.inside.marks.items c.in-Err.field-0 c.self.invariant.0.ascends p)
 
 pub returns-else-not-has_boot-clause-here : goal.returns-else-not-has_boot-clause-here
 returns-else-not-has_boot-clause-here c =
     let p : place_by host_node c.args.member.now.node c.self.inside.hosts.items ≡ Ok c.in-Ok.at = rw c.deref.ensures.value at (sym c.host_place.ensures.place ∙ c.in-Ok.is) in
     let h : c.has_boot.result ≡ true = search rules in
-    rw (← c.self.view_is) (here_is c.args.member.now true c.self.inside.hosts.items c.self.inside.marks.items c.in-Ok.at c.index.result.now c.self.invariant.0.marked p c.index.ensures (sym h ∙ c.has_boot.ensures))
+    rw (← c.self.view_is) (is_here-found c.args.member.now true c.self.inside.hosts.items c.self.inside.marks.items c.in-Ok.at c.index.result.now c.self.invariant.0.marked p c.index.ensures (sym h ∙ c.has_boot.ensures))
 
 pub returns-then-not-has_boot-clause-here : goal.returns-then-not-has_boot-clause-here
 returns-then-not-has_boot-clause-here c =
     let p : place_by host_node c.args.member.now.node c.self.inside.hosts.items ≡ Ok c.in-Ok.at = rw c.deref.ensures.value at (sym c.host_place.ensures.place ∙ c.in-Ok.is) in
     let h : c.has_boot.result ≡ false = search rules in
-    rw (← c.self.view_is) (here_is c.args.member.now false c.self.inside.hosts.items c.self.inside.marks.items c.in-Ok.at c.index.result.now c.self.invariant.0.marked p c.index.ensures (sym h ∙ c.has_boot.ensures))
+    rw (← c.self.view_is) (is_here-found c.args.member.now false c.self.inside.hosts.items c.self.inside.marks.items c.in-Ok.at c.index.result.now c.self.invariant.0.marked p c.index.ensures (sym h ∙ c.has_boot.ensures))
 
 pub overflow_sub-self : goal.overflow_sub-self
 overflow_sub-self c =

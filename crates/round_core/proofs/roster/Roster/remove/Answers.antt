@@ -2,12 +2,12 @@ use Rattle.std.proofs.lemmas.List.Edits.{length-remove}
 use Rattle.round_core.proofs.Places.{ok_within}
 use Rattle.round_core.proofs.Ascending.{ascends_remove}
 use Rattle.round_core.proofs.Backed.{backed_remove}
-use Rattle.std.proofs.Common.{◌<◌, length, arith, ◌≡◌, List, sym, ◌∙◌, ap, Ok, Err}
+use Rattle.std.proofs.Common.{◌<◌, length, arith, ◌≡◌, List, sym, ◌∙◌, ap, Ok, Err, true, false, rules}
 use Rattle.round_core.specs.Members.{Joined}
 use Rattle.round_core.specs.Places.{host_node, place_by}
 use Rattle.round_core.specs.Roster.{RosterState, mark_weight}
 use Rattle.round_core.proofs.Counts.{count-remove}
-use Rattle.round_core.proofs.Rosters.{without_node-found, without_node-missing}
+use Rattle.round_core.proofs.Rosters.{is_here-found, is_here-missing, without_node-found}
 use Rattle.round_core.proofs.roster.Roster.remove.Goals as goal
 
 pub invariant_of-self : goal.invariant_of-self
@@ -16,7 +16,7 @@ invariant_of-self c =
     let r = c.self.invariant.1 in
     let hs = c.self.inside.hosts.items in
     let i = c.in-Ok.at in
-    let within : i < length hs = ok_within host_node c.args.node.now hs i (rw c.deref.ensures.value at (sym c.host_place.ensures.place ∙ c.in-Ok.is)) in
+    let within : i < length hs = ok_within host_node c.args.member.now.node hs i (rw c.deref.ensures.value at (sym c.host_place.ensures.place ∙ c.in-Ok.is)) in
     let a = length-remove hs i within in
     let b = length-remove c.self.inside.marks.items i (rw k.marked within) in
     let d = length-remove c.self.inside.spares.items i (rw k.spared within) in
@@ -37,24 +37,35 @@ invariant_of-self c =
       record { hosts_room = rw c.remove-host.ensures.capacity r.hosts_room; marks_room = rw c.remove-mark.ensures.capacity r.marks_room; spares_room = rw c.remove-spare.ensures.capacity r.spares_room; table_room = r.table_room },
     )
 
-pub returns-in-Ok : goal.returns-in-Ok
-returns-in-Ok c =
-    let p : place_by host_node c.args.node.now c.self.inside.hosts.items ≡ Ok c.in-Ok.at = rw c.deref.ensures.value at (sym c.host_place.ensures.place ∙ c.in-Ok.is) in
+pub returns-else-not-has_boot-clause-removed : goal.returns-else-not-has_boot-clause-removed
+returns-else-not-has_boot-clause-removed c = λ yes.
+    let p : place_by host_node c.args.member.now.node c.self.inside.hosts.items ≡ Ok c.in-Ok.at = rw c.deref.ensures.value at (sym c.host_place.ensures.place ∙ c.in-Ok.is) in
     let f : List Joined → RosterState = λ js. record { members = js; table = c.self.inside.table.items; room = c.self.inside.room } in
-    rw (← c.self.view_is, c.remove-host.ensures.items, c.remove-mark.ensures.items) (ap f (sym (without_node-found c.args.node.now c.self.inside.hosts.items c.self.inside.marks.items c.in-Ok.at c.self.invariant.0.marked p)))
+    rw (← c.self.view_is, c.remove-host.ensures.items, c.remove-mark.ensures.items) (ap f (sym (without_node-found c.args.member.now.node c.self.inside.hosts.items c.self.inside.marks.items c.in-Ok.at c.self.invariant.0.marked p)))
 
-pub returns-in-Err : goal.returns-in-Err
-returns-in-Err c =
-    let p : place_by host_node c.args.node.now c.self.inside.hosts.items ≡ Err c.in-Err.field-0 = rw c.deref.ensures.value at (sym c.host_place.ensures.place ∙ c.in-Err.is) in
-    let f : List Joined → RosterState = λ js. record { members = js; table = c.self.inside.table.items; room = c.self.inside.room } in
-    rw (← c.self.view_is) (ap f (sym (without_node-missing c.args.node.now c.self.inside.hosts.items c.self.inside.marks.items c.in-Err.field-0 c.self.invariant.0.ascends p)))
+pub returns-else-not-has_boot-clause-here : goal.returns-else-not-has_boot-clause-here
+returns-else-not-has_boot-clause-here c =
+    let p : place_by host_node c.args.member.now.node c.self.inside.hosts.items ≡ Ok c.in-Ok.at = rw c.deref.ensures.value at (sym c.host_place.ensures.place ∙ c.in-Ok.is) in
+    let h : c.has_boot.result ≡ true = search rules in
+    rw (← c.self.view_is) (is_here-found c.args.member.now true c.self.inside.hosts.items c.self.inside.marks.items c.in-Ok.at c.index.result.now c.self.invariant.0.marked p c.index.ensures (sym h ∙ c.has_boot.ensures))
+
+pub returns-then-not-has_boot-clause-here : goal.returns-then-not-has_boot-clause-here
+returns-then-not-has_boot-clause-here c =
+    let p : place_by host_node c.args.member.now.node c.self.inside.hosts.items ≡ Ok c.in-Ok.at = rw c.deref.ensures.value at (sym c.host_place.ensures.place ∙ c.in-Ok.is) in
+    let h : c.has_boot.result ≡ false = search rules in
+    rw (← c.self.view_is) (is_here-found c.args.member.now false c.self.inside.hosts.items c.self.inside.marks.items c.in-Ok.at c.index.result.now c.self.invariant.0.marked p c.index.ensures (sym h ∙ c.has_boot.ensures))
+
+pub returns-in-Err-clause-here : goal.returns-in-Err-clause-here
+returns-in-Err-clause-here c =
+    let p : place_by host_node c.args.member.now.node c.self.inside.hosts.items ≡ Err c.in-Err.field-0 = rw c.deref.ensures.value at (sym c.host_place.ensures.place ∙ c.in-Err.is) in
+    rw (← c.self.view_is) (is_here-missing c.args.member.now c.self.inside.hosts.items c.self.inside.marks.items c.in-Err.field-0 c.self.invariant.0.ascends p)
 
 pub overflow_sub-self : goal.overflow_sub-self
 overflow_sub-self c =
     let k = c.self.invariant.0 in
     let hs = c.self.inside.hosts.items in
     let i = c.in-Ok.at in
-    let within : i < length hs = ok_within host_node c.args.node.now hs i (rw c.deref.ensures.value at (sym c.host_place.ensures.place ∙ c.in-Ok.is)) in
+    let within : i < length hs = ok_within host_node c.args.member.now.node hs i (rw c.deref.ensures.value at (sym c.host_place.ensures.place ∙ c.in-Ok.is)) in
     let e = count-remove c.self.inside.marks.items i c.remove-mark.result (rw k.marked within) in
     let w = ap mark_weight c.remove-mark.ensures.value in
     let x = c.weigh_mark-weight.ensures in
