@@ -209,3 +209,77 @@ fn record_of_member_257_is_bad(rt: HostRuntime) -> Result<(), Fail> {
     assert_eq!(rt; bad_index(rt.alloc(), records.as_slice()), Some(256));
     Ok(())
 }
+
+/// The first of 65,537 nodes, which are named by number; later ones are later in byte order.
+const FIRST: u32 = 10_000;
+
+/// The last of them.
+const LAST: u32 = 75_536;
+
+/// The name of a node's first boot.
+fn numbered(alloc: Global, number: u32) -> Result<String, Fail> {
+    Ok(format!(in alloc; "n{number}/1")?)
+}
+
+/// Puts a record at the end by which a node joins and the one before it is removed.
+fn pass_on(records: &mut Vec<PlacementRecord>, alloc: Global, number: u32) -> Result<(), Fail> {
+    let mut removed = Vec::new(alloc);
+    if number > FIRST {
+        let before = numbered(alloc, number - 1)?;
+        removed.push(read_member(before.as_bytes())?)?;
+    }
+    let member = numbered(alloc, number)?;
+    records.push(PlacementRecord {
+        joined: Some(host(alloc, member.as_bytes())?),
+        removed: MemberList::from_vec(removed),
+        next_version: u64::from(number),
+    })?;
+    Ok(())
+}
+
+/// The records of 65,537 nodes, each of which takes the place of the one before it.
+fn many_records(alloc: Global) -> Result<Vec<PlacementRecord>, Fail> {
+    let mut records = Vec::new(alloc);
+    for number in FIRST..LAST + 1 {
+        pass_on(&mut records, alloc, number)?;
+    }
+    Ok(records)
+}
+
+/// What is restored of all records but the last.
+fn restored_before_last(alloc: Global, records: &[PlacementRecord]) -> Result<Placement, Fail> {
+    if records.is_empty() {
+        return Err("no records")?;
+    }
+    let front = &records[..records.len() - 1];
+    Ok(Placement::restore(alloc, front, 5000)?)
+}
+
+/// Whether nobody else is a member.
+fn is_alone(placement: &Placement, member: &[u8]) -> Result<bool, Fail> {
+    let member = read_member(member)?;
+    let hosts = placement.members();
+    if hosts.len() != 1 {
+        return Ok(false);
+    }
+    let host = &hosts[0];
+    Ok(host.member.boot == member.boot && host.member.node.as_slice() == member.node.as_slice())
+}
+
+#[test]
+fn record_of_node_65537_is_bad(rt: HostRuntime) -> Result<(), Fail> {
+    let records = many_records(rt.alloc())?;
+    assert_eq!(rt; records.len(), 65_537);
+    assert_eq!(rt; bad_index(rt.alloc(), records.as_slice()), Some(65_536));
+    let mut restored = restored_before_last(rt.alloc(), records.as_slice())?;
+    assert_eq!(rt; restored.last_version(), 75_535);
+    let alone = is_alone(&restored, b"n75535/1")?;
+    assert!(rt; alone);
+    let reply = register(rt.alloc(), &mut restored, b"n75536/1")?;
+    let full = PlaceReply::Full {
+        members: 1,
+        nodes: 65_536,
+    };
+    assert_eq!(rt; reply, full);
+    Ok(())
+}
