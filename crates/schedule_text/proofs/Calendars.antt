@@ -5,8 +5,7 @@ use Rattle.jiff_core.specs.Calendar.{day_count, IsCivilDate}
 use Rattle.jiff_core.specs.March.{march_days, march_months}
 use Rattle.jiff_core.proofs.SignedLemmas.{signed_arith}
 use Rattle.jiff_core.proofs.MarchLemmas.{leap_day, march_days-suc, leap_day-shift, day_count-early, day_count-late, month_and_day, day_in_month, day_in_early_month}
-use Rattle.schedule_text.specs.declared.calendar.Date.{Date}
-use Rattle.schedule_text.specs.Calendar.{days_to_1970, days_to, march_century, in_century, date_in, date_of}
+use Rattle.schedule_text.specs.Calendar.{CivilDate, days_to_1970, days_to, march_century, in_century, date_in, date_of}
 
 -- the days to a date are the calendar's, which adds those of years and months up
 pub days_to-day_count : (y m d : ℕ) → 1 ≤ m → m ≤ 12 → 1 ≤ d → days_to y m d ≡ day_count (pos y) m d
@@ -36,7 +35,7 @@ abbrev scaled : ℕ → ℕ
 scaled day = 5 * day + 461
 
 -- a date that the calendar has, of that day
-pub record IsDateOf (day : ℕ) (date : Date) : Type 0 where
+pub record IsDateOf (day : ℕ) (date : CivilDate) : Type 0 where
   pub civil : IsCivilDate (pos date.year) date.month date.day
   pub days : days_to date.year date.month date.day ≡ day + days_to_1970
 

@@ -17,10 +17,10 @@ pub first_step : (most : ℕ) (period : Period) (now m : ℕ) → first_after (s
 unfolding first_after
 first_step most period now m = refl
 
-moment_of-some : (n : ℕ) → n < end_of_time → moment_of n ≡ Some n
+pub moment_of-some : (n : ℕ) → n < end_of_time → moment_of n ≡ Some n
 moment_of-some n low = rw (lt-ltb n end_of_time low) refl
 
-moment_of-none : (n : ℕ) → end_of_time ≤ n → moment_of n ≡ None
+pub moment_of-none : (n : ℕ) → end_of_time ≤ n → moment_of n ≡ None
 moment_of-none n high = rw (le-ltb n end_of_time high) refl
 
 mod_less : (gap n : ℕ) → n ≤ gap → gap % n ≡ (gap - n) % n

@@ -4,10 +4,9 @@ use Rattle.std.proofs.lemmas.Bool.{cases_lt, lt-ltb, le-ltb, ne_eqb}
 use Rattle.jiff_core.specs.Calendar.{days_in_month, IsCivilDate}
 use Rattle.jiff_core.proofs.SignedLemmas.{signed_arith}
 use Rattle.jiff_core.proofs.CalendarLemmas.{days_in_month_bounds, day_count-lt_year, day_count-lt_month}
-use Rattle.schedule_text.specs.declared.calendar.Date.{Date}
 use Rattle.schedule_text.specs.declared.advance.Period.{Period}
 use Rattle.schedule_text.specs.Range.{end_of_time, moment_of}
-use Rattle.schedule_text.specs.Calendar.{days_to_1970, day_nanos, days_to, date_of, date_after, months_on}
+use Rattle.schedule_text.specs.Calendar.{CivilDate, days_to_1970, day_nanos, days_to, date_of, date_after, months_on}
 use Rattle.schedule_text.specs.Firing.{sum_of, add_period, first_after, is_zero, FiresAt, Following, Missed, FiringEnds, Past, Skipped}
 use Rattle.schedule_text.proofs.Calendars.{days_to-day_count, date_of-date}
 use Rattle.schedule_text.proofs.Jumps.{first_step}
@@ -16,7 +15,7 @@ true_not_false : true ≡ false → ⊥
 true_not_false same = cc
 
 -- a date of a later month is later
-later_month : (y m d later month day : ℕ) → IsCivilDate (pos y) m d → 1 ≤ month → month ≤ 12 → 1 ≤ day → y * 12 + m < later * 12 + month → days_to y m d < days_to later month day
+pub later_month : (y m d later month day : ℕ) → IsCivilDate (pos y) m d → 1 ≤ month → month ≤ 12 → 1 ≤ day → y * 12 + m < later * 12 + month → days_to y m d < days_to later month day
 later_month y m d later month day civil low high some after =
     let here = days_to-day_count y m d (omega (arith, civil.1)) (omega (arith, civil.1)) (omega (arith, civil.2)) in
     let there = days_to-day_count later month day low high some in
@@ -27,7 +26,7 @@ later_month y m d later month day civil low high some after =
           omega (arith, here, rw year at there, day_count-lt_month (pos y) m d month day civil some (omega (arith, civil.1)), rw year at there, ap (λ (n : ℕ). days_to n month day) year)
     ]
 
-date_after-later : (date : Date) (months : ℕ) → IsCivilDate (pos date.year) date.month date.day → 0 < months → days_to date.year date.month date.day < days_to (date_after date months).year (date_after date months).month (date_after date months).day
+date_after-later : (date : CivilDate) (months : ℕ) → IsCivilDate (pos date.year) date.month date.day → 0 < months → days_to date.year date.month date.day < days_to (date_after date months).year (date_after date months).month (date_after date months).day
 unfolding date_after
 date_after-later date months civil some =
     let number = date.year * 12 + (date.month - 1) + months in

@@ -4,9 +4,8 @@ use Rattle.std.proofs.lemmas.Bool.{le-leb, lt-ltb, le-ltb, cases_lt, ne_eqb}
 use Rattle.std.specs.Int.{IsInRange}
 use Rattle.jiff_core.specs.Calendar.{days_in_month}
 use Rattle.jiff_core.proofs.CalendarLemmas.{days_in_month_bounds}
-use Rattle.schedule_text.specs.declared.calendar.Date.{Date}
 use Rattle.schedule_text.specs.Range.{end_of_time}
-use Rattle.schedule_text.specs.Calendar.{days_to_1970, day_nanos, days_to, date_of}
+use Rattle.schedule_text.specs.Calendar.{CivilDate, days_to_1970, day_nanos, days_to, date_of}
 use Rattle.jiff_core.proofs.SignedLemmas.{signed_arith}
 use Rattle.schedule_text.specs.Numbers.{is_digit, begins_with_digit, billionths_from, behind_billionths, first_weight, billionth}
 use Rattle.schedule_text.specs.Moments.{two_at, year_at, date_at, minutes_at, clock_at, subsecond_at, instant_at, moment_at, read_moment, two_digits, nine_digits, date_text, clock_text, subsecond_text, moment_text}
@@ -23,7 +22,7 @@ two_at-two low high n rest above below small =
     let whole : n / 10 * 10 + n % 10 ≡ n = omega arith in
     rw (digit (n / 10) (omega arith), digit (n % 10) (omega arith), tens, ones, whole, le-leb (n / 10) (high / 10) (omega arith), le-leb low n above, le-leb n high below) refl
 
-date_at-text : (date : Date) (rest : List ℕ) → date.year ≤ 9999 → IsInRange 1 12 date.month → IsInRange 1 (days_in_month (pos date.year) date.month) date.day → date_at (date_text date ++ rest) ≡ Ok (date, rest)
+date_at-text : (date : CivilDate) (rest : List ℕ) → date.year ≤ 9999 → IsInRange 1 12 date.month → IsInRange 1 (days_in_month (pos date.year) date.month) date.day → date_at (date_text date ++ rest) ≡ Ok (date, rest)
 unfolding date_at year_at
 date_at-text date rest year month day =
     let whole : date.year / 100 * 100 + date.year % 100 ≡ date.year = omega arith in
@@ -36,7 +35,7 @@ clock_at-text seconds rest short =
     let whole : seconds / 3600 * 3600 + seconds / 60 % 60 * 60 + seconds % 60 ≡ seconds = omega arith in
     rw (two_at-two 0 23 (seconds / 3600) _ (omega arith) (omega arith) (omega arith), two_at-two 0 59 (seconds / 60 % 60) _ (omega arith) (omega arith) (omega arith), two_at-two 0 59 (seconds % 60) rest (omega arith) (omega arith) (omega arith), whole) refl
 
-not_zero : (n : ℕ) → 0 < n → (n == 0) ≡ false
+pub not_zero : (n : ℕ) → 0 < n → (n == 0) ≡ false
 not_zero n some = ne_eqb n 0 (λ zero. omega arith)
 
 -- a digit behind a point
@@ -105,7 +104,7 @@ subsecond_at-text nanos low = elim (cases_lt 0 nanos) [
 ]
 
 -- the instant of a printed date and time
-instant_at-text : (date : Date) (seconds nanos : ℕ) → date.year ≤ 9999 → IsInRange 1 12 date.month → IsInRange 1 (days_in_month (pos date.year) date.month) date.day → seconds < 86400 → nanos < 1000000000
+instant_at-text : (date : CivilDate) (seconds nanos : ℕ) → date.year ≤ 9999 → IsInRange 1 12 date.month → IsInRange 1 (days_in_month (pos date.year) date.month) date.day → seconds < 86400 → nanos < 1000000000
     → instant_at (date_text date ++ 84 ∷ clock_text seconds ++ subsecond_text nanos ++ 90 ∷ []) ≡ Ok (days_to date.year date.month date.day * 86400 + seconds - 0, nanos)
 unfolding instant_at
 instant_at-text date seconds nanos year month day short low =

@@ -1,8 +1,18 @@
 -- Dates and days of the Gregorian calendar of ISO 8601, by years that begin on 1 March, so that a leap day comes
 -- last. Days are counted from 1970-01-01, where nothing else is said.
-use Rattle.std.specs.Prelude.{ℕ, ◌+◌, ◌-◌, ◌*◌, ◌/◌, ◌%◌, min, nat_lt, if◌then◌else◌, pos}
+use Rattle.std.specs.Prelude.{ℕ, ◌+◌, ◌-◌, ◌*◌, ◌/◌, ◌%◌, min, nat_lt, if◌then◌else◌, pos, unsigned_abs}
+use Rattle.jiff_core.specs.declared.civil.date.Date.{Date}
 use Rattle.jiff_core.specs.Calendar.{days_in_month}
-use Rattle.schedule_text.specs.declared.calendar.Date.{Date}
+
+-- a date from the year 0 on, in natural numbers
+pub record CivilDate : Type 0 where
+  pub year : ℕ
+  pub month : ℕ
+  pub day : ℕ
+
+-- the same date as `jiff` has it
+abbrev pub civil_date : Date → CivilDate
+civil_date d = record { year = unsigned_abs d.year; month = d.month; day = d.day }
 
 -- days from the first day of the year -10000 to 1970-01-01
 abbrev pub days_to_1970 : ℕ
@@ -21,7 +31,7 @@ unfoldable pub days_to : ℕ → ℕ → ℕ → ℕ
 days_to year month day = if nat_lt month 3 then march_days_to (year + 9999) (month + 12) day else march_days_to (year + 10000) month day
 
 -- the date of a day, from 0, of a year that begins in March, counted from -10000
-abbrev pub date_in : ℕ → ℕ → Date
+abbrev pub date_in : ℕ → ℕ → CivilDate
 date_in year day =
     if nat_lt 12 ((5 * day + 461) / 153)
     then record { year = year + 1 - 10000; month = (5 * day + 461) / 153 - 12; day = (5 * day + 461) % 153 / 5 + 1 }
@@ -35,13 +45,13 @@ abbrev pub in_century : ℕ → ℕ
 in_century days = (4 * days + 3) % 146097 / 4 * 4 + 3
 
 -- the date of a day
-unfoldable pub date_of : ℕ → Date
+unfoldable pub date_of : ℕ → CivilDate
 date_of day =
     let days = day + days_to_1970 - 60 in
     date_in (100 * march_century days + in_century days / 1461) (in_century days % 1461 / 4)
 
 -- a date that many months later, the day cut to the month's last
-unfoldable pub date_after : Date → ℕ → Date
+unfoldable pub date_after : CivilDate → ℕ → CivilDate
 date_after date months =
     let number = date.year * 12 + (date.month - 1) + months in
     record { year = number / 12; month = number % 12 + 1; day = min date.day (days_in_month (pos (number / 12)) (number % 12 + 1)) }

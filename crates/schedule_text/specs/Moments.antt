@@ -1,12 +1,14 @@
 -- Moments as RFC 3339 writes them (section 5.6), with at most nine digits of a second's fraction and without
 -- leap seconds. Offsets from UTC go to 23:59.
-use Rattle.std.specs.Prelude.{ℕ, suc, ◌+◌, ◌-◌, ◌*◌, ◌/◌, ◌%◌, Bool, true, false, ◌&&◌, ◌||◌, ◌==◌, nat_lt, nat_le, if◌then◌else◌, pos, List, [], ◌∷◌, ◌++◌, length, Option, None, Some, Result, Ok, Err}
+use Rattle.std.specs.Prelude.{ℕ, suc, ◌+◌, ◌-◌, ◌*◌, ◌/◌, ◌%◌, Bool, true, false, ◌&&◌, ◌||◌, ◌==◌, nat_lt, nat_le, if◌then◌else◌, pos, ◌+ℤ◌, ◌-ℤ◌, unsigned_abs, List, [], ◌∷◌, ◌++◌, length, Option, None, Some, Result, Ok, Err}
+use Rattle.jiff_core.specs.declared.civil.datetime.DateTime.{DateTime}
+use Rattle.jiff_core.specs.declared.offset.Offset.{Offset}
 use Rattle.jiff_core.specs.Calendar.{days_in_month}
+use Rattle.jiff_core.specs.DateTime.{civil_seconds}
 use Rattle.schedule_text.specs.declared.error.ScheduleError.{ScheduleError}
 use Rattle.schedule_text.specs.declared.error.ScheduleError.TheVariants.{BadMoment, OutOfRange}
-use Rattle.schedule_text.specs.declared.calendar.Date.{Date}
 use Rattle.schedule_text.specs.Range.{moment_of}
-use Rattle.schedule_text.specs.Calendar.{days_to_1970, day_nanos, days_to, date_of}
+use Rattle.schedule_text.specs.Calendar.{CivilDate, days_to_1970, day_nanos, days_to, date_of}
 use Rattle.schedule_text.specs.Numbers.{is_digit, begins_with_digit, billionths_from, behind_billionths, first_weight, billionth}
 use Rattle.schedule_text.specs.Reading.{◌>>=◌}
 use Rattle.schedule_text.specs.GoDurations.{behind_first}
@@ -38,7 +40,7 @@ year_at text =
     Ok (century.0 * 100 + year.0, year.1)
 
 -- a date that the calendar has, as `YYYY-MM-DD`
-unfoldable pub date_at : List ℕ → Result (Date × List ℕ) ℕ
+unfoldable pub date_at : List ℕ → Result (CivilDate × List ℕ) ℕ
 date_at text =
     year_at text >>= λ year.
     either_at 45 45 year.1 >>= λ rest.
@@ -117,6 +119,10 @@ abbrev pub read_from : List ℕ → Result (ℕ × ℕ) ℕ → Result ℕ Sched
 read_from text (Ok instant) = moment_at instant
 read_from text (Err left) = Err (BadMoment (length text - left))
 
+-- seconds of UTC and the nanoseconds, where a clock that is so far from UTC shows a date and time
+abbrev pub instant_of : DateTime × Offset → ℕ × ℕ
+instant_of shown = (unsigned_abs (civil_seconds shown.0 -ℤ shown.1.seconds +ℤ pos (days_to_1970 * 86400)), shown.0.time.subsec_nanosecond)
+
 -- the moment that a text stands for
 unfoldable pub read_moment : List ℕ → Result ℕ ScheduleError
 read_moment text = read_from text (instant_at text)
@@ -130,7 +136,7 @@ abbrev pub nine_digits : ℕ → List ℕ
 nine_digits n = (48 + n / 100000000) ∷ two_digits (n / 1000000 % 100) ++ two_digits (n / 10000 % 100) ++ two_digits (n / 100 % 100) ++ two_digits (n % 100)
 
 -- `YYYY-MM-DD`
-abbrev pub date_text : Date → List ℕ
+abbrev pub date_text : CivilDate → List ℕ
 date_text date = two_digits (date.year / 100) ++ two_digits (date.year % 100) ++ 45 ∷ two_digits date.month ++ 45 ∷ two_digits date.day
 
 -- `hh:mm:ss` of the seconds of a day

@@ -44,13 +44,12 @@ pub enum Next {
 pub fn add_period(moment: Moment, period: &Period) -> Option<Moment>
     ensures { result ≡ add_period moment period.now }
 {
-    let nanos = moment.nanos();
     let on = if period.months == 0 {
-        nanos
+        moment
     } else {
-        months_on(nanos, period.months)
+        months_on(moment, period.months)?
     };
-    Moment::from_nanos(on + period.nanos as u128)
+    Moment::from_nanos(on.nanos() + period.nanos as u128)
 }
 
 // The first moment after now, where a period has no months: all that were missed are passed at once.

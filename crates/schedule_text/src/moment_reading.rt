@@ -1,14 +1,18 @@
 // The reader of moments.
-ghost use Rattle.std.specs.Prelude.{◌≡◌, ◌≤◌, ◌<◌, IfOk};
+ghost use Rattle.std.specs.Prelude.{◌≡◌, ◌≤◌, ◌<◌, ◌≤ℤ◌, ◌+◌, ◌*◌, pos, IfOk};
+ghost use Rattle.jiff_core.specs.Sign.{signed};
+ghost use Rattle.schedule_text.specs.Calendar.{civil_date};
 ghost use Rattle.schedule_text.specs.Numbers.{billionth};
 ghost use Rattle.schedule_text.specs.Reading.{Gives};
-ghost use Rattle.schedule_text.specs.Moments.{two_at, either_at, year_at, date_at, minutes_at, clock_at, subsecond_at, ending, offset_at, zone_at, utc_seconds, instant_at, moment_at, read_moment};
+ghost use Rattle.schedule_text.specs.Moments.{two_at, either_at, year_at, date_at, minutes_at, clock_at, subsecond_at, ending, offset_at, zone_at, instant_of, instant_at, read_moment};
 
-use crate::calendar::{DAYS_TO_1970, Date, days_in, days_to};
+use crate::calendar::{date_on, days_in, moment_shown};
 use crate::error::ScheduleError;
 use crate::iso_duration::begins_with;
 use crate::moment::Moment;
 use crate::numbers::{begins_with_digit, billionths_at};
+use jiff::civil::{Date, DateTime, time};
+use jiff::tz::Offset;
 
 // A number and what stands behind it, or how many bytes are left where it fails.
 type Number<'a> = Result<(u64, &'a [u8]), usize>;
@@ -64,47 +68,53 @@ fn year_at(text: &[u8]) -> Number<'_>
 // A date that the calendar has.
 #[tactic(auto, unfolding(crate::specs::Moments::date_at))]
 fn date_at(text: &[u8]) -> Result<(Date, &[u8]), usize>
-    ensures reading { Gives (λ x. (x.0, x.1.now)) result (date_at text.now) }
-    ensures year { IfOk result (λ x. x.0.year ≤ 9999) }
-    ensures month { IfOk result (λ x. (1 ≤ x.0.month) × (x.0.month ≤ 12)) }
-    ensures day { IfOk result (λ x. (1 ≤ x.0.day) × (x.0.day ≤ 31)) }
+    ensures reading { Gives (λ x. (civil_date x.0, x.1.now)) result (date_at text.now) }
+    ensures year { IfOk result (λ x. pos 0 ≤ℤ x.0.year) }
 {
     let (year, behind) = year_at(text)?;
     let behind = either_at(b'-', b'-', behind)?;
     let (month, behind) = two_at(1, 12, behind)?;
     let behind = either_at(b'-', b'-', behind)?;
     let (day, behind) = two_at(1, days_in(year, month), behind)?;
-    Ok((Date { year, month, day }, behind))
+    Ok((date_on(year, month, day), behind))
 }
 
-// Hours and minutes, as seconds.
+// Hours and minutes.
+type Minutes = (u64, u64);
+
 #[tactic(auto, unfolding(crate::specs::Moments::minutes_at))]
-fn minutes_at(text: &[u8]) -> Number<'_>
-    ensures reading { Gives (λ x. (x.0, x.1.now)) result (minutes_at text.now) }
-    ensures range { IfOk result (λ x. x.0 ≤ 86_340) }
+fn minutes_at(text: &[u8]) -> Result<(Minutes, &[u8]), usize>
+    ensures reading { Gives (λ x. (x.0.0 * 3600 + x.0.1 * 60, x.1.now)) result (minutes_at text.now) }
+    ensures hour { IfOk result (λ x. x.0.0 ≤ 23) }
+    ensures minute { IfOk result (λ x. x.0.1 ≤ 59) }
 {
     let (hour, behind) = two_at(0, 23, text)?;
     let behind = either_at(b':', b':', behind)?;
     let (minute, behind) = two_at(0, 59, behind)?;
-    Ok((hour * 3600 + minute * 60, behind))
+    Ok(((hour, minute), behind))
 }
 
-// A time of the day, as seconds.
+// Hours and minutes, and seconds.
+type Clock = (Minutes, u64);
+
+// A time of the day.
 #[tactic(auto, unfolding(crate::specs::Moments::clock_at))]
-fn clock_at(text: &[u8]) -> Number<'_>
-    ensures reading { Gives (λ x. (x.0, x.1.now)) result (clock_at text.now) }
-    ensures range { IfOk result (λ x. x.0 < 86_400) }
+fn clock_at(text: &[u8]) -> Result<(Clock, &[u8]), usize>
+    ensures reading { Gives (λ x. (x.0.0.0 * 3600 + x.0.0.1 * 60 + x.0.1, x.1.now)) result (clock_at text.now) }
+    ensures hour { IfOk result (λ x. x.0.0.0 ≤ 23) }
+    ensures minute { IfOk result (λ x. x.0.0.1 ≤ 59) }
+    ensures second { IfOk result (λ x. x.0.1 ≤ 59) }
 {
     let (minutes, behind) = minutes_at(text)?;
     let behind = either_at(b':', b':', behind)?;
     let (second, behind) = two_at(0, 59, behind)?;
-    Ok((minutes + second, behind))
+    Ok(((minutes, second), behind))
 }
 
 // The fraction of a second in nanoseconds.
 fn subsecond_at(text: &[u8]) -> Number<'_>
     ensures reading { Gives (λ x. (x.0, x.1.now)) result (subsecond_at text.now) }
-    ensures range { IfOk result (λ x. x.0 ≤ billionth) }
+    ensures range { IfOk result (λ x. x.0 < billionth) }
 {
     if !begins_with(b'.', text) {
         return Ok((0, text));
@@ -125,11 +135,11 @@ fn offset_at(is_behind: bool, text: &[u8]) -> Result<Zone, usize>
     ensures reading { result ≡ offset_at is_behind text.now }
     ensures range { IfOk result (λ x. x.1 ≤ 86_340) }
 {
-    let (seconds, behind) = minutes_at(text)?;
+    let ((hours, minutes), behind) = minutes_at(text)?;
     if !behind.is_empty() {
         return Err(behind.len());
     }
-    Ok((is_behind, seconds))
+    Ok((is_behind, hours * 3600 + minutes * 60))
 }
 
 // `Z`, or a sign and an offset.
@@ -152,49 +162,34 @@ fn zone_at(text: &[u8]) -> Result<Zone, usize>
     Err(text.len())
 }
 
-// The seconds of UTC, by those that a clock shows.
-fn utc_seconds(local: u64, zone: Zone) -> u64
-    requires local { local < 20_000_000_000_000_000 }
-    requires zone { zone.1 ≤ 86_340 }
-    ensures seconds { result ≡ utc_seconds local zone }
-    ensures bound { result < 20_000_000_000_100_000 }
+// How far a clock is from UTC.
+fn offset_of(zone: Zone) -> Offset
+    requires { zone.1 ≤ 86_340 }
+    ensures { result.seconds ≡ signed zone.0 zone.1 }
 {
     let (is_behind, seconds) = zone;
-    if is_behind {
-        local + seconds
-    } else {
-        local.saturating_sub(seconds)
-    }
+    let ahead = seconds as i32;
+    Offset::from_seconds(if is_behind { -ahead } else { ahead }).unwrap()
 }
 
-// The seconds from the first day of the year -10000, and the nanoseconds.
+// What a clock shows, and how far it is from UTC.
+type Shown = (DateTime, Offset);
+
+// The date and time of a text, and its offset.
 #[tactic(auto, unfolding(crate::specs::Moments::instant_at))]
-fn instant_at(text: &[u8]) -> Result<(u64, u64), usize>
-    ensures reading { result ≡ instant_at text.now }
-    ensures seconds { IfOk result (λ x. x.0 < 20_000_000_000_100_000) }
-    ensures nanos { IfOk result (λ x. x.1 ≤ billionth) }
+fn shown_at(text: &[u8]) -> Result<Shown, usize>
+    ensures { Gives instant_of result (instant_at text.now) }
 {
-    let (date, behind) = date_at(text)?;
+    let (date, behind) = match date_at(text) {
+        Ok(read) => read,
+        Err(left) => return Err(left),
+    };
     let behind = either_at(b'T', b't', behind)?;
-    let (clock, behind) = clock_at(behind)?;
+    let (((hour, minute), second), behind) = clock_at(behind)?;
     let (nanos, behind) = subsecond_at(behind)?;
     let zone = zone_at(behind)?;
-    let days = days_to(date.year, date.month, date.day);
-    Ok((utc_seconds(days * 86_400 + clock, zone), nanos))
-}
-
-// The moment of an instant, where it is one.
-fn moment_at(seconds: u64, nanos: u64) -> Result<Moment, ScheduleError>
-    ensures { result ≡ moment_at (seconds, nanos) }
-{
-    if seconds < DAYS_TO_1970 * 86_400 {
-        return Err(ScheduleError::OutOfRange);
-    }
-    let since = (seconds - DAYS_TO_1970 * 86_400) as u128;
-    match Moment::from_nanos(since * 1_000_000_000 + nanos as u128) {
-        None => Err(ScheduleError::OutOfRange),
-        Some(moment) => Ok(moment),
-    }
+    let clock = time(hour as i8, minute as i8, second as i8, nanos as i32);
+    Ok((DateTime::from_parts(date, clock), offset_of(zone)))
 }
 
 /// Reads a moment: `YYYY-MM-DDThh:mm:ss`, at most nine digits of a fraction, and `Z` or an offset up to 23:59,
@@ -211,10 +206,10 @@ pub fn read_moment(text: &str) -> Result<Moment, ScheduleError>
 pub(crate) fn moment_in(text: &[u8]) -> Result<Moment, ScheduleError>
     ensures { result ≡ read_moment text.now }
 {
-    match instant_at(text) {
+    match shown_at(text) {
         Err(left) => Err(ScheduleError::BadMoment {
             at: text.len().saturating_sub(left) as u64,
         }),
-        Ok((seconds, nanos)) => moment_at(seconds, nanos),
+        Ok(read) => moment_shown(read.0, read.1).ok_or(ScheduleError::OutOfRange),
     }
 }

@@ -1,5 +1,5 @@
 // Numbers in texts.
-ghost use Rattle.std.specs.Prelude.{◌≡◌, ◌≤◌, true};
+ghost use Rattle.std.specs.Prelude.{◌≡◌, ◌<◌, true};
 ghost use Rattle.schedule_text.specs.Numbers.{is_digit, begins_with_digit, with_digit, number_from, behind_digits, billionths_from, behind_billionths, first_weight, billionth};
 
 /// Whether a text begins with a digit.
@@ -38,7 +38,7 @@ pub(crate) fn number_at(text: &[u8]) -> (u64, &[u8])
 pub(crate) fn billionths_at(text: &[u8]) -> (u64, &[u8])
     ensures number { result.0 ≡ billionths_from first_weight 0 text.now }
     ensures behind { result.1.now ≡ behind_billionths first_weight text.now }
-    ensures bound { result.0 ≤ billionth }
+    ensures bound { result.0 < billionth }
 {
     let mut number = 0;
     let mut weight = 100_000_000;
