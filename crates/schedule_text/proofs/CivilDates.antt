@@ -1,17 +1,15 @@
 -- The dates and times of `jiff` in the words of the definitions of this crate.
-use Rattle.std.proofs.Common.{◌≡◌, ℕ, ◌+◌, ◌-◌, ◌*◌, ◌/◌, ◌%◌, ◌<◌, ◌≤◌, arith, refl, sym, ◌∙◌, ℤ, pos, ◌*ℤ◌, ◌+ℤ◌}
+use Rattle.std.proofs.Common.{◌≡◌, ℕ, ◌/◌, ◌%◌, ◌<◌, ◌≤◌, arith, sym, ◌∙◌, pos, ◌+ℤ◌}
 use Rattle.jiff_core.specs.declared.civil.date.Date.{Date}
 use Rattle.jiff_core.specs.declared.civil.datetime.DateTime.{DateTime}
-use Rattle.jiff_core.specs.Calendar.{IsCivilDate, day_count, days_from_civil}
+use Rattle.jiff_core.specs.Calendar.{IsCivilDate, days_from_civil}
 use Rattle.jiff_core.specs.Date.{epoch_day}
 use Rattle.jiff_core.specs.DateTime.{civil_nanos}
 use Rattle.jiff_core.specs.Time.{time_nanos}
 use Rattle.jiff_core.proofs.CalendarLemmas.{days_from_civil-day_count}
 use Rattle.jiff_core.proofs.SignedLemmas.{signed_arith}
 use Rattle.jiff.proofs.Family.{epoch_day_injective, civil_nanos-parts, time_nanos_bound}
-use Rattle.jiff_span.specs.Months.{add_months}
-use Rattle.schedule_text.specs.Range.{end_of_time}
-use Rattle.schedule_text.specs.Calendar.{CivilDate, day_nanos, days_to_1970, days_to, date_of, date_after, months_on}
+use Rattle.schedule_text.specs.Calendar.{CivilDate, day_nanos, days_to_1970, days_to, date_of}
 use Rattle.schedule_text.proofs.Calendars.{days_to-day_count, date_of-date}
 
 -- a date that the calendar has, as `jiff` has it

@@ -15,7 +15,7 @@ use Rattle.jiff_core.specs.Timestamp.{nanos_of_seconds}
 use Rattle.jiff_core.proofs.SignedLemmas.{signed_arith, one_part}
 use Rattle.jiff.proofs.Family.{civil_nanos-civil_seconds, epoch_day_range}
 use Rattle.schedule_text.specs.declared.error.ScheduleError.TheVariants.{OutOfRange}
-use Rattle.schedule_text.specs.Range.{moment_of, moment_from}
+use Rattle.schedule_text.specs.Range.{moment_from}
 use Rattle.schedule_text.specs.Calendar.{days_to_1970, days_to, civil_date}
 use Rattle.schedule_text.specs.Moments.{utc_seconds, instant_of, moment_at, in_range}
 use Rattle.schedule_text.specs.Numbers.{billionth}

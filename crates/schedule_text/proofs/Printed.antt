@@ -1,10 +1,8 @@
 -- What `jiff` prints of a date and time is the text of the moment.
-use Rattle.std.proofs.Common.{◌≡◌, ℕ, ◌+◌, ◌-◌, ◌*◌, ◌/◌, ◌%◌, ◌<◌, ◌≤◌, ◌==◌, if◌then◌else◌, Bool, true, false, Option, Some, List, [], ◌∷◌, ◌++◌, arith, refl, ap, ◌∙◌, pos}
+use Rattle.std.proofs.Common.{◌≡◌, ℕ, ◌/◌, ◌%◌, ◌<◌, ◌==◌, if◌then◌else◌, Bool, true, false, Option, Some, List, [], ◌∷◌, ◌++◌, arith, refl, ap, ◌∙◌, pos}
 use Rattle.jiff_core.specs.declared.civil.date.Date.{Date}
 use Rattle.jiff_core.specs.declared.civil.datetime.DateTime.{DateTime}
-use Rattle.jiff_core.specs.declared.civil.time.Time.{Time}
 use Rattle.jiff_core.specs.DateTime.{civil_nanos}
-use Rattle.jiff_core.specs.Time.{time_nanos}
 use Rattle.jiff_fmt.specs.declared.temporal.printer.DateTimePrinter.{DateTimePrinter}
 use Rattle.jiff_fmt.specs.Printer.{options, datetime_text}
 use Rattle.jiff_fmt.specs.Text.{places}
@@ -12,9 +10,8 @@ use Rattle.jiff_fmt.specs.Text as jiff
 use Rattle.schedule_text.specs.Range.{end_of_time}
 use Rattle.schedule_text.specs.Numbers.{billionth}
 use Rattle.schedule_text.specs.Calendar.{day_nanos, date_of}
-use Rattle.schedule_text.specs.Moments.{nine_digits, date_text, clock_text, subsecond_text, moment_text}
+use Rattle.schedule_text.specs.Moments.{nine_digits, date_text, subsecond_text, moment_text}
 use Rattle.schedule_text.proofs.CivilDates.{IsDayOf, epoch_day-date_of, civil_nanos-day}
-use Rattle.schedule_text.proofs.RoundTrips.{not_zero}
 
 -- nine places of billionths
 places-nine : (n : ℕ) → n < billionth → places 9 1000000000 n ≡ nine_digits n

@@ -11,7 +11,7 @@ use jiff::civil::{Date, DateTime, date};
 use jiff::tz::Offset;
 use jiff::{Timestamp, ToSpan};
 
-// No more months than this lie between two moments.
+// Two moments lie no more months apart.
 const MOST_MONTHS: u32 = 119_988;
 
 /// The instant of a moment.
@@ -41,7 +41,7 @@ pub(crate) fn date_on(year: u64, month: u64, day: u64) -> Date
     date(year as i16, month as i8, day as i8)
 }
 
-/// The moment at which a clock that is so far from UTC shows a date and time, where it is one.
+/// The moment at which a clock that is `offset` from UTC shows a date and time, where it is one.
 pub(crate) fn moment_shown(shown: DateTime, offset: Offset) -> Option<Moment>
     ensures { result ≡ moment_from (civil_nanos shown -ℤ nanos_of_seconds offset.seconds) }
 {

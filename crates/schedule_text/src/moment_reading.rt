@@ -79,9 +79,10 @@ fn date_at(text: &[u8]) -> Result<(Date, &[u8]), usize>
     Ok((date_on(year, month, day), behind))
 }
 
-// Hours and minutes.
+// An hour of the day and its minute.
 type Minutes = (u64, u64);
 
+// Hours and minutes.
 #[tactic(auto, unfolding(crate::specs::Moments::minutes_at))]
 fn minutes_at(text: &[u8]) -> Result<(Minutes, &[u8]), usize>
     ensures reading { Gives (λ x. (x.0.0 * 3600 + x.0.1 * 60, x.1.now)) result (minutes_at text.now) }
@@ -94,7 +95,7 @@ fn minutes_at(text: &[u8]) -> Result<(Minutes, &[u8]), usize>
     Ok(((hour, minute), behind))
 }
 
-// Hours and minutes, and seconds.
+// The same with a second.
 type Clock = (Minutes, u64);
 
 // A time of the day.
@@ -172,10 +173,10 @@ fn offset_of(zone: Zone) -> Offset
     Offset::from_seconds(if is_behind { -ahead } else { ahead }).unwrap()
 }
 
-// What a clock shows, and how far it is from UTC.
+// The date and time that a clock shows, and how far it is from UTC.
 type Shown = (DateTime, Offset);
 
-// The date and time of a text, and its offset.
+// The date, time and offset of a text.
 #[tactic(auto, unfolding(crate::specs::Moments::instant_at))]
 fn shown_at(text: &[u8]) -> Result<Shown, usize>
     ensures { Gives instant_of result (instant_at text.now) }
