@@ -1,0 +1,5 @@
+pub mod KeyOrders
+pub mod Elements
+pub mod Orders
+pub mod Forks
+mod Tops

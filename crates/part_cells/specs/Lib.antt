@@ -1,0 +1,4 @@
+pub mod Keys
+pub mod Cells
+pub mod Order
+pub mod Tree

@@ -1,0 +1,28 @@
+// What a part keeps of one actor.
+ghost use Rattle.std.specs.Prelude.{◌≡◌};
+ghost use Rattle.part_cells.specs.Cells.{is_kept};
+
+use actor_names::ActorKey;
+use turn_core::Cell;
+
+/// One actor's turns and line, and whether it is active or closing.
+#[derive(Drop)]
+pub struct ActorCell {
+    /// The actor.
+    pub key: ActorKey,
+    /// Its turns and its line.
+    pub inner: Cell,
+    /// From its first turn until its deactivation call is over.
+    pub active: bool,
+    /// Taken for deactivation.
+    pub closing: bool,
+    /// When its last turn or hold ended, in milliseconds since 1970.
+    pub last: u64,
+}
+
+/// Whether a cell is kept: it is active, or a call is in its line.
+pub fn is_kept(cell: &ActorCell) -> bool
+    ensures { result ≡ is_kept cell.now }
+{
+    cell.active || cell.inner.waiting() > 0
+}

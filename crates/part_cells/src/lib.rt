@@ -1,0 +1,13 @@
+// The cells of a part, in order of key in a search tree, and an index from calls to actors.
+//
+// Promise: a `Tree` is the list of its cells, and a change of it is that of the list that `specs/Cells` says.
+// Stands on `turn_core` and `actor_names`.
+#![tactic(auto)]
+
+mod actor_cell;
+mod order;
+mod tree;
+
+pub use actor_cell::{ActorCell, is_kept};
+pub use order::key_cmp;
+pub use tree::{Node, Root, Tree, leaf};
