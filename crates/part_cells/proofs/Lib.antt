@@ -2,4 +2,5 @@ pub mod KeyOrders
 pub mod Elements
 pub mod Orders
 pub mod Forks
+pub mod Calls
 mod Tops

@@ -2,3 +2,4 @@ pub mod Keys
 pub mod Cells
 pub mod Order
 pub mod Tree
+pub mod Index

@@ -5,9 +5,11 @@
 #![tactic(auto)]
 
 mod actor_cell;
+mod index;
 mod order;
 mod tree;
 
 pub use actor_cell::{ActorCell, is_kept};
+pub use index::CallIndex;
 pub use order::key_cmp;
 pub use tree::{Node, Root, Tree, leaf};
