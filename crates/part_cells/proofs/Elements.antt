@@ -56,6 +56,11 @@ In-drop_cell (c ∷ cs) key y h =
     let more = In-drop_cell cs key y in
     cond_both (same_key key c.key) _ _ (λ r. In y r → In y (c ∷ cs)) (λ _ i. inr (more i)) (λ _. elim [ inl e ↦ inl e | inr i ↦ inr (more i) ]) h
 
+-- a drop among cells of other keys
+pub drop-none : (key : ActorKey) (cs : List ActorCell) → ((c : ActorCell) → In c cs → same_key key c.key ≡ false) → drop_cell cs key ≡ cs
+drop-none key [] h = refl
+drop-none key (c ∷ cs) h = cond-false (same_key key c.key) _ _ (h c (inl refl)) ∙ ap (λ ds. c ∷ ds) (drop-none key cs (λ d i. h d (inr i)))
+
 -- what is left after a drop is of other keys
 pub other_key : (cs : List ActorCell) (key : ActorKey) (y : ActorCell) → In y (drop_cell cs key) → same_key key y.key ≡ false
 other_key [] key y h = absurd h

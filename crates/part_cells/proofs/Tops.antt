@@ -12,3 +12,7 @@ at_Full view_is is = sym view_is ∙ ap root_cells is
 
 pub sides_shorter : (l : List ActorCell) (x : ActorCell) (r : List ActorCell) → (length l < length (l ++ x ∷ r)) × (length r < length (l ++ x ∷ r))
 sides_shorter l x r = omega (arith, length-append l (x ∷ r))
+
+-- the cells that were taken out
+pub opened : {old taken : List ActorCell} {root : Root} {n : Box Node Global} → taken ≡ old → root_cells root ≡ taken → root ≡ Full n → old ≡ n.value.left ++ n.value.cell ∷ n.value.right
+opened same view_is is = sym same ∙ at_Full view_is is

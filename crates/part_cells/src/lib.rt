@@ -5,6 +5,8 @@
 #![tactic(auto)]
 
 mod actor_cell;
+mod balance;
+mod change;
 mod index;
 mod order;
 mod tree;

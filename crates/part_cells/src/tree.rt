@@ -70,6 +70,13 @@ impl Tree {
         Tree { root: Root::Empty }
     }
 
+    /// The top, with what is below it.
+    pub(crate) fn open(self) -> Root
+        ensures { root_cells result ≡ self }
+    {
+        self.root
+    }
+
     // How many nodes stand on the longest way down. Speed alone depends on it.
     pub(crate) fn height(&self) -> u32 {
         match &self.root {
