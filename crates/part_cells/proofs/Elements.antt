@@ -87,6 +87,19 @@ In-insert_cell (c ∷ cs) x y h =
     (λ _. elim [ inl e ↦ inr (inl e) | inr i ↦ elim (more i) [ inl l ↦ inl l | inr r ↦ inr (inr r) ] ])
     h
 
+pub In-insert-itself : (cs : List ActorCell) (x : ActorCell) → In x (insert_cell cs x)
+In-insert-itself [] x = inl refl
+In-insert-itself (c ∷ cs) x =
+    let more = In-insert-itself cs x in
+    cond_both (key_before x.key c.key) _ _ (In x) (λ _. inl refl) (λ _. inr more)
+
+pub In-inserted : (cs : List ActorCell) (x y : ActorCell) → In y cs → In y (insert_cell cs x)
+In-inserted [] x y i = absurd i
+In-inserted (c ∷ cs) x y (inl e) = cond_both (key_before x.key c.key) _ _ (In y) (λ _. inr (inl e)) (λ _. inl e)
+In-inserted (c ∷ cs) x y (inr i) =
+    let more = In-inserted cs x y i in
+    cond_both (key_before x.key c.key) _ _ (In y) (λ _. inr (inr i)) (λ _. inr more)
+
 -- a cell that was put, or one of another key
 pub In-put_cell : (cs : List ActorCell) (x y : ActorCell) → In y (put_cell cs x) → (y ≡ x) ⊎ (In y cs × (same_key x.key y.key ≡ false))
 In-put_cell cs x y h = elim (In-insert_cell (drop_cell cs x.key) x y h) [ inl e ↦ inl e | inr i ↦ inr (In-drop_cell cs x.key y i, other_key cs x.key y i) ]
@@ -98,3 +111,10 @@ In-keep_cell cs x y h =
     (λ k i. elim (In-put_cell cs x y i) [ inl e ↦ inl (e, k) | inr j ↦ inr j ])
     (λ _ i. inr (In-drop_cell cs x.key y i, other_key cs x.key y i))
     h
+
+-- a cell of another key stays
+pub In-put-other : (cs : List ActorCell) (x y : ActorCell) → In y cs → same_key x.key y.key ≡ false → In y (put_cell cs x)
+In-put-other cs x y i f = In-inserted (drop_cell cs x.key) x y (In-left cs x.key y i f)
+
+pub In-keep-other : (cs : List ActorCell) (x y : ActorCell) → In y cs → same_key x.key y.key ≡ false → In y (keep_cell cs x)
+In-keep-other cs x y i f = cond_both (is_kept x) _ _ (In y) (λ _. In-put-other cs x y i f) (λ _. In-left cs x.key y i f)
