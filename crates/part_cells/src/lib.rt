@@ -15,3 +15,6 @@ pub use actor_cell::{ActorCell, is_kept};
 pub use index::CallIndex;
 pub use order::key_cmp;
 pub use tree::{Node, Root, Tree, leaf};
+
+#[cfg(test)]
+mod tests;
