@@ -14,8 +14,8 @@ use jiff::{Timestamp, ToSpan};
 // Two moments lie no more months apart.
 const MOST_MONTHS: u32 = 119_988;
 
-/// The instant of a moment.
-pub(crate) fn instant_of(moment: Moment) -> Timestamp
+/// The timestamp of a moment, as `jiff` has it.
+pub(crate) fn timestamp_of(moment: Moment) -> Timestamp
     ensures nanos { result.nanosecond ≡ pos moment }
     ensures range { moment < end_of_time }
 {
@@ -55,7 +55,7 @@ pub(crate) fn moment_shown(shown: DateTime, offset: Offset) -> Option<Moment>
 pub(crate) fn months_on(moment: Moment, months: u32) -> Option<Moment>
     ensures { result ≡ moment_of (months_on moment months) }
 {
-    let shown = Offset::UTC.to_datetime(instant_of(moment));
+    let shown = Offset::UTC.to_datetime(timestamp_of(moment));
     if months > MOST_MONTHS {
         return None;
     }

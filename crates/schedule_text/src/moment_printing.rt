@@ -4,13 +4,13 @@ ghost use Rattle.jiff_fmt.specs.Printer.{options};
 ghost use Rattle.schedule_text.specs.declared.error.ScheduleError.TheVariants.{OutOfMemory};
 ghost use Rattle.schedule_text.specs.Moments.{moment_text, read_moment};
 
-use crate::calendar::instant_of;
+use crate::calendar::timestamp_of;
 use crate::error::ScheduleError;
 use crate::moment::Moment;
 use jiff::fmt::temporal::DateTimePrinter;
 use std::alloc::Global;
 
-// The printer of a moment, which may have no fraction of a second.
+// The printer of moments: a whole second has no fraction, any other nine digits of it.
 fn printer(is_whole: bool) -> DateTimePrinter
     ensures { options result ≡ (false, 84, Some (if is_whole then 0 else 9)) }
 {
@@ -26,8 +26,8 @@ pub fn print_moment(alloc: Global, moment: Moment) -> Result<String, ScheduleErr
     ensures reads_back { IfOk result (λ text. read_moment (string_bytes text) ≡ Ok moment) }
     ensures err { IfErr result (λ e. e ≡ OutOfMemory) }
 {
-    let instant = instant_of(moment);
-    let is_whole = instant.subsec_nanosecond() == 0;
-    let text = printer(is_whole).timestamp_text(instant.to_plain());
+    let timestamp = timestamp_of(moment);
+    let is_whole = timestamp.subsec_nanosecond() == 0;
+    let text = printer(is_whole).timestamp_text(timestamp.to_plain());
     Ok(String::from_str(alloc, text.as_str())?)
 }

@@ -10,13 +10,13 @@ use Rattle.schedule_text.proofs.calendar.months_on.Goals as goal
 
 pub returns-then-months-gt-MOST_MONTHS : goal.returns-then-months-gt-MOST_MONTHS
 returns-then-months-gt-MOST_MONTHS c =
-    let low = c.instant_of.ensures.range in
+    let low = c.timestamp_of.ensures.range in
     sym (moment_of-none _ (months_on-many c.args.moment c.args.months low c.if-months-gt-MOST_MONTHS.true))
 
 pub returns-in_err-later : goal.returns-in_err-later
 returns-in_err-later c =
-    let low = c.instant_of.ensures.range in
-    let shows : civil_nanos c.to_datetime-shown.result ≡ pos c.args.moment = omega (arith, signed_arith, c.to_datetime-shown.ensures, c.instant_of.ensures.nanos) in
+    let low = c.timestamp_of.ensures.range in
+    let shows : civil_nanos c.to_datetime-shown.result ≡ pos c.args.moment = omega (arith, signed_arith, c.to_datetime-shown.ensures, c.timestamp_of.ensures.nanos) in
     let months : to_z w64 c.args.months ≡ pos c.args.months = omega (arith, signed_casts) in
     let only = rw months at c.months.ensures in
     elim (cases_lt (date_after (date_of (c.args.moment / day_nanos)) c.args.months).year 9999) [
@@ -26,8 +26,8 @@ returns-in_err-later c =
 
 pub returns : goal.returns
 returns c =
-    let low = c.instant_of.ensures.range in
-    let shows : civil_nanos c.to_datetime-shown.result ≡ pos c.args.moment = omega (arith, signed_arith, c.to_datetime-shown.ensures, c.instant_of.ensures.nanos) in
+    let low = c.timestamp_of.ensures.range in
+    let shows : civil_nanos c.to_datetime-shown.result ≡ pos c.args.moment = omega (arith, signed_arith, c.to_datetime-shown.ensures, c.timestamp_of.ensures.nanos) in
     let months : to_z w64 c.args.months ≡ pos c.args.months = omega (arith, signed_casts) in
     let only = rw months at c.months.ensures in
     let is = ok_of-some c.checked_add.result c.in_ok-later.later (sym c.ok.ensures.value ∙ c.in_ok-later.was) in
