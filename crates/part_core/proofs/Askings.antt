@@ -1,14 +1,15 @@
 -- From the step of an inner call to that of the call round it.
-use Rattle.std.proofs.Common.{◌≡◌, ℕ, Bool, true, false, not, List, Option, Some, sym, ap, ◌∙◌}
+use Rattle.std.proofs.Common.{◌≡◌, ℕ, ◌+◌, Bool, true, false, not, List, Option, None, Some, sym, ap, ◌∙◌}
+use Rattle.std.specs.Prelude.{◌==◌, if◌then◌else◌}
 use Rattle.std.proofs.lemmas.Bool.{cond-true, cond-false}
 use Rattle.place_table.specs.declared.host.HostInfo.{HostInfo}
 use Rattle.turn_core.specs.Cell.{is_open_chain}
-use Rattle.part_core.specs.declared.actor_cell.ActorCell.{ActorCell}
+use Rattle.part_cells.specs.declared.actor_cell.ActorCell.{ActorCell}
 use Rattle.part_core.specs.declared.standing.Standing.{Standing}
 use Rattle.part_core.specs.declared.event.PartReply.{PartReply}
 use Rattle.part_core.specs.declared.event.PartReply.TheVariants as replies
 use Rattle.part_core.specs.Keys.{same_member}
-use Rattle.part_core.specs.Part.{PartState, PartStep, is_open, ask_cell, ask_owned, ask_here, ring_owner}
+use Rattle.part_core.specs.Part.{PartState, PartStep, is_open, made_chain, chain_or, call_chain, ask_cell, ask_owned, ask_here, ring_owner}
 use Rattle.part_core.specs.Actors.{ActorsState, state_of, AsksIn, AsksAtCell}
 
 asks_by : (step outer : PartState → PartStep) (s : Standing) (drawn : ℕ) (c after : ActorCell) (reply : PartReply)
@@ -20,6 +21,15 @@ asks_in : (step outer : PartState → PartStep) (s : Standing) (drawn : ℕ) (c 
     → ((a : ActorsState) → outer (state_of s a) ≡ step (state_of s a)) → AsksIn step s drawn c after reply → AsksIn outer s drawn c after reply
 asks_in step outer s drawn c after replies.OutOfMemory e h = h
 asks_in step outer s drawn c after reply e h = λ a d. e a ∙ h a d
+
+-- the step with the chain that the part makes of what the call brings
+pub chained_asks : (full : Bool) (s : Standing) (drawn : ℕ) (c after : ActorCell) (chain made : Option (List ℕ)) (reply : PartReply)
+    → made ≡ (if c.inner.depth == 0 then None else chain_or chain (made_chain s.member s.number (drawn + 1)))
+    → AsksIn (λ p. ask_here ring_owner full p c made) s drawn c after reply → AsksIn (λ p. ask_here ring_owner full p c (call_chain p c.inner.depth chain)) s drawn c after reply
+chained_asks full s drawn c after chain made replies.OutOfMemory m h = h
+chained_asks full s drawn c after chain made reply m h =
+    λ a d. ap (λ (z : Option (List ℕ)). ask_here ring_owner full (state_of s a) c z)
+    (ap (λ (n : ℕ). if c.inner.depth == 0 then None else chain_or chain (made_chain s.member s.number (n + 1))) d ∙ sym m) ∙ h a d
 
 module _ (full : Bool) (s : Standing) (drawn : ℕ) (c after : ActorCell) (chain : Option (List ℕ)) (reply : PartReply) where
   pub owned_asks : (owner : Option HostInfo) (host : HostInfo) → Some host ≡ owner → same_member host.member s.member ≡ true

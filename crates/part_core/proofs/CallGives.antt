@@ -9,11 +9,11 @@ use Rattle.turn_core.specs.declared.answer.CellPoll.{CellPoll}
 use Rattle.turn_core.specs.declared.answer.CellPoll.TheVariants as polling
 use Rattle.turn_core.specs.Cell.{EndStep, chain_of, call_of, next_call, without_call, cell_end, cell_poll}
 use Rattle.actor_names.specs.declared.actor_key.ActorKey.{ActorKey}
-use Rattle.part_core.specs.declared.actor_cell.ActorCell.{ActorCell}
+use Rattle.part_cells.specs.declared.actor_cell.ActorCell.{ActorCell}
 use Rattle.part_core.specs.declared.standing.Standing.{Standing}
 use Rattle.part_core.specs.declared.event.PartReply.{PartReply}
 use Rattle.part_core.specs.declared.event.PartReply.TheVariants as replies
-use Rattle.part_core.specs.Cells.{keep_cell, cell_of_call}
+use Rattle.part_cells.specs.Cells.{keep_cell, cell_of_call}
 use Rattle.part_core.specs.Marks.{marks_of_next, begun_calls}
 use Rattle.part_core.specs.Part.{PartStep, owner_reply, may_begin, polled_step, poll_cell, poll_part, ended_step, end_cell, end_part, ring_owner}
 use Rattle.part_core.specs.Rooms.{PartView, Gives, GivesInMemory}

@@ -10,17 +10,19 @@ use Rattle.turn_core.specs.declared.cell.Waiter.{Waiter}
 use Rattle.turn_core.specs.Cell.{CellState, AskStep, EndStep, PollStep, is_open_chain, kept_chain, has_turn, waiter_of, without_waiter, without_call, begun_next, next_call, poll_waiter, not_open, with_turn, with_waiter, with_hold, without_hold, admit_call}
 use Rattle.turn_core.specs.CellSound.{In}
 use Rattle.part_core.specs.declared.event.PartEvent.{PartEvent}
-use Rattle.part_core.specs.declared.actor_cell.ActorCell.{ActorCell}
-use Rattle.part_core.specs.Keys.{same_key, same_member}
+use Rattle.part_cells.specs.declared.actor_cell.ActorCell.{ActorCell}
+use Rattle.part_cells.specs.Keys.{same_key}
+use Rattle.part_core.specs.Keys.{same_member}
 use Rattle.part_core.specs.Settings.{settings_of}
-use Rattle.part_core.specs.Cells.{cell_at, cell_of_call}
+use Rattle.part_cells.specs.Cells.{cell_at, cell_of_call}
 use Rattle.part_core.specs.Marks.{PartMark, TurnEnded, BecameInactive, marks_of_begin, marks_of_next}
 use Rattle.part_core.specs.Part
 use Rattle.part_core.specs.Part.{PartState, PartStep, with_cell, asked_step, ask_cell, ask_owned, found_or_first, call_chain, chain_or, is_full, is_spent, is_open, is_own, may_begin}
 use Rattle.part_core.specs.Sound.{IsActorSound, IsPartSound}
 use Rattle.part_core.specs.Activity.{Activity, activity_in, activity_of, is_inactive_of, AreTidy, AreAt, AreCalm, IsAsked, IsFrom, IsFromCell, Replays}
-use Rattle.part_core.proofs.CellLaws.{same_key-true, In-cell_at, In-cell_of_call, In-has_turn, admit_cases, next_cases, first_sound}
-use Rattle.part_core.proofs.PartOrders.{In-keep_cell}
+use Rattle.part_cells.proofs.KeyOrders.{same_key-true}
+use Rattle.part_cells.proofs.Elements.{In-cell_at, In-keep_cell}
+use Rattle.part_core.proofs.CellLaws.{In-cell_of_call, In-has_turn, admit_cases, next_cases, first_sound}
 use Rattle.part_core.proofs.PartSteps.{In-first_to_close}
 use Rattle.part_core.proofs.Replays.{activity-keep, cell_at-In, no_turns, AreOf, AreOf-In, key_of_mark, replay_all, replay-of}
 
@@ -52,7 +54,7 @@ pub one_cell_replays : (e : PartEvent) (p : PartState) (x : ActorCell) (n : ℕ)
 one_cell_replays e p x n marks old quiet was of replayed from tidy at =
     record {
       activity = λ k. activity-keep p.cells x k quiet ∙ go k ∙ sym (replay-of marks k x.key (activity_of (cell_at p.cells k)) of);
-      cells = λ c i. elim (In-keep_cell p.cells x c i) [ inl s ↦ subst (λ (z : ActorCell). IsFromCell e p z) (sym s.0) from | inr j ↦ inl (c, j, refl, refl) ];
+      cells = λ c i. elim (In-keep_cell p.cells x c i) [ inl s ↦ subst (λ (z : ActorCell). IsFromCell e p z) (sym s.0) from | inr j ↦ inl (c, j.0, refl, refl) ];
       marked = λ m k i t. subst (λ (z : ActorKey). IsFrom e p z) (key_of_mark m x.key k (AreOf-In marks x.key m of i) t) (from_key e p x from);
       tidy = tidy;
       at = inl (at, refl);

@@ -3,7 +3,6 @@ use Rattle.std.proofs.Common.{◌≡◌, ◌⊎◌, ℕ, Bool, true, false, ◌&
 use Rattle.std.specs.Prelude.{nat_lt, ◌==◌, bytes_eq}
 use Rattle.std.specs.declared.result.Result.TheVariants.{Ok, Err}
 use Rattle.std.proofs.lemmas.Bool.{and_parts, eqb-true, ltb-true, le-ltb, cond_both, false≢true}
-use Rattle.std.proofs.lemmas.Slice.Eq.{bytes_eq-Decides}
 use Rattle.actor_names.specs.declared.actor_key.ActorKey.{ActorKey}
 use Rattle.turn_core.specs.declared.cell.Turn.{Turn}
 use Rattle.turn_core.specs.declared.cell.Waiter.{Waiter}
@@ -14,33 +13,11 @@ use Rattle.turn_core.specs.CellSound.{In, IsCellSound}
 use Rattle.turn_core.proofs.Elements.{In-without_first}
 use Rattle.turn_core.proofs.CellSteps.{free_turns}
 use Rattle.turn_core.proofs.CellKeeps.{next_begins, new_cell_sound}
-use Rattle.part_core.specs.declared.actor_cell.ActorCell.{ActorCell}
-use Rattle.part_core.specs.Keys.{same_key}
-use Rattle.part_core.specs.Cells.{cell_at, cell_of_call, first_cell}
+use Rattle.part_cells.specs.declared.actor_cell.ActorCell.{ActorCell}
+use Rattle.part_cells.specs.Cells.{cell_of_call, first_cell}
 use Rattle.part_core.specs.Sound.{IsActorSound, HasNoWaiter}
 
-pub same_key-true : (a b : ActorKey) → same_key a b ≡ true → a ≡ b
-same_key-true a b e =
-    let h = and_parts (bytes_eq a.kind b.kind) (bytes_eq a.id b.id) e in
-    let p = (bytes_eq-Decides a.kind b.kind).0 h.0 in
-    let q = (bytes_eq-Decides a.id b.id).0 h.1 in
-    λ i. record { kind = p i; id = q i }
-
 -- ---- look-ups
-
-pub In-cell_at : (cs : List ActorCell) (key : ActorKey) (c : ActorCell) → cell_at cs key ≡ Some c → In c cs
-In-cell_at [] key c e = absurd (cc)
-In-cell_at (d ∷ cs) key c e =
-    let more = In-cell_at cs key c in
-    cond_both (same_key key d.key) _ _ (λ r. r ≡ Some c → In c (d ∷ cs)) (λ _ q. inl (cc)) (λ _ q. inr (more q)) e
-
-pub key-cell_at : (cs : List ActorCell) (key : ActorKey) (c : ActorCell) → cell_at cs key ≡ Some c → c.key ≡ key
-key-cell_at [] key c e = absurd (cc)
-key-cell_at (d ∷ cs) key c e =
-    let more = key-cell_at cs key c in
-    cond_both (same_key key d.key) _ _ (λ r. r ≡ Some c → c.key ≡ key)
-    (λ s q. let t = same_key-true key d.key s in let u : d ≡ c = cc in ap (λ (z : ActorCell). z.key) (sym u) ∙ sym t)
-    (λ _ q. more q) e
 
 pub In-cell_of_call : (cs : List ActorCell) (call : ℕ) (c : ActorCell) → cell_of_call cs call ≡ Some c → In c cs
 In-cell_of_call [] call c e = absurd (cc)

@@ -1,11 +1,11 @@
--- Cells that a step changes one after another.
-use Rattle.std.proofs.Common.{◌≡◌, ℕ, zero, suc, ◌+◌, ◌<◌, ◌≤◌, ◌&&◌, not, List, [], ◌∷◌, ◌++◌, length, get_or, set, take, drop, refl, ap, ◌∙◌, arith, add-one, append_assoc}
+-- Cells that a step changes one after another, those of a tree among them.
+use Rattle.std.proofs.Common.{◌≡◌, ℕ, ◌+◌, ◌≤◌, ◌&&◌, not, List, [], ◌∷◌, ◌++◌, length, refl, sym, ap, ◌∙◌, arith, append_assoc, length-append}
 use Rattle.std.proofs.lemmas.Bool.{cond_both}
 use Rattle.actor_names.specs.declared.actor_key.ActorKey.{ActorKey}
 use Rattle.turn_core.specs.declared.cell.Turn.{Turn}
 use Rattle.turn_core.specs.Cell.{is_free}
-use Rattle.part_core.specs.declared.actor_cell.ActorCell.{ActorCell}
-use Rattle.part_core.specs.Cells.{calls_in, total_calls}
+use Rattle.part_cells.specs.declared.actor_cell.ActorCell.{ActorCell}
+use Rattle.part_cells.specs.Cells.{calls_in, total_calls}
 use Rattle.part_core.specs.Marks.{PartMark, TurnBegan, TurnEnded, BecameActive, BecameInactive, PartOpened, begun_calls, ended_calls, marks_of_ends}
 use Rattle.part_core.specs.Part.{PartState, CellStep, each_cell, is_foreign, is_overdue, tick_cell, ring_owner}
 
@@ -25,51 +25,65 @@ ended-append (BecameActive key version ∷ xs) ys = ended-append xs ys
 ended-append (BecameInactive key ∷ xs) ys = ended-append xs ys
 ended-append (PartOpened number version ∷ xs) ys = ended-append xs ys
 
-pub drop-next : (cs : List ActorCell) (i : ℕ) (d : ActorCell) → i < length cs → drop i cs ≡ get_or cs i d ∷ drop (i + 1) cs
-drop-next cs i d lt = rw add-one (go cs i d lt)
-  where
-    go : (cs : List ActorCell) (i : ℕ) (d : ActorCell) → i < length cs → drop i cs ≡ get_or cs i d ∷ drop (suc i) cs
-    go [] i d lt = absurd (omega arith)
-    go (c ∷ cs) zero d lt = refl
-    go (c ∷ cs) (suc i) d lt = go cs i d (omega arith)
+pub total-fork : (l : List ActorCell) (x : ActorCell) (r : List ActorCell) → total_calls (l ++ x ∷ r) ≡ total_calls l + calls_in x + total_calls r
+total-fork [] x r = omega arith
+total-fork (c ∷ l) x r = let h = total-fork l x r in omega arith
 
-pub total-next : (cs : List ActorCell) (i : ℕ) (d : ActorCell) → i < length cs → total_calls (drop i cs) ≡ calls_in (get_or cs i d) + total_calls (drop (i + 1) cs)
-total-next cs i d lt = ap total_calls (drop-next cs i d lt)
+pub length-fork : (l : List ActorCell) (x : ActorCell) (r : List ActorCell) → length (l ++ x ∷ r) ≡ length l + 1 + length r
+length-fork l x r = omega (arith, length-append l (x ∷ r))
 
-module _ (f : ActorCell → CellStep) where
-  -- the cells where the first i have changed
-  abbrev pub done_to : ℕ → List ActorCell → List ActorCell
-  done_to i cs = (each_cell f (take i cs)).cells ++ drop i cs
+module _ (f : ActorCell → CellStep) (l : List ActorCell) (x : ActorCell) (r : List ActorCell) where
+  pub cells-fork : (each_cell f (l ++ x ∷ r)).cells ≡ (each_cell f l).cells ++ (f x).cell ∷ (each_cell f r).cells
+  cells-fork = go l
+    where
+      go : (l : List ActorCell) → (each_cell f (l ++ x ∷ r)).cells ≡ (each_cell f l).cells ++ (f x).cell ∷ (each_cell f r).cells
+      go [] = refl
+      go (c ∷ l) = ap (λ (z : List ActorCell). (f c).cell ∷ z) (go l)
 
-  at_suc : (cs : List ActorCell) (i : ℕ) (d : ActorCell) → i < length cs → done_to (suc i) cs ≡ set (done_to i cs) i (f (get_or cs i d)).cell
-  at_suc [] i d l = absurd (omega arith)
-  at_suc (c ∷ cs) zero d l = refl
-  at_suc (c ∷ cs) (suc i) d l = ap (λ (ds : List ActorCell). (f c).cell ∷ ds) (at_suc cs i d (omega arith))
+  pub marks-fork : (each_cell f (l ++ x ∷ r)).marks ≡ (each_cell f l).marks ++ ((f x).marks ++ (each_cell f r).marks)
+  marks-fork = go l
+    where
+      go : (l : List ActorCell) → (each_cell f (l ++ x ∷ r)).marks ≡ (each_cell f l).marks ++ ((f x).marks ++ (each_cell f r).marks)
+      go [] = refl
+      go (c ∷ l) = ap (λ (z : List PartMark). (f c).marks ++ z) (go l) ∙ sym (append_assoc (f c).marks (each_cell f l).marks ((f x).marks ++ (each_cell f r).marks))
 
-  -- the next cell is as it was
-  pub read_done : (cs : List ActorCell) (i : ℕ) (d : ActorCell) → i < length cs → get_or (done_to i cs) i d ≡ get_or cs i d
-  read_done [] i d l = absurd (omega arith)
-  read_done (c ∷ cs) zero d l = refl
-  read_done (c ∷ cs) (suc i) d l = read_done cs i d (omega arith)
+  pub first-fork : (each_cell f (l ++ x ∷ r)).first ≡ (each_cell f l).first + (f x).first + (each_cell f r).first
+  first-fork = go l
+    where
+      go : (l : List ActorCell) → (each_cell f (l ++ x ∷ r)).first ≡ (each_cell f l).first + (f x).first + (each_cell f r).first
+      go [] = omega arith
+      go (c ∷ l) = let h = go l in omega arith
 
-  -- one cell more has changed
-  pub done-more : (cs : List ActorCell) (i : ℕ) (d : ActorCell) → i < length cs → done_to (i + 1) cs ≡ set (done_to i cs) i (f (get_or cs i d)).cell
-  done-more cs i d l = rw add-one (at_suc cs i d l)
+  pub second-fork : (each_cell f (l ++ x ∷ r)).second ≡ (each_cell f l).second + (f x).second + (each_cell f r).second
+  second-fork = go l
+    where
+      go : (l : List ActorCell) → (each_cell f (l ++ x ∷ r)).second ≡ (each_cell f l).second + (f x).second + (each_cell f r).second
+      go [] = omega arith
+      go (c ∷ l) = let h = go l in omega arith
 
-  pub each-next : (cs : List ActorCell) (i : ℕ) (d : ActorCell) → i < length cs → each_cell f (drop i cs) ≡ each_cell f (get_or cs i d ∷ drop (i + 1) cs)
-  each-next cs i d l = ap (each_cell f) (drop-next cs i d l)
+pub append_nil : (xs : List ℕ) → xs ++ [] ≡ xs
+append_nil [] = refl
+append_nil (x ∷ xs) = ap (λ (l : List ℕ). x ∷ l) (append_nil xs)
 
-  pub done-all : (cs : List ActorCell) → done_to (length cs) cs ≡ (each_cell f cs).cells
-  done-all [] = refl
-  done-all (c ∷ cs) = ap (λ (ds : List ActorCell). (f c).cell ∷ ds) (done-all cs)
+-- calls that were listed in three parts
+pub listed : (calls a b c : List ℕ) → ((calls ++ a) ++ b) ++ c ≡ calls ++ (a ++ (b ++ c))
+listed calls a b c = append_assoc (calls ++ a) b c ∙ append_assoc calls a (b ++ c)
 
-  pub each-none : (cs : List ActorCell) → drop (length cs) cs ≡ []
-  each-none [] = refl
-  each-none (c ∷ cs) = each-none cs
+-- the calls in marks, by what is picked of them
+module _ (pick : List PartMark → List ℕ) (none : pick [] ≡ []) (app : (xs ys : List PartMark) → pick (xs ++ ys) ≡ pick xs ++ pick ys) (f : ActorCell → CellStep) where
+  pub picked-fork : (l : List ActorCell) (x : ActorCell) (r : List ActorCell) → pick (each_cell f (l ++ x ∷ r)).marks ≡ pick (each_cell f l).marks ++ (pick (f x).marks ++ pick (each_cell f r).marks)
+  picked-fork l x r =
+      ap pick (marks-fork f l x r) ∙ app (each_cell f l).marks ((f x).marks ++ (each_cell f r).marks)
+      ∙ ap (λ (z : List ℕ). pick (each_cell f l).marks ++ z) (app (f x).marks (each_cell f r).marks)
 
--- calls that were listed, and those that are left
-pub listed-more : (calls next rest : List ℕ) (part : List ℕ) → next ≡ part → (calls ++ next) ++ rest ≡ calls ++ (part ++ rest)
-listed-more calls next rest part e = append_assoc calls next rest ∙ ap (λ (l : List ℕ). calls ++ (l ++ rest)) e
+  -- no more than the calls of the cells
+  pub picked-short : ((c : ActorCell) → length (pick (f c).marks) ≤ calls_in c) → (cs : List ActorCell) → length (pick (each_cell f cs).marks) ≤ total_calls cs
+  picked-short h [] = let e = ap (λ (z : List ℕ). length z) none in omega arith
+  picked-short h (c ∷ cs) =
+      let e = ap (λ (z : List ℕ). length z) (app (f c).marks (each_cell f cs).marks) in
+      let s = h c in
+      let m = picked-short h cs in
+      omega (arith, e, length-append (pick (f c).marks) (pick (each_cell f cs).marks))
 
 -- the calls that a tick ends in a cell are open there
 length-ends : (key : ActorKey) (ts : List Turn) → length (ended_calls (marks_of_ends key ts)) ≡ length ts

@@ -8,7 +8,7 @@ use Rattle.turn_core.specs.CellMarks.{Began, Ended}
 use Rattle.part_core.specs.declared.event.PartEvent.{PartEvent}
 use Rattle.part_core.specs.declared.event.PartEvent.TheVariants as events
 use Rattle.part_core.specs.declared.event.PartReply.TheVariants as replies
-use Rattle.part_core.specs.Cells.{cell_at}
+use Rattle.part_cells.specs.Cells.{cell_at}
 use Rattle.part_core.specs.Part.{PartState, new_part}
 use Rattle.part_core.specs.Activity.{no_activity, activity_of, replay, turn_marks}
 use Rattle.part_core.specs.PartRuns.{part_after, marks_after, refuses}

@@ -1,15 +1,15 @@
-pub mod KeyPlaces
-pub mod Settled
 mod Numbers
+mod OfCalls
 mod Keeping
+mod Founds
+mod Taken
 mod Askings
 mod AskedGives
-mod Finding
 mod Counts
 mod CallGives
 mod HoldGives
-mod Closings
 mod EachCell
+mod Tops
 mod EachKept
 mod Runnings
 mod Shallow

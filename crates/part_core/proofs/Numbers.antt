@@ -98,7 +98,7 @@ numbered_hold n c k =
 pub numbered_release : (n : ℕ) (c : CellState) → IsNumbered n c → IsNumbered n (without_hold c)
 numbered_release n c k = record { open_turns = k.open_turns; waiters = k.waiters; held = (let h = k.held in omega arith) }
 
-call-all_moved : (ws : List Waiter) (w : Waiter) → In w (all_moved ws) → (v : Waiter) × In v ws × (v.call ≡ w.call)
+pub call-all_moved : (ws : List Waiter) (w : Waiter) → In w (all_moved ws) → (v : Waiter) × In v ws × (v.call ≡ w.call)
 call-all_moved [] w i = absurd i
 call-all_moved (v ∷ ws) w (inl e) = (v, inl refl, let q = ap (λ (z : Waiter). z.call) e in cc)
 call-all_moved (v ∷ ws) w (inr i) = let m = call-all_moved ws w i in (m.0, inr m.1, m.2)

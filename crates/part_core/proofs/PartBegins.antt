@@ -14,16 +14,17 @@ use Rattle.part_core.specs.declared.stage.Stage.{Stage}
 use Rattle.part_core.specs.declared.stage.Stage.TheVariants.{Locked, Updated, Open, Stopped}
 use Rattle.part_core.specs.declared.event.PartEvent.{PartEvent}
 use Rattle.part_core.specs.declared.event.PartEvent.TheVariants as events
-use Rattle.part_core.specs.declared.actor_cell.ActorCell.{ActorCell}
+use Rattle.part_cells.specs.declared.actor_cell.ActorCell.{ActorCell}
 use Rattle.part_core.specs.Keys.{same_member}
-use Rattle.part_core.specs.Cells.{cell_at, cell_of_call}
+use Rattle.part_cells.specs.Cells.{cell_at, cell_of_call}
 use Rattle.part_core.specs.Marks.{PartMark, TurnBegan, marks_of_begin, marks_of_next, marks_of_ends, marks_of_inactive, marks_of_stop}
 use Rattle.part_core.specs.Part
 use Rattle.part_core.specs.Part.{PartState, PartStep, CellStep, with_cell, asked_step, ask_cell, ask_owned, found_or_first, is_spent, is_open, is_updated, is_locked, is_own, is_owned_by, is_foreign, is_drained, may_begin, each_cell, part_step}
 use Rattle.part_core.specs.Sound.{IsPartSound}
 use Rattle.part_core.specs.Activity.{Activity, activity_in, activity_of}
 use Rattle.part_core.specs.PartRuns.{BeginsRightly}
-use Rattle.part_core.proofs.CellLaws.{In-cell_at, admit_cases, next_cases}
+use Rattle.part_cells.proofs.Elements.{In-cell_at}
+use Rattle.part_core.proofs.CellLaws.{admit_cases, next_cases}
 use Rattle.part_core.proofs.PartWrites.{open_stage}
 use Rattle.part_core.proofs.PartSteps.{begins_where}
 use Rattle.part_core.proofs.Replays.{In-append, cell_at-In}

@@ -12,7 +12,7 @@ use Rattle.part_core.specs.declared.receipt.SeenStage.TheVariants as seen
 use Rattle.part_core.specs.declared.stage.Stage.{Stage}
 use Rattle.part_core.specs.declared.stage.Stage.TheVariants.{Locked, Updated, Open, Stopped}
 use Rattle.part_core.specs.declared.event.PartEvent.{PartEvent}
-use Rattle.part_core.specs.declared.actor_cell.ActorCell.{ActorCell}
+use Rattle.part_cells.specs.declared.actor_cell.ActorCell.{ActorCell}
 use Rattle.part_core.specs.Part.{PartState, new_part, is_own, is_owned_by, is_foreign, no_active_foreign, is_drained, seen_stage, part_step}
 use Rattle.part_core.specs.Sound.{IsPartSound}
 use Rattle.part_core.specs.PartMoves.{Moves, keeps, locks, updates, opens, stops, Stepped}

@@ -12,15 +12,17 @@ use Rattle.part_core.specs.declared.stage.Stage.{Stage}
 use Rattle.part_core.specs.declared.stage.Stage.TheVariants.{Locked, Updated, Open, Stopped}
 use Rattle.part_core.specs.declared.event.PartEvent.{PartEvent}
 use Rattle.part_core.specs.declared.event.PartEvent.TheVariants as events
-use Rattle.part_core.specs.declared.actor_cell.ActorCell.{ActorCell}
-use Rattle.part_core.specs.Keys.{same_key}
-use Rattle.part_core.specs.Cells.{cell_at, cell_of_call}
+use Rattle.part_cells.specs.declared.actor_cell.ActorCell.{ActorCell}
+use Rattle.part_cells.specs.Keys.{same_key}
+use Rattle.part_cells.specs.Cells.{cell_at, cell_of_call}
 use Rattle.part_core.specs.Marks.{PartMark, marks_of_ends, marks_of_inactive, marks_of_stop}
 use Rattle.part_core.specs.Part
 use Rattle.part_core.specs.Part.{PartState, PartStep, CellStep, is_locked, is_updated, is_spent, is_own, is_foreign, is_drained, each_cell, part_step}
-use Rattle.part_core.specs.Sound.{AreInOrder, IsPartSound}
+use Rattle.part_cells.specs.Order.{AreInOrder}
+use Rattle.part_core.specs.Sound.{IsPartSound}
 use Rattle.part_core.specs.Activity.{Activity, no_activity, activity_in, activity_of, is_mark_of, replay, AreTidy, AreAt, AreCalm, Replays}
-use Rattle.part_core.proofs.CellLaws.{same_key-true, next_cases}
+use Rattle.part_cells.proofs.KeyOrders.{same_key-true}
+use Rattle.part_core.proofs.CellLaws.{next_cases}
 use Rattle.part_core.proofs.PartOrders.{In-each_cell}
 use Rattle.part_core.proofs.Replays.{later_key, not_same_key, In-append, AreOf, AreOf-In, AreOf-append, key_of_mark, replay_all, replay-of, replay-append, replay_all-append, tidy_append, at_append}
 use Rattle.part_core.proofs.CallReplays.{StepReplays, same_cells_replay, stays_replay, begin_of, begin_replay, begin_tidy, begin_at, begin_calm, ask_replays, poll_replays, end_replays, hold_replays, release_replays, take_replays, closed_replays}

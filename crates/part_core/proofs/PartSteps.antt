@@ -14,14 +14,15 @@ use Rattle.turn_core.proofs.CellSteps.{free_turns, first_chain, kept_chain-fits}
 use Rattle.turn_core.proofs.CellKeeps.{line_sound, without_call_sound, turn_begins, enters_free, enters_beside, waits_sound, holds_keep}
 use Rattle.part_core.specs.declared.stage.Stage.TheVariants.{Open, Stopped}
 use Rattle.part_core.specs.declared.event.PartEvent.{PartEvent}
-use Rattle.part_core.specs.declared.actor_cell.ActorCell.{ActorCell}
+use Rattle.part_cells.specs.declared.actor_cell.ActorCell.{ActorCell}
 use Rattle.part_core.specs.Keys.{same_member}
-use Rattle.part_core.specs.Cells.{cell_at, cell_of_call}
+use Rattle.part_cells.specs.Cells.{cell_at, cell_of_call}
 use Rattle.part_core.specs.Part
 use Rattle.part_core.specs.Part.{PartState, PartStep, CellStep, refused, with_cell, asked_step, ask_cell, ask_owned, found_or_first, call_chain, chain_or, made_chain, is_full, is_spent, is_open, is_updated, is_locked, is_own, is_foreign, is_owned_by, is_drained, may_begin, each_cell}
 use Rattle.part_core.specs.Sound.{HasNoWaiter, IsPartSound}
 use Rattle.part_core.specs.PartMoves.{Stepped}
-use Rattle.part_core.proofs.CellLaws.{In-cell_at, In-cell_of_call, In-has_turn, moved_of_none, not_nil_after, free_of_nil, is_open_chain-kept, admit_cases, next_cases, open_sound, less_sound, closing_facts, not_closing, begun_sound, begun_waiters}
+use Rattle.part_cells.proofs.Elements.{In-cell_at}
+use Rattle.part_core.proofs.CellLaws.{In-cell_of_call, In-has_turn, moved_of_none, not_nil_after, free_of_nil, is_open_chain-kept, admit_cases, next_cases, open_sound, less_sound, closing_facts, not_closing, begun_sound, begun_waiters}
 use Rattle.part_core.proofs.PartWrites.{open_stage, stays, one_cell, IsAt, at_found, at_found_or_first}
 
 module _ (owner : PlacementTable → ActorKey → Option HostInfo) where

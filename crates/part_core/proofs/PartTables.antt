@@ -14,8 +14,8 @@ use Rattle.part_core.specs.declared.stage.Stage.{Stage}
 use Rattle.part_core.specs.declared.stage.Stage.TheVariants.{Locked, Updated, Open, Stopped}
 use Rattle.part_core.specs.declared.event.PartEvent.{PartEvent}
 use Rattle.part_core.specs.declared.event.PartEvent.TheVariants as events
-use Rattle.part_core.specs.declared.actor_cell.ActorCell.{ActorCell}
-use Rattle.part_core.specs.Cells.{cell_at, cell_of_call, is_kept}
+use Rattle.part_cells.specs.declared.actor_cell.ActorCell.{ActorCell}
+use Rattle.part_cells.specs.Cells.{cell_at, cell_of_call, is_kept}
 use Rattle.part_core.specs.Part
 use Rattle.part_core.specs.Part.{PartState, PartStep, CellStep, new_part, is_locked, is_updated, is_spent, is_own, is_foreign, is_drained, each_cell}
 use Rattle.part_core.specs.Sound.{IsActorSound, IsWorkDone, IsPartSound}

@@ -13,16 +13,17 @@ use Rattle.turn_core.proofs.Elements.{In-left, In-last}
 use Rattle.turn_core.proofs.Overlaps.{Enters, EntersAll, EntersAll-append, isolated_from_enters}
 use Rattle.part_core.specs.declared.settings.TypeSettings.{TypeSettings}
 use Rattle.part_core.specs.declared.event.PartEvent.{PartEvent}
-use Rattle.part_core.specs.declared.actor_cell.ActorCell.{ActorCell}
-use Rattle.part_core.specs.Keys.{same_key}
+use Rattle.part_cells.specs.declared.actor_cell.ActorCell.{ActorCell}
+use Rattle.part_cells.specs.Keys.{same_key}
 use Rattle.part_core.specs.Settings.{settings_of}
-use Rattle.part_core.specs.Cells.{cell_at}
+use Rattle.part_cells.specs.Cells.{cell_at}
 use Rattle.part_core.specs.Marks.{PartMark, TurnBegan, TurnEnded, BecameActive, BecameInactive, PartOpened}
 use Rattle.part_core.specs.Part.{PartState, new_part, part_step}
 use Rattle.part_core.specs.Sound.{IsPartSound}
 use Rattle.part_core.specs.Activity.{Activity, activity_of, after_mark, is_mark_of, replay, turn_marks, AreTidy, Replays}
 use Rattle.part_core.specs.PartRuns.{part_after, marks_after}
-use Rattle.part_core.proofs.CellLaws.{same_key-true, In-cell_at, key-cell_at}
+use Rattle.part_cells.proofs.KeyOrders.{same_key-true}
+use Rattle.part_cells.proofs.Elements.{In-cell_at, key-cell_at}
 use Rattle.part_core.proofs.PartTables.{new_part_sound, part_stepped}
 use Rattle.part_core.proofs.Replays.{replay-append, unmarked}
 use Rattle.part_core.proofs.PartReplays.{part_replays}

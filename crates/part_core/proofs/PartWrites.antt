@@ -9,13 +9,15 @@ use Rattle.turn_core.specs.CellSound.{In}
 use Rattle.part_core.specs.declared.stage.Stage.{Stage}
 use Rattle.part_core.specs.declared.stage.Stage.TheVariants.{Locked, Updated, Open, Stopped}
 use Rattle.part_core.specs.declared.event.PartEvent.{PartEvent}
-use Rattle.part_core.specs.declared.actor_cell.ActorCell.{ActorCell}
-use Rattle.part_core.specs.Cells.{cell_at, drop_cell, is_kept, first_cell}
+use Rattle.part_cells.specs.declared.actor_cell.ActorCell.{ActorCell}
+use Rattle.part_cells.specs.Cells.{cell_at, drop_cell, is_kept, first_cell}
 use Rattle.part_core.specs.Part.{PartState, with_cell, found_or_first, is_open, is_updated, is_locked, is_own, is_owned_by}
 use Rattle.part_core.specs.Sound.{total_holds, IsActorSound, IsWorkDone, NoIdleWaiterAt, HasNoCellAt, IsPartSound}
 use Rattle.part_core.specs.PartMoves.{HadActive, keeps, Stepped}
-use Rattle.part_core.proofs.CellLaws.{In-cell_at, first_sound}
-use Rattle.part_core.proofs.PartOrders.{In-keep_cell, order-keep_cell, total_holds-others, total_holds-new, total_holds-keep}
+use Rattle.part_cells.proofs.Elements.{In-cell_at, In-keep_cell}
+use Rattle.part_cells.proofs.Orders.{order-keep_cell}
+use Rattle.part_core.proofs.CellLaws.{first_sound}
+use Rattle.part_core.proofs.PartOrders.{total_holds-others, total_holds-new, total_holds-keep}
 
 -- ---- stages
 
@@ -148,16 +150,16 @@ module _ (owner : PlacementTable → ActorKey → Option HostInfo) where
         moves = keeps refl refl refl refl;
         active = λ d i a. elim (In-keep_cell p.cells x d i) [
           | inl h ↦ subst (λ (z : ActorCell). z.active ≡ true → HadActive p z.key ⊎ ((p.stage ≡ Open) × (is_own owner p z.key ≡ true))) (sym h.0) w.comes a
-          | inr j ↦ inl (d, j, a, refl)
+          | inr j ↦ inl (d, j.0, a, refl)
         ];
         sound = record {
           in_order = order-keep_cell p.cells x s.in_order;
-          each_sound = λ d i. elim (In-keep_cell p.cells x d i) [ inl h ↦ subst IsActorSound (sym h.0) w.sound | inr j ↦ s.each_sound d j ];
-          each_kept = λ d i. elim (In-keep_cell p.cells x d i) [ inl h ↦ subst (λ (z : ActorCell). is_kept z ≡ true) (sym h.0) h.1 | inr j ↦ s.each_kept d j ];
+          each_sound = λ d i. elim (In-keep_cell p.cells x d i) [ inl h ↦ subst IsActorSound (sym h.0) w.sound | inr j ↦ s.each_sound d j.0 ];
+          each_kept = λ d i. elim (In-keep_cell p.cells x d i) [ inl h ↦ subst (λ (z : ActorCell). is_kept z ≡ true) (sym h.0) h.1 | inr j ↦ s.each_kept d j.0 ];
           holds_drawn = (let h = total_holds-keep p.cells x in let k = w.held in omega arith);
           no_idle_waiter = idle_of p.stage q (λ o d i. work_done p q d refl refl (elim (In-keep_cell p.cells x d i) [
             | inl h ↦ subst (λ (z : ActorCell). IsWorkDone owner p z) (sym h.0) (w.done o)
-            | inr j ↦ at_open p.stage p o s.no_idle_waiter d j
+            | inr j ↦ at_open p.stage p o s.no_idle_waiter d j.0
           ]));
           stopped_empty = empty_of p.stage q (λ o. absurd (running o));
         };

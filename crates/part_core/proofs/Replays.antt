@@ -4,15 +4,15 @@ use Rattle.std.proofs.lemmas.Bool.{or_parts, cond_both, cond-true, cond-false, f
 use Rattle.actor_names.specs.declared.actor_key.ActorKey.{ActorKey}
 use Rattle.turn_core.specs.declared.cell.Turn.{Turn}
 use Rattle.turn_core.specs.CellSound.{In}
-use Rattle.part_core.specs.declared.actor_cell.ActorCell.{ActorCell}
-use Rattle.part_core.specs.Keys.{same_key, key_before}
-use Rattle.part_core.specs.Cells.{cell_at, insert_cell, drop_cell, keep_cell, is_kept}
+use Rattle.part_cells.specs.declared.actor_cell.ActorCell.{ActorCell}
+use Rattle.part_cells.specs.Keys.{same_key, key_before}
+use Rattle.part_cells.specs.Cells.{cell_at, insert_cell, drop_cell, keep_cell, is_kept}
 use Rattle.part_core.specs.Marks.{PartMark, TurnBegan, TurnEnded, BecameActive, BecameInactive, PartOpened}
-use Rattle.part_core.specs.Sound.{AreInOrder, IsActorSound}
+use Rattle.part_cells.specs.Order.{AreInOrder}
+use Rattle.part_core.specs.Sound.{IsActorSound}
 use Rattle.part_core.specs.Activity.{Activity, activity_in, activity_of, after_mark, is_mark_of, replay, is_inactive_of, IsLastWord, AreTidy, IsAtVersion, AreAt}
-use Rattle.part_core.proofs.KeyPlaces.{same_keys, before}
-use Rattle.part_core.proofs.CellLaws.{same_key-true}
-use Rattle.part_core.proofs.PartOrders.{other_key, same_key-self}
+use Rattle.part_cells.proofs.KeyOrders.{same_keys, before, same_key-true, same_key-self}
+use Rattle.part_cells.proofs.Elements.{other_key}
 
 -- ---- keys
 

@@ -1,20 +1,21 @@
 -- The actors of a part without its stage and table: the numbers drawn, the cells, and the calls of the last step.
 -- Own.
-use Rattle.std.specs.Prelude.{◌≡◌, ◌≤◌, ◌^◌, ℕ, Bool, true, false, zero, suc, if◌then◌else◌, List, [], ◌∷◌, length, Option, None, Some}
+use Rattle.std.specs.Prelude.{◌≡◌, ◌+◌, ◌≤◌, ◌^◌, ℕ, Bool, true, false, if◌then◌else◌, List, [], ◌∷◌, length, Option, None, Some}
+use Rattle.actor_names.specs.declared.actor_key.ActorKey.{ActorKey}
 use Rattle.turn_core.specs.declared.cell.Turn.{Turn}
 use Rattle.turn_core.specs.declared.cell.Waiter.{Waiter}
 use Rattle.turn_core.specs.Cell.{CellState}
 use Rattle.turn_core.specs.CellSound.{In}
-use Rattle.part_core.specs.declared.actor_cell.ActorCell.{ActorCell}
+use Rattle.part_cells.specs.declared.actor_cell.ActorCell.{ActorCell}
 use Rattle.part_core.specs.declared.standing.Standing.{Standing}
 use Rattle.part_core.specs.declared.event.PartReply.{PartReply}
 use Rattle.part_core.specs.declared.event.PartReply.TheVariants as replies
-use Rattle.part_core.specs.Cells.{is_kept, total_calls}
+use Rattle.part_cells.specs.Cells.{drop_cell, total_calls}
 use Rattle.part_core.specs.Marks.{marks_of_begin}
 use Rattle.part_core.specs.Part.{PartState, PartStep, next_drawn, with_cell, refused}
 use Rattle.part_core.specs.Rooms.{PartView}
 use Rattle.part_core.specs.Settings.{AreShallow}
-use Rattle.part_core.specs.Sound.{AreInOrder}
+use Rattle.part_cells.specs.Order.{AreInOrder}
 
 pub record ActorsState : Type 0 where
   pub drawn : ℕ
@@ -55,22 +56,30 @@ pub record IsNumbered (drawn : ℕ) (c : CellState) : Type 0 where
   pub waiters : (w : Waiter) → In w c.line → w.call ≤ drawn
   pub held : c.holds ≤ drawn
 
--- What is kept beside the cells: a count of the calls that are open or wait, and room for as many in the list of
--- the last step.
-pub record AreActorsKept (drawn : ℕ) (cells : List ActorCell) (count room : ℕ) : Type 0 where
+-- so it is of each call of a cell, open or in its line
+pub record IsOfEachCall (P : ℕ → Type 0) (c : CellState) : Type 0 where
+  pub open_turns : (t : Turn) → In t c.turns → P t.call
+  pub waiters : (w : Waiter) → In w c.line → P w.call
+
+-- a look-up of each call of the cell gives the cell's key
+abbrev pub IsIndexed : (ℕ → Option ActorKey) → ActorCell → Type 0
+IsIndexed look c = IsOfEachCall (λ n. look n ≡ Some c.key) c.inner
+
+abbrev pub AreIndexed : (ℕ → Option ActorKey) → List ActorCell → Type 0
+AreIndexed look cells = (c : ActorCell) → In c cells → IsIndexed look c
+
+-- What is kept beside the cells: how many there are, look-ups of their calls, a count of the calls that are open or
+-- wait, and room for as many in the list of the last step. A look-up may give a key that no longer has the call.
+pub record AreActorsKept (drawn : ℕ) (cells : List ActorCell) (size : ℕ) (look : ℕ → Option ActorKey) (count room : ℕ) : Type 0 where
   pub drawn_fits : drawn ≤ 2 ^ 62
   pub in_order : AreInOrder cells
   pub numbered : (c : ActorCell) → In c cells → IsNumbered drawn c.inner
   pub few : length cells ≤ 65536
+  pub sized : size ≡ length cells
+  pub indexed : AreIndexed look cells
   pub counted : total_calls cells ≤ count
   pub count_drawn : count ≤ drawn
   pub has_room : count ≤ room
-
--- the cells, where the one at this place is dropped if it isn't kept
-abbrev pub settled : List ActorCell → ℕ → List ActorCell
-settled [] i = []
-settled (c ∷ cs) zero = if is_kept c then c ∷ cs else cs
-settled (c ∷ cs) (suc i) = c ∷ settled cs i
 
 -- ---- a call asked at a cell
 
@@ -79,6 +88,10 @@ abbrev pub is_accepted : PartReply → Bool
 is_accepted (replies.Begun call chain) = true
 is_accepted (replies.Waits call place) = true
 is_accepted reply = false
+
+-- the numbers drawn after the reply
+abbrev pub drawn_after : ℕ → PartReply → ℕ
+drawn_after n reply = if is_accepted reply then n + 1 else n
 
 -- the step of which this is the reply, and `after` the call's cell
 abbrev pub asked_with : PartState → ActorCell → ActorCell → PartReply → PartStep
@@ -106,3 +119,8 @@ begun_in reply = []
 abbrev pub begun_next_in : Option ℕ → List ℕ
 begun_next_in None = []
 begun_next_in (Some call) = call ∷ []
+
+-- the cells without the one that was taken out
+abbrev pub without_taken : List ActorCell → Option ActorCell → List ActorCell
+without_taken cells None = cells
+without_taken cells (Some c) = drop_cell cells c.key

@@ -1,8 +1,6 @@
 pub mod Keys
 pub mod Receipts
 pub mod Settings
-pub mod Cells
-pub mod Places
 pub mod Marks
 pub mod Part
 pub mod Sound

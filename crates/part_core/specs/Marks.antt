@@ -4,7 +4,7 @@ use Rattle.std.specs.Prelude.{ℕ, Bool, true, false, List, [], ◌∷◌, ◌++
 use Rattle.actor_names.specs.declared.actor_key.ActorKey.{ActorKey}
 use Rattle.turn_core.specs.declared.cell.Turn.{Turn}
 use Rattle.turn_core.specs.declared.cell.Waiter.{Waiter}
-use Rattle.part_core.specs.declared.actor_cell.ActorCell.{ActorCell}
+use Rattle.part_cells.specs.declared.actor_cell.ActorCell.{ActorCell}
 
 pub data PartMark : Type 0 where
   TurnBegan : (key : ActorKey) → (call : ℕ) → (chain : Option (List ℕ)) → PartMark

@@ -27,11 +27,11 @@ use Rattle.part_core.specs.declared.event.PartEvent.{PartEvent}
 use Rattle.part_core.specs.declared.event.PartEvent.TheVariants as events
 use Rattle.part_core.specs.declared.event.PartReply.{PartReply}
 use Rattle.part_core.specs.declared.event.PartReply.TheVariants as replies
-use Rattle.part_core.specs.declared.actor_cell.ActorCell.{ActorCell}
+use Rattle.part_cells.specs.declared.actor_cell.ActorCell.{ActorCell}
 use Rattle.part_core.specs.Keys.{same_member}
 use Rattle.part_core.specs.Receipts.{ReceiptState}
 use Rattle.part_core.specs.Settings.{settings_of}
-use Rattle.part_core.specs.Cells.{cell_at, keep_cell, cell_of_call, first_cell}
+use Rattle.part_cells.specs.Cells.{cell_at, keep_cell, cell_of_call, first_cell}
 use Rattle.part_core.specs.Marks.{PartMark, TurnEnded, BecameInactive, PartOpened, marks_of_begin, marks_of_next, marks_of_ends, marks_of_stop}
 
 pub record PartState : Type 0 where

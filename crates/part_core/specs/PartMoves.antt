@@ -8,7 +8,7 @@ use Rattle.turn_core.specs.CellSound.{In}
 use Rattle.part_core.specs.declared.stage.Stage.TheVariants.{Locked, Updated, Open, Stopped}
 use Rattle.part_core.specs.declared.event.PartEvent.{PartEvent}
 use Rattle.part_core.specs.declared.event.PartEvent.TheVariants as events
-use Rattle.part_core.specs.declared.actor_cell.ActorCell.{ActorCell}
+use Rattle.part_cells.specs.declared.actor_cell.ActorCell.{ActorCell}
 use Rattle.part_core.specs.Part.{PartState, is_own, is_drained}
 use Rattle.part_core.specs.Sound.{IsPartSound}
 

@@ -9,18 +9,13 @@ use Rattle.turn_core.specs.Cell.{CellState}
 use Rattle.turn_core.specs.CellSound.{In, IsCellSound}
 use Rattle.part_core.specs.declared.stage.Stage.{Stage}
 use Rattle.part_core.specs.declared.stage.Stage.TheVariants.{Locked, Updated, Open, Stopped}
-use Rattle.part_core.specs.declared.actor_cell.ActorCell.{ActorCell}
+use Rattle.part_cells.specs.declared.actor_cell.ActorCell.{ActorCell}
 use Rattle.part_core.specs.declared.event.PartReply.{PartReply}
 use Rattle.part_core.specs.declared.event.PartReply.TheVariants as replies
-use Rattle.part_core.specs.Keys.{key_before}
 use Rattle.part_core.specs.Receipts.{ReceiptState}
-use Rattle.part_core.specs.Cells.{is_kept}
+use Rattle.part_cells.specs.Cells.{is_kept}
+use Rattle.part_cells.specs.Order.{AreInOrder}
 use Rattle.part_core.specs.Part.{PartState, is_own, receipt_of}
-
--- each key stands before those that follow
-abbrev pub AreInOrder : List ActorCell → Type 0
-AreInOrder [] = Unit {0}
-AreInOrder (c ∷ cs) = ((d : ActorCell) → In d cs → key_before c.key d.key ≡ true) × AreInOrder cs
 
 -- how many holds there are
 abbrev pub total_holds : List ActorCell → ℕ

@@ -1,18 +1,19 @@
 // A call that is asked at a cell.
-ghost use Rattle.std.specs.Prelude.{◌≡◌, ◌+◌, ◌<◌, ◌≤◌, ◌^◌, true, false, not, IsSome};
+ghost use Rattle.std.specs.Prelude.{◌≡◌, ◌+◌, ◌<◌, ◌≤◌, ◌^◌, ℕ, true, false, not, Option, IsSome};
 ghost use Rattle.std.specs.Option.{option_copied};
+ghost use Rattle.actor_names.specs.declared.actor_key.ActorKey.{ActorKey};
 ghost use Rattle.turn_core.specs.Cell.{is_in_cell};
-ghost use Rattle.part_core.specs.Actors.{AsksIn, AsksAtCell, is_accepted, IsNumbered};
-ghost use Rattle.part_core.specs.Cells.{calls_in, is_kept};
+ghost use Rattle.part_core.specs.Actors.{AsksIn, AsksAtCell, is_accepted, IsNumbered, IsIndexed};
+ghost use Rattle.part_cells.specs.Cells.{calls_in, is_kept};
 ghost use Rattle.part_core.specs.Part.{PartState, is_open, ask_cell, ask_owned, ask_here, ring_owner};
 
-use crate::actor_cell::ActorCell;
 use crate::chains::carries;
 use crate::event::PartReply;
 use crate::owners::{is_same_member, owner_host};
 use crate::stage::Stage;
 use crate::standing::Standing;
 use actor_names::ChainId;
+use part_cells::ActorCell;
 use std::alloc::Global;
 use turn_core::{Asked, CellError};
 
@@ -35,6 +36,7 @@ fn ask_cell(
     ensures key { cell.new.key ≡ cell.old.key }
     ensures calls { calls_in cell.new ≤ calls_in cell.old + 1 }
     ensures numbered { IsNumbered drawn cell.old.inner → IsNumbered (drawn + 1) cell.new.inner }
+    ensures indexed { (look : ℕ → Option ActorKey) → look (drawn + 1) ≡ Some cell.old.key → IsIndexed look cell.old → IsIndexed look cell.new }
 {
     if full {
         return PartReply::PartFull;
@@ -71,6 +73,7 @@ fn ask_owned(
     ensures key { cell.new.key ≡ cell.old.key }
     ensures calls { calls_in cell.new ≤ calls_in cell.old + 1 }
     ensures numbered { IsNumbered drawn cell.old.inner → IsNumbered (drawn + 1) cell.new.inner }
+    ensures indexed { (look : ℕ → Option ActorKey) → look (drawn + 1) ≡ Some cell.old.key → IsIndexed look cell.old → IsIndexed look cell.new }
 {
     let version = standing.table.version();
     match owner_host(&standing.table, &cell.key) {
@@ -108,6 +111,7 @@ pub(crate) fn ask_here(
     ensures key { cell.new.key ≡ cell.old.key }
     ensures calls { calls_in cell.new ≤ calls_in cell.old + 1 }
     ensures numbered { IsNumbered drawn cell.old.inner → IsNumbered (drawn + 1) cell.new.inner }
+    ensures indexed { (look : ℕ → Option ActorKey) → look (drawn + 1) ≡ Some cell.old.key → IsIndexed look cell.old → IsIndexed look cell.new }
 {
     if carries(&cell.inner, chain.as_ref()) {
         return ask_cell(alloc, drawn, full, cell, chain, false);

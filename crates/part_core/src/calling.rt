@@ -1,65 +1,29 @@
 // Calls of a part's actors: asked, polled and ended.
-ghost use Rattle.std.specs.Prelude.{◌≡◌, ◌<◌, ◌^◌, [], false};
-ghost use Rattle.std.specs.declared.result.Result.TheVariants.{Ok, Err};
+ghost use Rattle.std.specs.Prelude.{◌≡◌, ◌<◌, ◌^◌, [], None, false, IfSome};
+ghost use Rattle.turn_core.specs.Cell.{cell_poll};
+ghost use Rattle.part_cells.specs.Cells.{cell_at, cell_of_call, keep_cell};
 ghost use Rattle.part_core.specs.Actors.{state_of, view_of};
-ghost use Rattle.part_core.specs.Cells.{cell_at};
 ghost use Rattle.part_core.specs.Part.{is_stopped, ask_part, ask_found, poll_part, end_part, ring_owner};
-ghost use Rattle.part_core.specs.Places.{place_in};
 ghost use Rattle.part_core.specs.Rooms.{Gives, GivesInMemory};
 ghost use Rattle.part_core.specs.Settings.{AreShallow};
 
-use crate::actor_cell::ActorCell;
-use crate::actors::{
-    Actors, MOST_CELLS, MOST_DRAWN, insert_cell, is_accepted, note_begun, note_next,
-};
-use crate::asking::ask_here;
-use crate::chains::{call_chain, copy_chain};
+use crate::actors::{Actors, MOST_CELLS, MOST_DRAWN};
+use crate::calls::{is_accepted, note_next};
+use crate::chains::copy_chain;
 use crate::event::PartReply;
+use crate::finding::{call_cell, put_back, take_call};
 use crate::owners::{may_hand_over, moved_reply};
-use crate::search::{call_place, key_place, settle};
 use crate::settings::depth_of;
 use crate::standing::Standing;
 use actor_names::{ActorKey, ChainId};
+use part_cells::{ActorCell, leaf};
 use turn_core::{Cell, CellEnd, CellPoll};
 
 impl Actors {
-    /// A call of an actor that has a cell, at this place.
-    fn ask_known(
-        &mut self,
-        standing: &Standing,
-        at: usize,
-        key: &ActorKey,
-        chain: Option<ChainId>,
-    ) -> PartReply
-        requires running { is_stopped standing.now.stage ≡ false }
-        requires numbers { self.old.drawn < 2 ^ 62 }
-        requires none { self.old.recent ≡ [] }
-        requires place { place_in key.now self.old.cells ≡ Ok at }
-        ensures { GivesInMemory (ask_found ring_owner (state_of standing.now self.old) key.now chain (cell_at self.old.cells key.now)) result (state_of standing.now self.old) (view_of standing.now self.new) }
-    {
-        let depth = self.cells[at].inner.depth();
-        let Ok(chain) = call_chain(self.alloc, standing, self.drawn, depth, chain) else {
-            return PartReply::OutOfMemory;
-        };
-        let Ok(()) = self.calls.reserve(self.count + 1) else {
-            return PartReply::OutOfMemory;
-        };
-        let cell = &mut self.cells[at];
-        let reply = ask_here(self.alloc, standing, self.drawn, false, cell, chain);
-        if is_accepted(&reply) {
-            self.drawn += 1;
-            self.count += 1;
-            note_begun(&mut self.calls, &reply);
-            settle(&mut self.cells, at);
-        }
-        reply
-    }
-
-    /// A call of an actor that has no cell; a first one is to stand at this place.
+    /// A call of an actor that has no cell.
     fn ask_first(
         &mut self,
         standing: &Standing,
-        at: usize,
         key: ActorKey,
         chain: Option<ChainId>,
     ) -> PartReply
@@ -67,32 +31,24 @@ impl Actors {
         requires shallow { AreShallow standing.now.kinds }
         requires numbers { self.old.drawn < 2 ^ 62 }
         requires none { self.old.recent ≡ [] }
-        requires place { place_in key self.old.cells ≡ Err at }
+        requires absent { cell_at self.old.cells key ≡ None }
         ensures { GivesInMemory (ask_found ring_owner (state_of standing.now self.old) key chain (cell_at self.old.cells key)) result (state_of standing.now self.old) (view_of standing.now self.new) }
     {
         let depth = depth_of(standing.kinds.as_slice(), &key.kind);
-        let Ok(chain) = call_chain(self.alloc, standing, self.drawn, depth, chain) else {
-            return PartReply::OutOfMemory;
-        };
         let Ok(inner) = Cell::new(self.alloc, depth) else {
             return PartReply::OutOfMemory;
         };
-        let Ok(()) = self.cells.reserve(1) else {
+        let Ok(mut node) = leaf(self.alloc, first_cell(key, inner)) else {
             return PartReply::OutOfMemory;
         };
-        let Ok(()) = self.calls.reserve(self.count + 1) else {
-            return PartReply::OutOfMemory;
-        };
-        let full = self.cells.len() >= MOST_CELLS;
-        let mut cell = first_cell(key, inner);
-        let reply = ask_here(self.alloc, standing, self.drawn, full, &mut cell, chain);
+        let full = self.size >= MOST_CELLS;
+        let cell = &mut node.cell;
+        let reply = self.calls.ask(self.alloc, standing, full, cell, chain);
         if !is_accepted(&reply) {
             return reply;
         }
-        self.drawn += 1;
-        self.count += 1;
-        note_begun(&mut self.calls, &reply);
-        insert_cell(&mut self.cells, at, cell);
+        self.size += 1;
+        self.cells.put(node);
         reply
     }
 
@@ -108,19 +64,24 @@ impl Actors {
         requires shallow { AreShallow standing.now.kinds }
         ensures { GivesInMemory (ask_part ring_owner (state_of standing.now self.old) key chain least) result (state_of standing.now self.old) (view_of standing.now self.new) }
     {
-        self.calls.clear();
-        if self.drawn >= MOST_DRAWN {
-            return PartReply::Spent { count: self.drawn };
+        self.calls.recent.clear();
+        if self.calls.drawn >= MOST_DRAWN {
+            return PartReply::Spent {
+                count: self.calls.drawn,
+            };
         }
         if standing.seen < least {
             return PartReply::Behind {
                 seen: standing.seen,
             };
         }
-        match key_place(self.cells.as_slice(), &key) {
-            Ok(at) => self.ask_known(standing, at, &key, chain),
-            Err(at) => self.ask_first(standing, at, key, chain),
-        }
+        let Some(mut node) = self.cells.take(&key) else {
+            return self.ask_first(standing, key, chain);
+        };
+        let cell = &mut node.cell;
+        let reply = self.calls.ask(self.alloc, standing, false, cell, chain);
+        self.cells.put(node);
+        reply
     }
 
     /// Somebody asks where the call stands; a moved one is taken off its line.
@@ -128,11 +89,10 @@ impl Actors {
         requires running { is_stopped standing.now.stage ≡ false }
         ensures { GivesInMemory (poll_part ring_owner (state_of standing.now self.old) call) result (state_of standing.now self.old) (view_of standing.now self.new) }
     {
-        self.calls.clear();
-        let Some(at) = call_place(self.cells.as_slice(), call) else {
+        self.calls.recent.clear();
+        let Some(cell) = call_cell(&self.cells, &self.calls.index, call) else {
             return PartReply::AlreadyEnded;
         };
-        let cell = &self.cells[at];
         match cell.inner.look(call) {
             CellPoll::Begun => match copy_chain(self.alloc, cell.inner.chain()) {
                 Ok(chain) => PartReply::Begun { call, chain },
@@ -143,36 +103,53 @@ impl Actors {
             CellPoll::Moved => match moved_reply(self.alloc, &standing.table, &cell.key) {
                 Err(_) => PartReply::OutOfMemory,
                 Ok(reply) => {
-                    let cell = &mut self.cells[at];
-                    let _moved = cell.inner.poll(call);
-                    self.count -= 1;
-                    settle(&mut self.cells, at);
+                    self.take_moved(call);
                     reply
                 }
             },
         }
     }
 
+    /// Takes a moved call off its line.
+    fn take_moved(&mut self, call: u64)
+        requires { IfSome (cell_of_call self.old.cells call) (λ c. (cell_poll c.inner call).answer ≡ CellPoll.Moved) }
+        ensures { IfSome (cell_of_call self.old.cells call) (λ c. self.new ≡ record self.old { cells = keep_cell self.old.cells (record c { inner = (cell_poll c.inner call).cell }) }) }
+    {
+        let Some(mut node) = take_call(&mut self.cells, &self.calls.index, call) else {
+            return;
+        };
+        let cell = &mut node.cell;
+        let _moved = cell.inner.poll(call);
+        self.calls.leave(call, cell);
+        put_back(&mut self.cells, &mut self.size, node);
+    }
+
     /// The call's turn is over; where the actor is free then, its next call begins.
     pub(crate) fn end(&mut self, standing: &Standing, call: u64, now: u64) -> PartReply
         ensures { Gives (end_part ring_owner (state_of standing.now self.old) call now) result (view_of standing.now self.new) }
     {
-        self.calls.clear();
-        let Some(at) = call_place(self.cells.as_slice(), call) else {
+        self.calls.recent.clear();
+        let Some(mut node) = take_call(&mut self.cells, &self.calls.index, call) else {
             return PartReply::AlreadyEnded;
         };
-        let cell = &mut self.cells[at];
+        let cell = &mut node.cell;
         let may_begin = may_hand_over(standing, cell);
         match cell.inner.end(call, may_begin) {
             CellEnd::Ended { next } => {
                 cell.last = cell.last.max(now);
-                self.count -= 1;
-                note_next(&mut self.calls, next);
-                settle(&mut self.cells, at);
+                self.calls.leave(call, cell);
+                note_next(&mut self.calls.recent, next);
+                put_back(&mut self.cells, &mut self.size, node);
                 PartReply::Ended { next }
             }
-            CellEnd::AlreadyEnded => PartReply::AlreadyEnded,
-            CellEnd::StillWaiting => PartReply::StillWaiting,
+            CellEnd::AlreadyEnded => {
+                self.cells.put(node);
+                PartReply::AlreadyEnded
+            }
+            CellEnd::StillWaiting => {
+                self.cells.put(node);
+                PartReply::StillWaiting
+            }
         }
     }
 }

@@ -1,20 +1,22 @@
 // The deactivation of actors: one is taken, and its deactivation call is over.
-ghost use Rattle.std.specs.Prelude.{◌≡◌, ◌<◌, ◌&&◌, length, slice_get, false, None, IfSome, IfNone};
+ghost use Rattle.std.specs.Prelude.{◌≡◌, ◌&&◌, false};
+ghost use Rattle.std.specs.Option.{option_copied};
 ghost use Rattle.part_core.specs.Actors.{no_actors, state_of, view_of};
 ghost use Rattle.part_core.specs.Part.{is_stopped, is_idle, may_close, first_to_close, take_closing, closed_part, is_updated, is_foreign, ring_owner};
 ghost use Rattle.part_core.specs.Rooms.{Gives, GivesInMemory};
 
-use crate::actor_cell::ActorCell;
-use crate::actors::{Actors, note_next};
+use crate::actors::Actors;
+use crate::calls::note_next;
 use crate::event::PartReply;
+use crate::finding::put_back;
 use crate::holding::is_awake;
 use crate::opening::begin_if;
 use crate::owners::{is_own, is_served};
-use crate::search::{cell_place, settle};
 use crate::settings::idle_of;
 use crate::stage::Stage;
 use crate::standing::Standing;
 use actor_names::ActorKey;
+use part_cells::{ActorCell, Node, Root, Tree};
 
 /// Whether no call waits that isn't moved, and the idle time of the actor's type has passed since its last turn or
 /// hold.
@@ -45,18 +47,23 @@ fn may_close(standing: &Standing, now: u64, cell: &ActorCell) -> bool
         && (gives_up(standing, &cell.key) || is_idle(standing, now, cell))
 }
 
-/// Where the first cell stands whose actor may be taken.
-fn close_place(standing: &Standing, cells: &[ActorCell], now: u64) -> Option<usize>
-    ensures none { IfNone result (first_to_close ring_owner (state_of standing.now no_actors) now cells.now ≡ None) }
-    ensures place { IfSome result (λ at. first_to_close ring_owner (state_of standing.now no_actors) now cells.now ≡ slice_get cells.now at) }
-    ensures within { IfSome result (λ at. at < length cells.now) }
+/// The first cell whose actor may be taken.
+fn first_to_close<'a>(standing: &Standing, cells: &'a Tree, now: u64) -> Option<&'a ActorCell>
+    ensures { option_copied result ≡ first_to_close ring_owner (state_of standing.now no_actors) now cells.now }
 {
-    for (i, cell) in cells.iter().enumerate() {
-        if may_close(standing, now, cell) {
-            return Some(i);
+    match &cells.root {
+        Root::Empty => None,
+        Root::Full(node) => {
+            let top: &Node = node;
+            if let Some(cell) = first_to_close(standing, &top.left, now) {
+                return Some(cell);
+            }
+            if may_close(standing, now, &top.cell) {
+                return Some(&top.cell);
+            }
+            first_to_close(standing, &top.right, now)
         }
     }
-    None
 }
 
 impl Actors {
@@ -65,16 +72,18 @@ impl Actors {
         requires running { is_stopped standing.now.stage ≡ false }
         ensures { GivesInMemory (take_closing ring_owner (state_of standing.now self.old) now) result (state_of standing.now self.old) (view_of standing.now self.new) }
     {
-        self.calls.clear();
-        let Some(at) = close_place(standing, self.cells.as_slice(), now) else {
+        self.calls.recent.clear();
+        let Some(cell) = first_to_close(standing, &self.cells, now) else {
             return PartReply::NoneClosing;
         };
-        let Ok(key) = self.cells[at].key.copy(self.alloc) else {
+        let Ok(key) = cell.key.copy(self.alloc) else {
             return PartReply::OutOfMemory;
         };
-        let cell = &mut self.cells[at];
-        cell.closing = true;
-        settle(&mut self.cells, at);
+        let Some(mut node) = self.cells.take(&key) else {
+            return PartReply::NoneClosing;
+        };
+        node.cell.closing = true;
+        put_back(&mut self.cells, &mut self.size, node);
         PartReply::Close { key }
     }
 
@@ -82,20 +91,21 @@ impl Actors {
     pub(crate) fn closed(&mut self, standing: &Standing, key: &ActorKey) -> PartReply
         ensures { Gives (closed_part ring_owner (state_of standing.now self.old) key.now) result (view_of standing.now self.new) }
     {
-        self.calls.clear();
-        let Some(at) = cell_place(self.cells.as_slice(), key) else {
+        self.calls.recent.clear();
+        let Some(mut node) = self.cells.take(key) else {
             return PartReply::NotClosing;
         };
-        let cell = &mut self.cells[at];
+        let cell = &mut node.cell;
         if !cell.closing {
+            self.cells.put(node);
             return PartReply::NotClosing;
         }
         let may_begin = is_served(standing, &cell.key);
         let next = begin_if(&mut cell.inner, may_begin);
         cell.active = next.is_some();
         cell.closing = false;
-        note_next(&mut self.calls, next);
-        settle(&mut self.cells, at);
+        note_next(&mut self.calls.recent, next);
+        put_back(&mut self.cells, &mut self.size, node);
         PartReply::ClosedDone { next }
     }
 }

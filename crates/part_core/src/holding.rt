@@ -4,12 +4,12 @@ ghost use Rattle.part_core.specs.Actors.{state_of, view_of};
 ghost use Rattle.part_core.specs.Part.{hold_part, release_part, ring_owner};
 ghost use Rattle.part_core.specs.Rooms.{Gives};
 
-use crate::actor_cell::ActorCell;
 use crate::actors::{Actors, MOST_DRAWN};
 use crate::event::PartReply;
-use crate::search::{cell_place, settle};
+use crate::finding::put_back;
 use crate::standing::Standing;
 use actor_names::ActorKey;
+use part_cells::ActorCell;
 
 /// Whether the actor is active and isn't closing.
 pub(crate) fn is_awake(cell: &ActorCell) -> bool
@@ -23,39 +23,45 @@ impl Actors {
     pub(crate) fn hold(&mut self, standing: &Standing, key: &ActorKey) -> PartReply
         ensures { Gives (hold_part ring_owner (state_of standing.now self.old) key.now) result (view_of standing.now self.new) }
     {
-        self.calls.clear();
-        let Some(at) = cell_place(self.cells.as_slice(), key) else {
+        self.calls.recent.clear();
+        let Some(mut node) = self.cells.take(key) else {
             return PartReply::NotActive;
         };
-        let cell = &self.cells[at];
+        let cell = &mut node.cell;
         if !is_awake(cell) {
+            self.cells.put(node);
             return PartReply::NotActive;
         }
-        if self.drawn >= MOST_DRAWN {
-            return PartReply::Spent { count: self.drawn };
+        if self.calls.drawn >= MOST_DRAWN {
+            self.cells.put(node);
+            return PartReply::Spent {
+                count: self.calls.drawn,
+            };
         }
-        let cell = &mut self.cells[at];
         cell.inner.hold();
-        self.drawn += 1;
-        settle(&mut self.cells, at);
-        PartReply::Held { n: self.drawn }
+        self.calls.drawn += 1;
+        put_back(&mut self.cells, &mut self.size, node);
+        PartReply::Held {
+            n: self.calls.drawn,
+        }
     }
 
     /// One hold less of the actor.
     pub(crate) fn release(&mut self, standing: &Standing, key: &ActorKey, now: u64) -> PartReply
         ensures { Gives (release_part ring_owner (state_of standing.now self.old) key.now now) result (view_of standing.now self.new) }
     {
-        self.calls.clear();
-        let Some(at) = cell_place(self.cells.as_slice(), key) else {
+        self.calls.recent.clear();
+        let Some(mut node) = self.cells.take(key) else {
             return PartReply::NotHeld;
         };
-        if self.cells[at].inner.holds() == 0 {
+        let cell = &mut node.cell;
+        if cell.inner.holds() == 0 {
+            self.cells.put(node);
             return PartReply::NotHeld;
         }
-        let cell = &mut self.cells[at];
         let _released = cell.inner.release();
         cell.last = cell.last.max(now);
-        settle(&mut self.cells, at);
+        put_back(&mut self.cells, &mut self.size, node);
         PartReply::Released
     }
 }

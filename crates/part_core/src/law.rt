@@ -9,7 +9,7 @@ ghost use Rattle.part_core.specs.declared.event.PartEvent.{PartEvent};
 ghost use Rattle.part_core.specs.declared.receipt.SeenStage.TheVariants.{Drained};
 ghost use Rattle.turn_core.specs.CellMarks.{TurnsIsolated};
 ghost use Rattle.part_core.specs.Settings.{settings_of};
-ghost use Rattle.part_core.specs.Cells.{cell_at};
+ghost use Rattle.part_cells.specs.Cells.{cell_at};
 ghost use Rattle.part_core.specs.Activity.{Replays, activity_of, no_activity, replay, turn_marks};
 ghost use Rattle.part_core.specs.Part.{PartState, new_part, part_step, seen_stage};
 ghost use Rattle.part_core.specs.Sound.{IsPartSound, NoIdleWaiter, TellsState};

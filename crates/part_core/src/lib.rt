@@ -1,16 +1,17 @@
 // One part of a sidecar: the actors whose keys fall into it, its stage in a placement round and its table.
 //
-// Promise: each step of a `Part` is the part's state machine (`specs/Part`). Stands on `place_table`, `turn_core`
-// and `actor_names`.
+// Promise: each step of a `Part` is the part's state machine (`specs/Part`). Stands on `part_cells`, `place_table`,
+// `turn_core` and `actor_names`.
 #![tactic(auto)]
 
-mod actor_cell;
 mod actors;
 mod asking;
 mod calling;
+mod calls;
 mod chains;
 mod closing;
 mod event;
+mod finding;
 mod holding;
 mod law;
 mod opening;
@@ -18,7 +19,6 @@ mod owners;
 mod part;
 mod receipt;
 mod rounds;
-mod search;
 mod settings;
 mod shard;
 mod stage;

@@ -1,15 +1,15 @@
 // The opening of a part: waiting calls begin in its own cells, and are moved in those of other owners.
-ghost use Rattle.std.specs.Prelude.{◌≡◌, ◌+◌, ◌<◌, ◌≤◌, ◌++◌, length, option_map, vec_len, vec_capacity};
+ghost use Rattle.std.specs.Prelude.{◌≡◌, ◌+◌, ◌*◌, ◌≤◌, ◌++◌, length, option_map, vec_len, vec_capacity};
 ghost use Rattle.turn_core.specs.Cell.{call_of, next_call, begun_next};
 ghost use Rattle.part_core.specs.Actors.{no_actors, state_of, begun_next_in};
-ghost use Rattle.part_core.specs.Cells.{calls_in, total_calls};
+ghost use Rattle.part_cells.specs.Cells.{calls_in, total_calls};
 ghost use Rattle.part_core.specs.Marks.{begun_calls};
 ghost use Rattle.part_core.specs.Part.{open_cell, each_cell, ring_owner};
 
-use crate::actor_cell::ActorCell;
-use crate::actors::{Actors, note_next};
+use crate::calls::note_next;
 use crate::owners::is_own;
 use crate::standing::Standing;
+use part_cells::{ActorCell, Node, Root, Tree};
 use turn_core::Cell;
 
 /// The call that began in a cell, and how many of its calls were moved.
@@ -71,27 +71,29 @@ fn begun_count(next: Option<u64>) -> u32
 }
 
 /// What the opening does with every cell, one after another.
-pub(crate) fn open_cells(
-    standing: &Standing,
-    cells: &mut Vec<ActorCell>,
-    calls: &mut Vec<u64>,
-) -> Opening
-    requires few { length cells.old.items ≤ 65536 }
-    requires room { vec_len calls.old + total_calls cells.old.items ≤ vec_capacity calls.old }
-    ensures cells { cells.new.items ≡ (each_cell (open_cell ring_owner (state_of standing.now no_actors)) cells.old.items).cells }
-    ensures calls { calls.new.items ≡ calls.old.items ++ begun_calls (each_cell (open_cell ring_owner (state_of standing.now no_actors)) cells.old.items).marks }
-    ensures begun { result.begun ≡ (each_cell (open_cell ring_owner (state_of standing.now no_actors)) cells.old.items).first }
-    ensures moved { result.moved ≡ (each_cell (open_cell ring_owner (state_of standing.now no_actors)) cells.old.items).second }
+pub(crate) fn open_cells(standing: &Standing, cells: &mut Tree, calls: &mut Vec<u64>) -> Opening
+    requires few { length cells.old ≤ 65536 }
+    requires room { vec_len calls.old + total_calls cells.old ≤ vec_capacity calls.old }
+    ensures cells { cells.new ≡ (each_cell (open_cell ring_owner (state_of standing.now no_actors)) cells.old).cells }
+    ensures calls { calls.new.items ≡ calls.old.items ++ begun_calls (each_cell (open_cell ring_owner (state_of standing.now no_actors)) cells.old).marks }
+    ensures begun { result.begun ≡ (each_cell (open_cell ring_owner (state_of standing.now no_actors)) cells.old).first }
+    ensures moved { result.moved ≡ (each_cell (open_cell ring_owner (state_of standing.now no_actors)) cells.old).second }
+    ensures few { result.begun ≤ length cells.old }
+    ensures few_moved { result.moved ≤ 1024 * length cells.old }
     ensures kept_room { vec_capacity calls.old ≤ vec_capacity calls.new }
 {
-    let mut begun = 0;
-    let mut moved = 0;
-    for i in 0..cells.len() {
-        let cell = &mut cells[i];
-        let opening = open_cell(standing, cell);
-        begun += begun_count(opening.next);
-        moved += opening.moved;
-        note_next(calls, opening.next);
+    match &mut cells.root {
+        Root::Empty => Opening { begun: 0, moved: 0 },
+        Root::Full(node) => {
+            let top: &mut Node = node;
+            let left = open_cells(standing, &mut top.left, calls);
+            let here = open_cell(standing, &mut top.cell);
+            note_next(calls, here.next);
+            let right = open_cells(standing, &mut top.right, calls);
+            Opening {
+                begun: left.begun + begun_count(here.next) + right.begun,
+                moved: left.moved + here.moved + right.moved,
+            }
+        }
     }
-    Opening { begun, moved }
 }

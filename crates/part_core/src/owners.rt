@@ -3,13 +3,13 @@ ghost use Rattle.std.specs.Prelude.{◌≡◌, ◌<◌, ◌&&◌, not, length, I
 ghost use Rattle.std.specs.Option.{option_copied};
 ghost use Rattle.part_core.specs.Actors.{ActorsState, state_of};
 ghost use Rattle.part_core.specs.Keys.{same_member};
-ghost use Rattle.part_core.specs.Part.{ring_owner, is_owned_by, is_open, owner_reply, no_active_foreign};
+ghost use Rattle.part_core.specs.Part.{ring_owner, is_owned_by, is_foreign, is_open, owner_reply, no_active_foreign};
 
-use crate::actor_cell::ActorCell;
 use crate::event::PartReply;
 use crate::stage::Stage;
 use crate::standing::Standing;
 use actor_names::{ActorKey, Member, OutOfMemory};
+use part_cells::{ActorCell, Node, Root, Tree};
 use place_table::{HostInfo, Table};
 use std::alloc::Global;
 
@@ -39,15 +39,26 @@ pub(crate) fn is_own(table: &Table, member: &Member, key: &ActorKey) -> bool
 }
 
 /// Whether no active actor belongs to another owner.
-pub(crate) fn is_drained(standing: &Standing, cells: &[ActorCell]) -> bool
+pub(crate) fn is_drained(standing: &Standing, cells: &Tree) -> bool
     ensures { (a : ActorsState) → result ≡ no_active_foreign ring_owner (state_of standing.now a) cells.now }
 {
-    for cell in cells {
-        if cell.active && !is_own(&standing.table, &standing.member, &cell.key) {
-            return false;
+    match &cells.root {
+        Root::Empty => true,
+        Root::Full(node) => {
+            let top: &Node = node;
+            if !is_drained(standing, &top.left) || !is_kept_here(standing, &top.cell) {
+                return false;
+            }
+            is_drained(standing, &top.right)
         }
     }
-    true
+}
+
+/// Whether the actor isn't active, or belongs to this member.
+fn is_kept_here(standing: &Standing, cell: &ActorCell) -> bool
+    ensures { (a : ActorsState) → result ≡ not (cell.now.active && is_foreign ring_owner (state_of standing.now a) cell.now.key) }
+{
+    !cell.active || is_own(&standing.table, &standing.member, &cell.key)
 }
 
 /// Where a moved call should go, by the installed table.

@@ -5,6 +5,7 @@ ghost use Rattle.part_core.specs.Marks.{begun_calls, ended_calls, marks_of_stop}
 ghost use Rattle.part_core.specs.Part.{is_drained, seen_stage, receipt_of, open_cell, tick_cell, each_cell, ring_owner};
 
 use crate::actors::Actors;
+use crate::calls::forget_calls;
 use crate::opening::{Opening, open_cells};
 use crate::owners::is_drained;
 use crate::receipt::{Receipt, SeenStage};
@@ -12,13 +13,14 @@ use crate::stage::Stage;
 use crate::standing::Standing;
 use crate::stopping::list_open;
 use crate::ticking::tick_cells;
+use part_cells::Tree;
 
 impl Actors {
     /// Whether no active actor belongs to another owner.
     pub(crate) fn is_drained(&self, standing: &Standing) -> bool
         ensures { result ≡ is_drained ring_owner (state_of standing.now self.now) }
     {
-        is_drained(standing, self.cells.as_slice())
+        is_drained(standing, &self.cells)
     }
 
     /// The stage as a receipt tells it.
@@ -63,8 +65,8 @@ impl Actors {
         ensures begun { result.begun ≡ (each_cell (open_cell ring_owner (state_of standing.now no_actors)) self.old.cells).first }
         ensures moved { result.moved ≡ (each_cell (open_cell ring_owner (state_of standing.now no_actors)) self.old.cells).second }
     {
-        self.calls.clear();
-        open_cells(standing, &mut self.cells, &mut self.calls)
+        self.calls.recent.clear();
+        open_cells(standing, &mut self.cells, &mut self.calls.recent)
     }
 
     /// The turns of other owners' actors end where their drain time is over; says how many.
@@ -74,17 +76,22 @@ impl Actors {
         ensures recent { self.new.recent ≡ ended_calls (each_cell (tick_cell ring_owner (state_of standing.now no_actors) now) self.old.cells).marks }
         ensures ended { result ≡ (each_cell (tick_cell ring_owner (state_of standing.now no_actors) now) self.old.cells).first }
     {
-        self.calls.clear();
-        tick_cells(standing, now, &mut self.cells, &mut self.calls)
+        self.calls.recent.clear();
+        let ended = tick_cells(standing, now, &mut self.cells, &mut self.calls.recent);
+        let calls = self.calls.recent.as_slice();
+        forget_calls(&mut self.calls.index, &self.cells, calls);
+        ended
     }
 
     /// Every turn ends, and every cell is dropped.
     pub(crate) fn stop(&mut self)
         ensures { self.new ≡ record { drawn = self.old.drawn; cells = []; recent = ended_calls (marks_of_stop self.old.cells) } }
     {
-        self.calls.clear();
-        list_open(self.cells.as_slice(), &mut self.calls);
-        self.cells.clear();
-        self.count = 0;
+        self.calls.recent.clear();
+        list_open(&self.cells, &mut self.calls.recent);
+        self.cells = Tree::new();
+        self.size = 0;
+        self.calls.index.clear();
+        self.calls.count = 0;
     }
 }

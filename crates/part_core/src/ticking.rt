@@ -1,14 +1,14 @@
 // The end of the drain time: open turns of actors of other owners end.
-ghost use Rattle.std.specs.Prelude.{◌≡◌, ◌+◌, ◌<◌, ◌≤◌, ◌++◌, length, vec_len, vec_capacity};
+ghost use Rattle.std.specs.Prelude.{◌≡◌, ◌+◌, ◌*◌, ◌≤◌, ◌++◌, length, vec_len, vec_capacity};
 ghost use Rattle.part_core.specs.Actors.{no_actors, state_of};
-ghost use Rattle.part_core.specs.Cells.{total_calls};
+ghost use Rattle.part_cells.specs.Cells.{total_calls};
 ghost use Rattle.part_core.specs.Marks.{ended_calls};
 ghost use Rattle.part_core.specs.Part.{is_overdue, tick_cell, each_cell, ring_owner};
 
-use crate::actor_cell::ActorCell;
 use crate::owners::is_own;
 use crate::settings::drain_of;
 use crate::standing::Standing;
+use part_cells::{ActorCell, Node, Root, Tree};
 
 /// Whether the drain time of the actor's type has passed since the table was installed.
 fn is_overdue(standing: &Standing, now: u64, cell: &ActorCell) -> bool
@@ -42,20 +42,25 @@ fn tick_cell(standing: &Standing, now: u64, cell: &mut ActorCell, calls: &mut Ve
 pub(crate) fn tick_cells(
     standing: &Standing,
     now: u64,
-    cells: &mut Vec<ActorCell>,
+    cells: &mut Tree,
     calls: &mut Vec<u64>,
 ) -> u32
-    requires few { length cells.old.items ≤ 65536 }
-    requires room { vec_len calls.old + total_calls cells.old.items ≤ vec_capacity calls.old }
-    ensures cells { cells.new.items ≡ (each_cell (tick_cell ring_owner (state_of standing.now no_actors) now) cells.old.items).cells }
-    ensures calls { calls.new.items ≡ calls.old.items ++ ended_calls (each_cell (tick_cell ring_owner (state_of standing.now no_actors) now) cells.old.items).marks }
-    ensures ended { result ≡ (each_cell (tick_cell ring_owner (state_of standing.now no_actors) now) cells.old.items).first }
+    requires few { length cells.old ≤ 65536 }
+    requires room { vec_len calls.old + total_calls cells.old ≤ vec_capacity calls.old }
+    ensures cells { cells.new ≡ (each_cell (tick_cell ring_owner (state_of standing.now no_actors) now) cells.old).cells }
+    ensures calls { calls.new.items ≡ calls.old.items ++ ended_calls (each_cell (tick_cell ring_owner (state_of standing.now no_actors) now) cells.old).marks }
+    ensures ended { result ≡ (each_cell (tick_cell ring_owner (state_of standing.now no_actors) now) cells.old).first }
+    ensures few { result ≤ 1024 * length cells.old }
     ensures kept_room { vec_capacity calls.old ≤ vec_capacity calls.new }
 {
-    let mut ended = 0;
-    for i in 0..cells.len() {
-        let cell = &mut cells[i];
-        ended += tick_cell(standing, now, cell, calls);
+    match &mut cells.root {
+        Root::Empty => 0,
+        Root::Full(node) => {
+            let top: &mut Node = node;
+            let left = tick_cells(standing, now, &mut top.left, calls);
+            let here = tick_cell(standing, now, &mut top.cell, calls);
+            let right = tick_cells(standing, now, &mut top.right, calls);
+            left + here + right
+        }
     }
-    ended
 }

@@ -1,73 +1,125 @@
-use Rattle.std.proofs.Common.{◌≡◌, max, true, false, List, set, refl, sym, ap, ◌∙◌, subst, arith, vec_capacity}
+use Rattle.std.proofs.Common.{◌≡◌, ◌+◌, ◌^◌, ◌<◌, ◌++◌, ℕ, Bool, true, false, max, is_some, List, [], length, Option, None, Some, refl, sym, ap, ◌∙◌, subst, arith, vec_capacity}
 use Rattle.std.specs.Prelude.{◌==◌}
-use Rattle.std.specs.declared.result.Result.TheVariants.{Ok}
 use Rattle.std.proofs.lemmas.Bool.{eq-eqb, ne_eqb}
-use Rattle.turn_core.specs.Cell.{without_hold}
-use Rattle.part_core.specs.declared.actor_cell.ActorCell.{ActorCell}
+use Rattle.turn_core.specs.declared.cell.Waiter.{Waiter}
+use Rattle.turn_core.specs.declared.answer.CellPoll.TheVariants as polling
+use Rattle.turn_core.specs.Cell.{CellState, is_in_cell, without_hold, next_call, begun_next, cell_end, cell_poll}
+use Rattle.part_cells.specs.declared.actor_cell.ActorCell.{ActorCell}
+use Rattle.part_cells.specs.Cells.{cell_at, cell_of_call, calls_in, keep_cell, put_cell, first_cell}
+use Rattle.part_cells.specs.Index.{key_of}
+use Rattle.part_cells.proofs.Changes.{drop-missing, put-found, put-missing}
+use Rattle.part_cells.proofs.Sizes.{length-put-found, length-insert_cell}
 use Rattle.part_core.specs.declared.event.PartReply.TheVariants as replies
-use Rattle.part_core.specs.Places.{place_in}
-use Rattle.part_core.specs.Part.{release_part, ring_owner}
-use Rattle.part_core.specs.Rooms.{Gives}
-use Rattle.part_core.specs.Actors.{ActorsState, settled, state_of, view_of}
-use Rattle.part_core.proofs.KeyPlaces.{In-read, place_of_own, same_read, cell_at-found, ok_within}
-use Rattle.part_core.proofs.Settled.{settled-set}
-use Rattle.part_core.proofs.Numbers.{numbered_release}
-use Rattle.part_core.proofs.Keeping.{kept_changed}
-use Rattle.part_core.proofs.Counts.{calls_of}
-use Rattle.part_core.proofs.HoldGives.{release_not, release_gives}
+use Rattle.part_core.specs.Part.{release_part, closed_part, take_closing, end_part, poll_part, ask_found, may_begin, owner_reply, ring_owner}
+use Rattle.part_core.specs.Rooms.{Gives, GivesInMemory}
+use Rattle.part_core.specs.Settings.{settings_of}
+use Rattle.part_core.specs.Actors.{ActorsState, IsOfEachCall, IsIndexed, IsNumbered, state_of, view_of, begun_in, begun_next_in, is_accepted, drawn_after}
+use Rattle.part_core.proofs.Counts.{calls_of, end_same, end_not, end_calls, begun-short, poll_calls, calls-begun_next, next_cases, begun-in_line, is_some-call}
+use Rattle.part_core.proofs.Numbers.{numbered_new, numbered_release, numbered_next, next_in_line, numbered_end, numbered_poll}
+use Rattle.part_core.proofs.OfCalls.{each_new, each_release, each_next, each_end, each_poll, each_more}
+use Rattle.part_core.proofs.Keeping.{changed_first, changed_put, kept_more, kept_changed, kept_cell, kept_left}
+use Rattle.part_core.proofs.Taken.{taken, at_taken, of_call, taken_call, taken_has}
+use Rattle.part_core.proofs.HoldGives.{release_none, release_not, release_gives}
 use Rattle.part_core.proofs.actors.Actors.release.Goals as goal
+
+pub invariant_of-self : goal.invariant_of-self
+invariant_of-self c =
+    let k = c.self.invariant in
+    let cells = c.self.inside.cells in
+    rw (c.in_default.ensures.rest, drop-missing cells c.args.key.now (sym c.in_default.ensures.cell)) (kept_more c.self.inside.calls.drawn c.self.inside.size c.self.inside.calls.count (vec_capacity c.self.inside.calls.recent) (key_of c.self.inside.calls.index) cells k _ _ (omega arith) k.drawn_fits (let h = k.has_room in let l = c.clear.ensures.capacity in omega arith))
+
+pub returns-in_default : goal.returns-in_default
+returns-in_default c =
+    let s = c.args.standing.now in
+    let old : ActorsState = record { drawn = c.self.inside.calls.drawn; cells = c.self.inside.cells; recent = c.self.inside.calls.recent.items } in
+    let none = sym c.in_default.ensures.cell in
+    let same = c.in_default.ensures.rest ∙ drop-missing old.cells c.args.key.now none in
+    rw (← c.self.view_is) (subst (λ (v : ActorsState). Gives (release_part ring_owner (state_of s old) c.args.key.now c.args.now) replies.NotHeld (view_of s v))
+    (λ i. record { drawn = old.drawn; cells = sym same i; recent = sym c.clear.ensures.items i })
+    (release_none s old c.args.key.now c.args.now none))
+
+pub put-requires : goal.put-requires
+put-requires c =
+    let k = c.self.invariant in
+    let cells = c.self.inside.cells in
+    let cell = c.deref_mut.result.now.cell in
+    let t = taken cells k.in_order c.args.key.now c.take.new.self c.in-Some.node.value c.deref_mut.result.now c.in-Some.ensures.cell c.deref_mut.ensures.value c.in-Some.ensures.rest in
+    t.order
+
+pub invariant_of-self-then-holds-eq0 : goal.invariant_of-self-then-holds-eq0
+invariant_of-self-then-holds-eq0 c =
+    let k = c.self.invariant in
+    let cells = c.self.inside.cells in
+    let cell = c.deref_mut.result.now.cell in
+    let t = taken cells k.in_order c.args.key.now c.take.new.self c.in-Some.node.value c.deref_mut.result.now c.in-Some.ensures.cell c.deref_mut.ensures.value c.in-Some.ensures.rest in
+    rw (c.put.ensures, t.back) (kept_more c.self.inside.calls.drawn c.self.inside.size c.self.inside.calls.count (vec_capacity c.self.inside.calls.recent) (key_of c.self.inside.calls.index) cells k _ _ (omega arith) k.drawn_fits (let h = k.has_room in let l = c.clear.ensures.capacity in omega arith))
 
 pub returns-then-holds-eq0 : goal.returns-then-holds-eq0
 returns-then-holds-eq0 c =
     let k = c.self.invariant in
-    let cells = c.self.inside.cells.items in
-    let at = c.in-Some.at in
-    let place : place_in c.args.key.now cells ≡ Ok at = ap (λ (l : List ActorCell). place_in c.args.key.now l) (sym c.as_slice.ensures.value) ∙ c.in-Some.ensures.place in
-    let lt = ok_within c.args.key.now cells at place in
-    let cell = c.index.result.now in
-    let read = c.index.ensures in
+    let cells = c.self.inside.cells in
+    let cell = c.deref_mut.result.now.cell in
+    let t = taken cells k.in_order c.args.key.now c.take.new.self c.in-Some.node.value c.deref_mut.result.now c.in-Some.ensures.cell c.deref_mut.ensures.value c.in-Some.ensures.rest in
     let s = c.args.standing.now in
-    let old : ActorsState = record { drawn = c.self.inside.drawn; cells = cells; recent = c.self.inside.calls.items } in
-    let of_key = cell_at-found c.args.key.now cells at cell place read in
-    let none : (cell.inner.holds == 0) ≡ true = eq-eqb cell.inner.holds 0 (let h = c.holds.ensures.count in omega arith) in
+    let old : ActorsState = record { drawn = c.self.inside.calls.drawn; cells = c.self.inside.cells; recent = c.self.inside.calls.recent.items } in
     rw (← c.self.view_is) (subst (λ (v : ActorsState). Gives (release_part ring_owner (state_of s old) c.args.key.now c.args.now) replies.NotHeld (view_of s v))
-    (λ i. record { drawn = old.drawn; cells = cells; recent = sym c.clear.ensures.items i })
-    (release_not s old c.args.key.now c.args.now cell of_key none))
+    (λ i. record { drawn = old.drawn; cells = sym (c.put.ensures ∙ t.back) i; recent = sym c.clear.ensures.items i })
+    (release_not s old c.args.key.now c.args.now cell (at_taken cells c.args.key.now c.in-Some.node.value c.deref_mut.result.now c.in-Some.ensures.cell c.deref_mut.ensures.value) (eq-eqb cell.inner.holds 0 (let h = c.holds.ensures.count in omega arith))))
+
+pub put_back-requires-clause-order : goal.put_back-requires-clause-order
+put_back-requires-clause-order c =
+    let k = c.self.invariant in
+    let cells = c.self.inside.cells in
+    let cell = c.deref_mut.result.now.cell in
+    let t = taken cells k.in_order c.args.key.now c.take.new.self c.in-Some.node.value c.deref_mut.result.now c.in-Some.ensures.cell c.deref_mut.ensures.value c.in-Some.ensures.rest in
+    t.order
+
+pub put_back-requires-clause-out : goal.put_back-requires-clause-out
+put_back-requires-clause-out c =
+    let k = c.self.invariant in
+    let cells = c.self.inside.cells in
+    let cell = c.deref_mut.result.now.cell in
+    let t = taken cells k.in_order c.args.key.now c.take.new.self c.in-Some.node.value c.deref_mut.result.now c.in-Some.ensures.cell c.deref_mut.ensures.value c.in-Some.ensures.rest in
+    t.out
+
+pub put_back-requires-clause-counted : goal.put_back-requires-clause-counted
+put_back-requires-clause-counted c =
+    let k = c.self.invariant in
+    let cells = c.self.inside.cells in
+    let cell = c.deref_mut.result.now.cell in
+    let t = taken cells k.in_order c.args.key.now c.take.new.self c.in-Some.node.value c.deref_mut.result.now c.in-Some.ensures.cell c.deref_mut.ensures.value c.in-Some.ensures.rest in
+    let n = t.counted in
+    let m = k.sized in
+    omega arith
 
 pub invariant_of-self-2 : goal.invariant_of-self-2
 invariant_of-self-2 c =
     let k = c.self.invariant in
-    let cells = c.self.inside.cells.items in
-    let at = c.in-Some.at in
-    let place : place_in c.args.key.now cells ≡ Ok at = ap (λ (l : List ActorCell). place_in c.args.key.now l) (sym c.as_slice.ensures.value) ∙ c.in-Some.ensures.place in
-    let lt = ok_within c.args.key.now cells at place in
-    let cell = c.index_mut-cell.result.now in
-    let read = c.index_mut-cell.ensures.value in
+    let cells = c.self.inside.cells in
+    let cell = c.deref_mut.result.now.cell in
+    let t = taken cells k.in_order c.args.key.now c.take.new.self c.in-Some.node.value c.deref_mut.result.now c.in-Some.ensures.cell c.deref_mut.ensures.value c.in-Some.ensures.rest in
+    let x : ActorCell = record cell { inner = c.release-released.new.self; last = c.max-cell.result } in
+    let kept = c.put_back.ensures.cells ∙ t.kept x refl in
+    let look = key_of c.self.inside.calls.index in
     let q = ap calls_of c.release-released.ensures.cell in
-    rw c.settle.ensures (kept_changed c.self.inside.drawn _ c.self.inside.count _ (vec_capacity c.self.inside.calls) _ at cells cell _ k lt read refl
-    (rw c.release-released.ensures.cell (numbered_release c.self.inside.drawn cell.inner (k.numbered cell (In-read cells at cell lt read))))
+    rw kept (kept_cell c.self.inside.calls.drawn c.self.inside.size c.self.inside.calls.count (vec_capacity c.self.inside.calls.recent) look cells k c.put_back.new.size cell x t.found
+    (c.put_back.ensures.size ∙ ap (λ (l : List ActorCell). length l) kept) _ _
+    (rw c.release-released.ensures.cell (numbered_release c.self.inside.calls.drawn cell.inner (k.numbered cell t.inside)))
+    (subst (λ (z : CellState). IsOfEachCall (λ m. look m ≡ Some cell.key) z) (sym c.release-released.ensures.cell) (each_release (λ m. look m ≡ Some cell.key) cell.inner (k.indexed cell t.inside)))
     (omega arith) k.drawn_fits (omega arith)
-    k.count_drawn
-    (let o = k.has_room in let r = c.clear.ensures.capacity in omega arith))
+    (let h = k.has_room in let l = c.clear.ensures.capacity in omega arith))
 
 pub returns : goal.returns
 returns c =
     let k = c.self.invariant in
-    let cells = c.self.inside.cells.items in
-    let at = c.in-Some.at in
-    let place : place_in c.args.key.now cells ≡ Ok at = ap (λ (l : List ActorCell). place_in c.args.key.now l) (sym c.as_slice.ensures.value) ∙ c.in-Some.ensures.place in
-    let lt = ok_within c.args.key.now cells at place in
-    let cell = c.index_mut-cell.result.now in
-    let read = c.index_mut-cell.ensures.value in
+    let cells = c.self.inside.cells in
+    let cell = c.deref_mut.result.now.cell in
+    let t = taken cells k.in_order c.args.key.now c.take.new.self c.in-Some.node.value c.deref_mut.result.now c.in-Some.ensures.cell c.deref_mut.ensures.value c.in-Some.ensures.rest in
     let s = c.args.standing.now in
-    let old : ActorsState = record { drawn = c.self.inside.drawn; cells = cells; recent = c.self.inside.calls.items } in
-    let of_key = cell_at-found c.args.key.now cells at cell place read in
-    let same = same_read cells at cell c.index.result.now lt read c.index.ensures in
-    let some : (cell.inner.holds == 0) ≡ false = ne_eqb cell.inner.holds 0 (λ e. let h = c.holds.ensures.count in let f = ap (λ (z : ActorCell). z.inner.holds) same in absurd (omega arith)) in
-    let after : ActorCell = record cell { inner = without_hold cell.inner; last = max cell.last c.args.now } in
-    let written : set cells at (record cell { inner = c.release-released.new.self; last = c.max-cell.result }) ≡ set cells at after =
-    (λ i. set cells at (record cell { inner = c.release-released.ensures.cell i; last = c.max-cell.ensures i })) in
+    let old : ActorsState = record { drawn = c.self.inside.calls.drawn; cells = c.self.inside.cells; recent = c.self.inside.calls.recent.items } in
+    let x : ActorCell = record cell { inner = c.release-released.new.self; last = c.max-cell.result } in
+    let kept = c.put_back.ensures.cells ∙ t.kept x refl ∙ (λ i. keep_cell cells (record cell { inner = c.release-released.ensures.cell i; last = c.max-cell.ensures i })) in
+    let some : (cell.inner.holds == 0) ≡ false = ne_eqb cell.inner.holds 0 (λ e. let h = c.holds.ensures.count in absurd (omega arith)) in
     rw (← c.self.view_is) (subst (λ (v : ActorsState). Gives (release_part ring_owner (state_of s old) c.args.key.now c.args.now) replies.Released (view_of s v))
-    (λ i. record { drawn = old.drawn; cells = c.settle.new.cells.items; recent = sym c.clear.ensures.items i })
-    (release_gives s old c.args.key.now c.args.now cell c.settle.new.cells.items of_key some
-    (c.settle.ensures ∙ ap (λ (cs : List ActorCell). settled cs at) written ∙ settled-set after cells at k.in_order lt (place_of_own cells at cell k.in_order lt read))))
+    (λ i. record { drawn = old.drawn; cells = c.put_back.new.cells; recent = sym c.clear.ensures.items i })
+    (release_gives s old c.args.key.now c.args.now cell c.put_back.new.cells (at_taken cells c.args.key.now c.in-Some.node.value c.deref_mut.result.now c.in-Some.ensures.cell c.deref_mut.ensures.value) some kept))
