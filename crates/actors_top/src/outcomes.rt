@@ -1,76 +1,75 @@
 // The line that an outcome prints.
-ghost use Rattle.std.specs.Prelude.{◌≡◌, ◌++◌, OnOk, decimal, codes};
+ghost use Rattle.std.specs.Prelude.{◌≡◌, ◌≤◌, ◌++◌, length, decimal, codes};
 ghost use Rattle.actors_top.specs.Outcomes.{outcome_text, bad_line_text};
 
 use crate::event::Outcome;
-use itoa::Buffer;
-use std::alloc::AllocError;
+use crate::outcome_line::OutcomeLine;
 
-/// Appends a text.
-pub(crate) fn push_text(text: &mut Vec<u8>, word: &str) -> Result<(), AllocError>
-    ensures { OnOk result (text.new.items ≡ text.old.items ++ word.now) }
+/// Makes the line a word and the line's end.
+#[inline(always)]
+fn write_word(line: &mut OutcomeLine, word: &str)
+    requires { length word.now ≤ 15 }
+    ensures { line.new ≡ word.now ++ codes "\n" }
 {
-    text.extend_from_slice(word.as_bytes())
+    line.clear();
+    line.put_word("\n");
+    line.put_word(word);
 }
 
-/// Appends a word and a number behind it.
-pub(crate) fn push_number(text: &mut Vec<u8>, word: &str, number: u64) -> Result<(), AllocError>
-    ensures { OnOk result (text.new.items ≡ text.old.items ++ word.now ++ decimal number) }
+/// Makes the line a word, a number behind it and the line's end.
+#[inline(always)]
+fn write_number(line: &mut OutcomeLine, word: &str, number: u64)
+    requires { length word.now ≤ 15 }
+    ensures { line.new ≡ word.now ++ decimal number ++ codes "\n" }
 {
-    let mut buffer = Buffer::new();
-    push_text(text, word)?;
-    text.extend_from_slice(buffer.format(number).as_bytes())
+    line.clear();
+    line.put_word("\n");
+    line.put_number(number);
+    line.put_word(word);
 }
 
-/// Appends a word, a number behind it and the line's end.
-fn push_line(text: &mut Vec<u8>, word: &str, number: u64) -> Result<(), AllocError>
-    ensures { OnOk result (text.new.items ≡ text.old.items ++ word.now ++ decimal number ++ codes "\n") }
+/// Makes the line two words with a number behind each, and the line's end.
+#[inline(always)]
+fn write_two(line: &mut OutcomeLine, word: &str, number: u64, second_word: &str, second: u64)
+    requires first_word { length word.now ≤ 15 }
+    requires second_word { length second_word.now ≤ 15 }
+    ensures { line.new ≡ word.now ++ decimal number ++ second_word.now ++ decimal second ++ codes "\n" }
 {
-    push_number(text, word, number)?;
-    text.push(b'\n')?;
-    Ok(())
+    line.clear();
+    line.put_word("\n");
+    line.put_number(second);
+    line.put_word(second_word);
+    line.put_number(number);
+    line.put_word(word);
 }
 
-/// Appends the outcome's line.
-pub(crate) fn write_outcome(outcome: &Outcome, text: &mut Vec<u8>) -> Result<(), AllocError>
-    ensures { OnOk result (text.new.items ≡ text.old.items ++ outcome_text outcome.now) }
+/// Makes the line the outcome's.
+pub(crate) fn write_outcome(line: &mut OutcomeLine, outcome: &Outcome)
+    ensures { line.new ≡ outcome_text outcome.now }
 {
     match *outcome {
-        Outcome::Begun { call } => push_line(text, "begin ", call),
-        Outcome::Waits { call, place } => {
-            push_number(text, "wait ", call)?;
-            push_line(text, " ", place)
-        }
-        Outcome::Depth { call, turns } => {
-            push_number(text, "depth ", call)?;
-            push_line(text, " ", turns)
-        }
-        Outcome::QueueFull { call } => {
-            push_text(text, "queue-full")?;
-            push_line(text, " ", call)
-        }
-        Outcome::Ended { call, next: None } => push_line(text, "end ", call),
+        Outcome::Begun { call } => write_number(line, "begin ", call),
+        Outcome::Waits { call, place } => write_two(line, "wait ", call, " ", place),
+        Outcome::Depth { call, turns } => write_two(line, "depth ", call, " ", turns),
+        Outcome::QueueFull { call } => write_number(line, "queue-full ", call),
+        Outcome::Ended { call, next: None } => write_number(line, "end ", call),
         Outcome::Ended {
             call,
             next: Some(next),
-        } => {
-            push_number(text, "end ", call)?;
-            push_line(text, " begin ", next)
-        }
-        Outcome::AlreadyEnded { call } => push_line(text, "already-ended ", call),
-        Outcome::StillWaiting { call } => push_line(text, "still-waiting ", call),
-        Outcome::NotThere => push_text(text, "none\n"),
-        Outcome::Held => push_text(text, "held\n"),
-        Outcome::NotActive => push_text(text, "not-active\n"),
-        Outcome::Released => push_text(text, "released\n"),
-        Outcome::NotHeld => push_text(text, "not-held\n"),
+        } => write_two(line, "end ", call, " begin ", next),
+        Outcome::AlreadyEnded { call } => write_number(line, "already-ended ", call),
+        Outcome::StillWaiting { call } => write_number(line, "still-waiting ", call),
+        Outcome::NotThere => write_word(line, "none"),
+        Outcome::Held => write_word(line, "held"),
+        Outcome::NotActive => write_word(line, "not-active"),
+        Outcome::Released => write_word(line, "released"),
+        Outcome::NotHeld => write_word(line, "not-held"),
     }
 }
 
-/// Appends the line of a refused line.
-pub(crate) fn write_bad_line(line: u64, column: u64, text: &mut Vec<u8>) -> Result<(), AllocError>
-    ensures { OnOk result (text.new.items ≡ text.old.items ++ bad_line_text line column) }
+/// Makes the line that of a refused line.
+pub(crate) fn write_bad_line(line: &mut OutcomeLine, number: u64, column: u64)
+    ensures { line.new ≡ bad_line_text number column }
 {
-    push_number(text, "bad line ", line)?;
-    push_line(text, " column ", column)
+    write_two(line, "bad line ", number, " column ", column);
 }

@@ -3,6 +3,7 @@ ghost use Rattle.std.specs.Prelude.{◌≡◌, ◌++◌, [], OnOk, OnErr};
 ghost use Rattle.actors_top.specs.Outcomes.{outcome_text, bad_line_text};
 
 use crate::event::Outcome;
+use crate::outcome_line::OutcomeLine;
 use crate::outcomes::{write_bad_line, write_outcome};
 use std::alloc::{AllocError, Global};
 use std::marker::Model;
@@ -11,7 +12,7 @@ use std::marker::Model;
 #[derive(Drop)]
 pub(crate) struct Transcript {
     text: Vec<u8>,
-    line: Vec<u8>,
+    line: OutcomeLine,
 }
 
 impl Model for Transcript {
@@ -29,7 +30,7 @@ impl Transcript {
     {
         Transcript {
             text: Vec::new(alloc),
-            line: Vec::new(alloc),
+            line: OutcomeLine::new(),
         }
     }
 
@@ -45,8 +46,7 @@ impl Transcript {
         ensures added { OnOk result (self.new ≡ self.old ++ outcome_text outcome.now) }
         ensures unchanged { OnErr result (self.new ≡ self.old) }
     {
-        self.line.clear();
-        write_outcome(outcome, &mut self.line)?;
+        write_outcome(&mut self.line, outcome);
         self.text.extend_from_slice(self.line.as_slice())
     }
 
@@ -55,8 +55,7 @@ impl Transcript {
         ensures added { OnOk result (self.new ≡ self.old ++ bad_line_text line column) }
         ensures unchanged { OnErr result (self.new ≡ self.old) }
     {
-        self.line.clear();
-        write_bad_line(line, column, &mut self.line)?;
+        write_bad_line(&mut self.line, line, column);
         self.text.extend_from_slice(self.line.as_slice())
     }
 }
