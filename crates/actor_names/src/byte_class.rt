@@ -30,13 +30,24 @@ impl ByteClass for NodeBytes {
 /// Letters, digits, `-`, `_` and `.`.
 pub struct TypeBytes;
 
+// Each byte of a type stands at its own place, and a comma at every other place.
+static TYPE_BYTES: [u8; 256] = *b"\
+    ,,,,,,,,,,,,,,,,,,,,,,,,,,,,,,,,\
+    ,,,,,,,,,,,,,-.,0123456789,,,,,,\
+    ,ABCDEFGHIJKLMNOPQRSTUVWXYZ,,,,_\
+    ,abcdefghijklmnopqrstuvwxyz,,,,,\
+    ,,,,,,,,,,,,,,,,,,,,,,,,,,,,,,,,\
+    ,,,,,,,,,,,,,,,,,,,,,,,,,,,,,,,,\
+    ,,,,,,,,,,,,,,,,,,,,,,,,,,,,,,,,\
+    ,,,,,,,,,,,,,,,,,,,,,,,,,,,,,,,,";
+
 impl ByteClass for TypeBytes {
     ghost use Rattle.actor_names.specs.Names.{is_type_byte};
 
     ghost test = { is_type_byte };
 
     fn allows(byte: u8) -> bool {
-        matches!(byte, b'a'..=b'z' | b'A'..=b'Z' | b'0'..=b'9' | b'-' | b'_' | b'.')
+        TYPE_BYTES[byte as usize] != b','
     }
 }
 

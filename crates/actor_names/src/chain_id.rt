@@ -5,16 +5,20 @@ ghost use Rattle.actor_names.specs.Reads.{ReadsInMemory};
 
 use crate::byte_class::{ChainBytes, fault_in};
 use crate::error::{NameError, OutOfMemory};
+use smallvec::SmallVec;
 use std::alloc::Global;
 use std::marker::Model;
 
 /// The most bytes of a chain's identifier.
 pub const MOST_CHAIN_ID_BYTES: usize = 128;
 
+// The most bytes that are kept without an allocation.
+const SHORT: usize = 24;
+
 /// The identifier of a reentrancy chain: 1 to 128 bytes from 0x21 to 0x7E.
 #[derive(Debug, Drop)]
 pub struct ChainId {
-    bytes: Vec<u8>,
+    bytes: SmallVec<u8, SHORT>,
 }
 
 impl Model for ChainId {
@@ -30,7 +34,7 @@ impl ChainId {
     pub(crate) fn from_bytes(alloc: Global, bytes: &[u8]) -> Result<ChainId, OutOfMemory>
         ensures { IfOk result (λ name. name ≡ bytes.now) }
     {
-        match Vec::from_slice(alloc, bytes) {
+        match SmallVec::from_slice(alloc, bytes) {
             Ok(bytes) => Ok(ChainId { bytes }),
             Err(_) => Err(OutOfMemory),
         }
