@@ -63,7 +63,12 @@ pub(crate) fn take_at(line: &mut VecDeque<Waiter>, at: usize) -> Waiter
     ensures value { result ≡ slice_index_or line.old.items at result }
     ensures rest { line.new.items ≡ remove line.old.items at }
 {
-    match line.remove(at) {
+    let taken = if at == 0 {
+        line.pop_front()
+    } else {
+        line.remove(at)
+    };
+    match taken {
         Some(waiter) => waiter,
         None => unreachable!(),
     }
