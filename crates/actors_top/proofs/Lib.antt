@@ -1,4 +1,5 @@
 pub mod LineLemmas
+pub mod NumberLemmas
 pub mod CountLemmas
 pub mod RosterLemmas
 pub mod PlaceLemmas

@@ -10,6 +10,7 @@ mod calling;
 mod depth;
 mod event;
 mod lines;
+mod numbers;
 mod outcome_line;
 mod outcomes;
 mod reading;

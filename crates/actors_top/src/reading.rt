@@ -5,10 +5,9 @@ ghost use Rattle.actors_top.specs.Reading.{Does, next_as, number_in, depth_in, k
 
 use crate::depth::Depth;
 use crate::event::Event;
+use crate::numbers::next_number;
 use crate::words::Words;
 use actor_names::{actor_type_fault, chain_id_fault, key_fault, read_decimal};
-
-const GREATEST_NUMBER: u64 = 999_999_999_999;
 
 const GREATEST_DEPTH: u64 = 1024;
 
@@ -27,17 +26,6 @@ pub(crate) enum ScriptLine<'a> {
     Drain { ms: u64 },
     /// Something happens.
     Does { event: Event<'a> },
-}
-
-/// The next word as a number.
-fn next_number<'a>(past: u64, words: Words<'a>) -> Result<(u64, Words<'a>), u64>
-    ensures { Gives (λ n. n) result (next_as number_in past (words_left words.entry)) }
-{
-    let (word, words) = words.next().ok_or(past)?;
-    match read_decimal(word.text, GREATEST_NUMBER) {
-        Some(number) => Ok((number, words)),
-        None => Err(word.column),
-    }
 }
 
 /// The next word as a depth.

@@ -23,8 +23,8 @@ pub(crate) struct Words<'a> {
 }
 
 impl<'a> Words<'a> {
-    ghost use Rattle.std.specs.Prelude.{◌≡◌, ◌+◌, ◌≤◌, ◌∷◌, [], length, MatchOption};
-    ghost use Rattle.actors_top.specs.Lines.{words_from};
+    ghost use Rattle.std.specs.Prelude.{◌≡◌, ◌+◌, ◌≤◌, ◌∷◌, [], length, take, IfSome, MatchOption};
+    ghost use Rattle.actors_top.specs.Lines.{words_from, LacksByte};
     ghost use Rattle.actors_top.specs.Told.{words_left, word_told};
 
     /// The words of a whole line.
@@ -47,6 +47,25 @@ impl<'a> Words<'a> {
             rest: Some(rest),
             column,
         }
+    }
+
+    /// The words behind a first one that ends at this place of `rest`; none where no word ends there.
+    #[inline]
+    pub(crate) fn behind(rest: &'a [u8], column: u64, end: usize) -> Option<Words<'a>>
+        requires within { end ≤ length rest.now }
+        requires short { column + length rest.now ≤ 4097 }
+        ensures { LacksByte 32 (take end rest.now) → IfSome result (λ words. words_from column rest.now ≡ record { column = column; text = take end rest.now } ∷ words_left words) }
+    {
+        if end == rest.len() {
+            return Some(Words { rest: None, column });
+        }
+        if rest[end] != SPACE {
+            return None;
+        }
+        Some(Words {
+            rest: Some(&rest[end + 1..]),
+            column: column + end as u64 + 1,
+        })
     }
 
     /// The next word and the words behind it.
