@@ -1,5 +1,5 @@
 -- Timers in order of type, id and name. Own; timers follow the Actors API reference of Dapr.
-use Rattle.std.specs.Prelude.{true, ◌⊎◌, ◌≡◌, ℕ, suc, Bool, false, not, ◌&&◌, ◌||◌, ◌==◌, nat_lt, nat_le, if◌then◌else◌, List, [], ◌∷◌, length, filter, slice_get, ◌<◌, bytes_eq, Option, None, Some, Result, Ok, Err}
+use Rattle.std.specs.Prelude.{true, ◌⊎◌, ◌≡◌, ℕ, suc, Bool, false, not, ◌&&◌, ◌||◌, ◌==◌, nat_lt, nat_le, if◌then◌else◌, List, [], ◌∷◌, filter, bytes_eq, Option, None, Some}
 use Rattle.std.specs.declared.cmp.Ordering.{Ordering}
 use Rattle.std.specs.declared.cmp.Ordering.TheVariants.{Less, Equal, Greater}
 use Rattle.std.specs.Ordering.{nat_cmp, is_eq, is_lt}
@@ -31,10 +31,6 @@ is_of key e = bytes_eq e.key.kind key.kind && bytes_eq e.key.id key.id
 -- what the timers of an actor are ordered by first
 abbrev pub actor_place : ActorKey → List (List ℕ)
 actor_place key = key.kind ∷ key.id ∷ []
-
--- before every timer of the actor
-abbrev pub is_before_actor : ActorKey → TimerEntry → Bool
-is_before_actor key e = is_lt (place_cmp (actor_place e.key) (actor_place key))
 
 -- ---- one timer
 
@@ -68,20 +64,6 @@ IsBelowAll place (x ∷ xs) = (place_cmp place (entry_place x) ≡ Less) × IsBe
 abbrev pub Ascends : List TimerEntry → Type 0
 Ascends [] = Unit {0}
 Ascends (x ∷ xs) = IsBelowAll (entry_place x) xs × Ascends xs
-
-abbrev pub one_more : Result ℕ ℕ → Result ℕ ℕ
-one_more (Ok i) = Ok (suc i)
-one_more (Err i) = Err (suc i)
-
-abbrev pub place_from : Ordering → Result ℕ ℕ → Result ℕ ℕ
-place_from Less later = one_more later
-place_from Equal later = Ok 0
-place_from Greater later = Err 0
-
--- the index of a place, or the one where it is to stand
-abbrev pub place_in : List (List ℕ) → List TimerEntry → Result ℕ ℕ
-place_in place [] = Err 0
-place_in place (x ∷ xs) = place_from (place_cmp (entry_place x) place) (place_in place xs)
 
 -- the timer of a place
 abbrev pub entry_at : List (List ℕ) → List TimerEntry → Option TimerEntry
@@ -121,16 +103,6 @@ earlier_of e (Some f) = if is_earlier e f then Some e else Some f
 abbrev pub due_entry : ℕ → List TimerEntry → Option TimerEntry
 due_entry now [] = None
 due_entry now (x ∷ xs) = if is_waiting now x then earlier_of x (due_entry now xs) else due_entry now xs
-
--- ---- timers by their index
-
-abbrev pub IsIndex : List TimerEntry → Option ℕ → Type 0
-IsIndex xs None = Unit {0}
-IsIndex xs (Some i) = i < length xs
-
-abbrev pub entry_of_index : List TimerEntry → Option ℕ → Option TimerEntry
-entry_of_index xs None = None
-entry_of_index xs (Some i) = slice_get xs i
 
 -- ---- what the definitions are held to
 
