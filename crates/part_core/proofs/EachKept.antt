@@ -5,7 +5,6 @@ use Rattle.actor_names.specs.declared.actor_key.ActorKey.{ActorKey}
 use Rattle.turn_core.specs.declared.cell.Turn.{Turn}
 use Rattle.turn_core.specs.declared.cell.Waiter.{Waiter}
 use Rattle.turn_core.specs.Cell.{is_free, all_moved, next_call, turn_calls}
-use Rattle.turn_core.specs.CellSound.{In}
 use Rattle.part_cells.specs.declared.actor_cell.ActorCell.{ActorCell}
 use Rattle.part_cells.specs.Cells.{calls_in, total_calls}
 use Rattle.part_core.specs.Marks.{marks_of_ends, marks_of_inactive, marks_of_stop, begun_calls, ended_calls}
@@ -97,10 +96,10 @@ pub open-short : (p : PartState) (c : ActorCell) → length (begun_calls (open_c
 open-short p c =
     cond_both (is_own ring_owner p c.key) _ _ (λ (s : CellStep). length (begun_calls s.marks) ≤ calls_in c)
     (λ _.
-        let next = next_call (not c.closing) c.inner in
-        let e = ap (λ (l : List ℕ). length l) (begun-marks_of_next c.active c.key p.opened next) in
-        let l = begun-in_line c.inner (not c.closing) in
-        omega arith)
+    let next = next_call (not c.closing) c.inner in
+    let e = ap (λ (l : List ℕ). length l) (begun-marks_of_next c.active c.key p.opened next) in
+    let l = begun-in_line c.inner (not c.closing) in
+    omega arith)
     (λ _. omega arith)
 
 -- ---- a stop

@@ -1,5 +1,5 @@
 -- The cell of a call, found by the key that a look-up of the call gives.
-use Rattle.std.proofs.Common.{◌≡◌, ℕ, true, false, List, [], ◌∷◌, Option, None, Some, refl, sym, ap, ◌∙◌, subst, inl, inr}
+use Rattle.std.proofs.Common.{◌≡◌, ℕ, true, false, List, [], ◌∷◌, Option, None, Some, refl, sym, ap, ◌∙◌, inl, inr}
 use Rattle.std.proofs.lemmas.Bool.{cond_both, true≢false}
 use Rattle.actor_names.specs.declared.actor_key.ActorKey.{ActorKey}
 use Rattle.turn_core.specs.Cell.{is_in_cell}
@@ -64,9 +64,9 @@ module _ (look : ℕ → Option ActorKey) (cs : List ActorCell) (call : ℕ) (o 
     pub of_other : (c : ActorCell) → cell_at cs key ≡ Some c → is_in_cell call c.inner ≡ false → cell_of_call cs call ≡ None
     of_other c a f =
         nowhere (λ d e.
-            let k = at_key key d l e in
-            let s : c ≡ d = cc in
-            true≢false (sym (has-cell_of_call cs call d e) ∙ ap (λ (z : ActorCell). is_in_cell call z.inner) (sym s) ∙ f))
+        let k = at_key key d l e in
+        let s : c ≡ d = cc in
+        true≢false (sym (has-cell_of_call cs call d e) ∙ ap (λ (z : ActorCell). is_in_cell call z.inner) (sym s) ∙ f))
 
     pub of_found : (c : ActorCell) → cell_at cs key ≡ Some c → is_in_cell call c.inner ≡ true → cell_of_call cs call ≡ Some c
     of_found c a t = go (cell_of_call cs call) refl

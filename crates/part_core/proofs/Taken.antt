@@ -1,5 +1,5 @@
 -- A cell that was taken out of cells in order, and what is left of them.
-use Rattle.std.proofs.Common.{◌≡◌, ℕ, true, ◌+◌, ◌≤◌, List, length, Option, None, Some, sym, ap, ◌∙◌, subst, arith}
+use Rattle.std.proofs.Common.{◌≡◌, ℕ, true, ◌+◌, ◌≤◌, List, length, Some, sym, ap, ◌∙◌}
 use Rattle.actor_names.specs.declared.actor_key.ActorKey.{ActorKey}
 use Rattle.turn_core.specs.Cell.{is_in_cell}
 use Rattle.turn_core.specs.CellSound.{In}

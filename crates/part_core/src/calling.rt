@@ -21,12 +21,7 @@ use turn_core::{Cell, CellEnd, CellPoll};
 
 impl Actors {
     /// A call of an actor that has no cell.
-    fn ask_first(
-        &mut self,
-        standing: &Standing,
-        key: ActorKey,
-        chain: Option<ChainId>,
-    ) -> PartReply
+    fn ask_first(&mut self, standing: &Standing, key: ActorKey, chain: Option<ChainId>) -> PartReply
         requires running { is_stopped standing.now.stage ≡ false }
         requires shallow { AreShallow standing.now.kinds }
         requires numbers { self.old.drawn < 2 ^ 62 }

@@ -4,7 +4,7 @@ ghost use Rattle.part_core.specs.Part.{is_locked, is_updated};
 
 /// Where a part is in the rounds of the placement. The version of a stage is the greatest version that the part
 /// has seen.
-#[derive(Clone, Copy, Debug, PartialEq, Eq)]
+#[derive(Clone, Copy)]
 pub(crate) enum Stage {
     /// No new chain begins.
     Locked,

@@ -1,8 +1,8 @@
-use Rattle.std.proofs.Common.{◌≡◌, ◌+◌, true, false, List, length, sym, ap, ◌∙◌, arith}
+use Rattle.std.proofs.Common.{◌≡◌, List, length, sym, ap, ◌∙◌, arith}
 use Rattle.std.proofs.lemmas.Bool.{cond-true, cond-false}
 use Rattle.part_cells.specs.declared.actor_cell.ActorCell.{ActorCell}
 use Rattle.part_cells.specs.declared.tree.Node.{Node}
-use Rattle.part_cells.specs.Cells.{is_kept, drop_cell, insert_cell, keep_cell}
+use Rattle.part_cells.specs.Cells.{is_kept, insert_cell, keep_cell}
 use Rattle.part_cells.proofs.Sizes.{length-insert_cell}
 use Rattle.part_core.proofs.finding.put_back.Goals as goal
 use Rattle.part_core.proofs.finding.put_back.Goals.{then-not-is_kept, else-not-is_kept}
@@ -20,7 +20,7 @@ returns-clause-size c =
           let s = w.size-is in
           let h = c.requires.counted in
           omega arith
-        )
+          )
       | else-not-is_kept w ↦ (
           let e : keep_cell rest x ≡ insert_cell rest x = cond-true (is_kept x) _ _ (sym kept ∙ w.if-not-is_kept.false) ∙ ap (λ (l : List ActorCell). insert_cell l x) out in
           let n = ap (λ (l : List ActorCell). length l) e in
@@ -28,5 +28,5 @@ returns-clause-size c =
           let s = w.size-is in
           let h = c.requires.counted in
           omega arith
-        )
+          )
     ])

@@ -1,8 +1,7 @@
-use Rattle.std.proofs.Common.{◌≡◌, false, true, None, Some, sym, ap, ◌∙◌}
+use Rattle.std.proofs.Common.{◌≡◌, false, true, sym, ap, ◌∙◌}
 use Rattle.turn_core.specs.Cell.{is_in_cell}
-use Rattle.part_cells.specs.declared.actor_cell.ActorCell.{ActorCell}
 use Rattle.part_cells.specs.declared.tree.Node.{Node}
-use Rattle.part_cells.specs.Cells.{cell_of_call, drop_cell}
+use Rattle.part_cells.specs.Cells.{drop_cell}
 use Rattle.part_cells.specs.Index.{key_of}
 use Rattle.part_cells.proofs.Elements.{key-cell_at}
 use Rattle.part_cells.proofs.Orders.{order-drop_cell}

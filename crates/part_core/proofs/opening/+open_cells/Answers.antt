@@ -1,7 +1,7 @@
-use Rattle.std.proofs.Common.{◌≡◌, ◌<◌, ◌++◌, ◌∷◌, ℕ, List, length, refl, sym, ap, ◌∙◌, rules, arith, length-append}
+use Rattle.std.proofs.Common.{◌++◌, ◌∷◌, ℕ, List, length, refl, sym, ap, ◌∙◌, rules, arith, length-append}
 use Rattle.part_cells.specs.declared.actor_cell.ActorCell.{ActorCell}
 use Rattle.part_cells.specs.Cells.{total_calls}
-use Rattle.part_core.specs.Actors.{no_actors, state_of, begun_next_in}
+use Rattle.part_core.specs.Actors.{no_actors, state_of}
 use Rattle.part_core.specs.Marks.{begun_calls}
 use Rattle.part_core.specs.Part.{CellStep, open_cell, each_cell, ring_owner}
 use Rattle.part_core.proofs.EachCell.{begun-append, total-fork, cells-fork, first-fork, second-fork, listed, picked-fork, picked-short, append_nil}
@@ -62,7 +62,7 @@ returns-clause-cells t c =
           let top = w.deref_mut-top.result.now in
           rw (w.cells-inside-is, forked top c.cells.view_is w.in-Full.is w.deref_mut-top.ensures.value)
           ((λ i. w.open_cells-left.ensures.cells i ++ w.open_cell-here.ensures.cell i ∷ w.open_cells-right.ensures.cells i) ∙ sym (cells-fork f top.left top.cell top.right))
-        )
+          )
     ]
 
 pub returns-clause-calls : goal.returns-clause-calls
@@ -77,7 +77,7 @@ returns-clause-calls t c =
           ∙ (λ i. (w.note_next.ensures.items ∙ (λ j. w.open_cells-left.ensures.calls j ++ w.open_cell-here.ensures.next j)) i ++ begun_calls (each_cell f top.right).marks)
           ∙ listed c.args.calls.now.items (begun_calls (each_cell f top.left).marks) (begun_calls (f top.cell).marks) (begun_calls (each_cell f top.right).marks)
           ∙ ap (λ (l : List ℕ). c.args.calls.now.items ++ l) (sym (picked-fork begun_calls refl begun-append f top.left top.cell top.right)))
-        )
+          )
     ]
 
 pub returns-clause-begun : goal.returns-clause-begun
@@ -93,7 +93,7 @@ returns-clause-begun t c =
           let d = w.open_cell-here.ensures.begun in
           let g = w.open_cells-right.ensures.begun in
           rw (w.result-is, forked top c.cells.view_is w.in-Full.is w.deref_mut-top.ensures.value) (omega arith)
-        )
+          )
     ]
 
 pub returns-clause-moved : goal.returns-clause-moved
@@ -108,5 +108,5 @@ returns-clause-moved t c =
           let b = w.open_cell-here.ensures.moved in
           let d = w.open_cells-right.ensures.moved in
           rw (w.result-is, forked top c.cells.view_is w.in-Full.is w.deref_mut-top.ensures.value) (omega arith)
-        )
+          )
     ]

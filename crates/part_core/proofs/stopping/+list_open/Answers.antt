@@ -1,6 +1,5 @@
-use Rattle.std.proofs.Common.{◌≡◌, ◌<◌, ◌++◌, ℕ, List, length, sym, ap, ◌∙◌, rules, arith, length-append}
+use Rattle.std.proofs.Common.{◌++◌, ℕ, List, length, sym, ap, ◌∙◌, rules, arith, length-append}
 use Rattle.turn_core.specs.Cell.{turn_calls}
-use Rattle.part_cells.specs.declared.actor_cell.ActorCell.{ActorCell}
 use Rattle.part_cells.specs.Cells.{total_calls}
 use Rattle.part_core.specs.Marks.{ended_calls, marks_of_stop}
 use Rattle.part_core.proofs.EachCell.{total-fork, listed}

@@ -1,4 +1,4 @@
-use Rattle.std.proofs.Common.{◌≡◌, ◌<◌, ◌++◌, ◌∷◌, ℕ, List, length, refl, sym, ap, ◌∙◌, rules, arith, length-append}
+use Rattle.std.proofs.Common.{◌++◌, ◌∷◌, ℕ, List, length, refl, sym, ap, ◌∙◌, rules, arith, length-append}
 use Rattle.part_cells.specs.declared.actor_cell.ActorCell.{ActorCell}
 use Rattle.part_cells.specs.Cells.{total_calls}
 use Rattle.part_core.specs.Actors.{no_actors, state_of}
@@ -60,7 +60,7 @@ returns-clause-cells t c =
           let top = w.deref_mut-top.result.now in
           rw (w.cells-inside-is, forked top c.cells.view_is w.in-Full.is w.deref_mut-top.ensures.value)
           ((λ i. w.tick_cells-left.ensures.cells i ++ w.tick_cell-here.ensures.cell i ∷ w.tick_cells-right.ensures.cells i) ∙ sym (cells-fork f top.left top.cell top.right))
-        )
+          )
     ]
 
 pub returns-clause-calls : goal.returns-clause-calls
@@ -75,7 +75,7 @@ returns-clause-calls t c =
           ∙ (λ i. (w.tick_cell-here.ensures.calls ∙ (λ j. w.tick_cells-left.ensures.calls j ++ ended_calls (f top.cell).marks)) i ++ ended_calls (each_cell f top.right).marks)
           ∙ listed c.args.calls.now.items (ended_calls (each_cell f top.left).marks) (ended_calls (f top.cell).marks) (ended_calls (each_cell f top.right).marks)
           ∙ ap (λ (l : List ℕ). c.args.calls.now.items ++ l) (sym (picked-fork ended_calls refl ended-append f top.left top.cell top.right)))
-        )
+          )
     ]
 
 pub returns-clause-ended : goal.returns-clause-ended
@@ -90,5 +90,5 @@ returns-clause-ended t c =
           let b = w.tick_cell-here.ensures.ended in
           let d = w.tick_cells-right.ensures.ended in
           rw (w.result-is, forked top c.cells.view_is w.in-Full.is w.deref_mut-top.ensures.value) (omega arith)
-        )
+          )
     ]

@@ -1,13 +1,12 @@
-use Rattle.std.proofs.Common.{◌≡◌, ◌≤◌, true, false, List, length, Some, sym, ap, ◌∙◌, subst, arith, vec_capacity}
+use Rattle.std.proofs.Common.{false, sym, ap, ◌∙◌, subst, arith, vec_capacity}
 use Rattle.std.proofs.lemmas.Bool.{cond-true}
-use Rattle.part_cells.specs.declared.actor_cell.ActorCell.{ActorCell}
-use Rattle.part_cells.specs.Cells.{cell_at, is_kept, put_cell, keep_cell}
+use Rattle.part_cells.specs.Cells.{cell_at, is_kept, put_cell}
 use Rattle.part_cells.specs.Index.{key_of}
 use Rattle.part_cells.proofs.Changes.{drop-missing, put-found, dropped-gone}
 use Rattle.part_cells.proofs.Sizes.{length-put-found}
 use Rattle.part_core.specs.Part.{ask_found, ring_owner}
 use Rattle.part_core.specs.Rooms.{GivesInMemory}
-use Rattle.part_core.specs.Actors.{ActorsState, state_of, view_of, is_accepted}
+use Rattle.part_core.specs.Actors.{ActorsState, state_of, view_of}
 use Rattle.part_core.proofs.Keeping.{changed_put, kept_more, kept_asked}
 use Rattle.part_core.proofs.Taken.{taken, at_taken}
 use Rattle.part_core.proofs.AskedGives.{known_step, gives_asked, drawn_more, ask_goes}

@@ -1,7 +1,6 @@
-use Rattle.std.proofs.Common.{◌≡◌, ◌+◌, ◌^◌, ◌<◌, List, length, Some, refl, sym, ap, ◌∙◌, subst, arith, vec_capacity}
-use Rattle.turn_core.specs.Cell.{CellState, with_hold}
+use Rattle.std.proofs.Common.{◌≡◌, ◌+◌, List, length, Some, refl, sym, ap, ◌∙◌, subst, arith, vec_capacity}
+use Rattle.turn_core.specs.Cell.{CellState}
 use Rattle.part_cells.specs.declared.actor_cell.ActorCell.{ActorCell}
-use Rattle.part_cells.specs.declared.tree.Node.{Node}
 use Rattle.part_cells.specs.Cells.{keep_cell}
 use Rattle.part_cells.specs.Index.{key_of}
 use Rattle.part_cells.proofs.Changes.{drop-missing}

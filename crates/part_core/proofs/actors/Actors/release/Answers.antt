@@ -1,24 +1,20 @@
-use Rattle.std.proofs.Common.{◌≡◌, ◌+◌, ◌^◌, ◌<◌, ◌++◌, ℕ, Bool, true, false, max, is_some, List, [], length, Option, None, Some, refl, sym, ap, ◌∙◌, subst, arith, vec_capacity}
+use Rattle.std.proofs.Common.{◌≡◌, false, List, length, Some, refl, sym, ap, ◌∙◌, subst, arith, vec_capacity}
 use Rattle.std.specs.Prelude.{◌==◌}
 use Rattle.std.proofs.lemmas.Bool.{eq-eqb, ne_eqb}
-use Rattle.turn_core.specs.declared.cell.Waiter.{Waiter}
-use Rattle.turn_core.specs.declared.answer.CellPoll.TheVariants as polling
-use Rattle.turn_core.specs.Cell.{CellState, is_in_cell, without_hold, next_call, begun_next, cell_end, cell_poll}
+use Rattle.turn_core.specs.Cell.{CellState}
 use Rattle.part_cells.specs.declared.actor_cell.ActorCell.{ActorCell}
-use Rattle.part_cells.specs.Cells.{cell_at, cell_of_call, calls_in, keep_cell, put_cell, first_cell}
+use Rattle.part_cells.specs.Cells.{keep_cell}
 use Rattle.part_cells.specs.Index.{key_of}
-use Rattle.part_cells.proofs.Changes.{drop-missing, put-found, put-missing}
-use Rattle.part_cells.proofs.Sizes.{length-put-found, length-insert_cell}
+use Rattle.part_cells.proofs.Changes.{drop-missing}
 use Rattle.part_core.specs.declared.event.PartReply.TheVariants as replies
-use Rattle.part_core.specs.Part.{release_part, closed_part, take_closing, end_part, poll_part, ask_found, may_begin, owner_reply, ring_owner}
-use Rattle.part_core.specs.Rooms.{Gives, GivesInMemory}
-use Rattle.part_core.specs.Settings.{settings_of}
-use Rattle.part_core.specs.Actors.{ActorsState, IsOfEachCall, IsIndexed, IsNumbered, state_of, view_of, begun_in, begun_next_in, is_accepted, drawn_after}
-use Rattle.part_core.proofs.Counts.{calls_of, end_same, end_not, end_calls, begun-short, poll_calls, calls-begun_next, next_cases, begun-in_line, is_some-call}
-use Rattle.part_core.proofs.Numbers.{numbered_new, numbered_release, numbered_next, next_in_line, numbered_end, numbered_poll}
-use Rattle.part_core.proofs.OfCalls.{each_new, each_release, each_next, each_end, each_poll, each_more}
-use Rattle.part_core.proofs.Keeping.{changed_first, changed_put, kept_more, kept_changed, kept_cell, kept_left}
-use Rattle.part_core.proofs.Taken.{taken, at_taken, of_call, taken_call, taken_has}
+use Rattle.part_core.specs.Part.{release_part, ring_owner}
+use Rattle.part_core.specs.Rooms.{Gives}
+use Rattle.part_core.specs.Actors.{ActorsState, IsOfEachCall, state_of, view_of}
+use Rattle.part_core.proofs.Counts.{calls_of}
+use Rattle.part_core.proofs.Numbers.{numbered_release}
+use Rattle.part_core.proofs.OfCalls.{each_release}
+use Rattle.part_core.proofs.Keeping.{kept_more, kept_cell}
+use Rattle.part_core.proofs.Taken.{taken, at_taken}
 use Rattle.part_core.proofs.HoldGives.{release_none, release_not, release_gives}
 use Rattle.part_core.proofs.actors.Actors.release.Goals as goal
 

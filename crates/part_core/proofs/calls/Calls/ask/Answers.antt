@@ -1,7 +1,6 @@
 use Rattle.std.proofs.Common.{◌≡◌, ℕ, ◌+◌, ◌≤◌, None, Some, sym, ap, ◌∙◌, subst, arith}
 use Rattle.std.specs.Prelude.{◌==◌, if◌then◌else◌, false}
 use Rattle.std.proofs.lemmas.Bool.{cond-false, ne_eqb}
-use Rattle.part_cells.specs.declared.actor_cell.ActorCell.{ActorCell}
 use Rattle.part_cells.specs.Index.{key_of}
 use Rattle.part_core.specs.Actors.{IsOfEachCall, IsIndexed}
 use Rattle.part_core.specs.Part.{chain_or, made_chain}
@@ -41,7 +40,7 @@ returns-then-not-is_accepted-clause-indexed c =
     subst (IsIndexed is) (sym same)
     (each_more (λ m. was m ≡ Some cell.key) (λ m. is m ≡ Some cell.key) cell.inner
     (λ m i p.
-        let l = of_call (λ d. d ≤ n) m cell.inner below i in
-        let other : (m == (n + 1)) ≡ false = ne_eqb m (n + 1) (λ e. absurd (omega arith)) in
-        c.remove.ensures m ∙ cond-false (m == (n + 1)) _ _ other ∙ c.in-Ok-add.ensures.ok m ∙ cond-false (m == (n + 1)) _ _ other ∙ p)
+    let l = of_call (λ d. d ≤ n) m cell.inner below i in
+    let other : (m == (n + 1)) ≡ false = ne_eqb m (n + 1) (λ e. absurd (omega arith)) in
+    c.remove.ensures m ∙ cond-false (m == (n + 1)) _ _ other ∙ c.in-Ok-add.ensures.ok m ∙ cond-false (m == (n + 1)) _ _ other ∙ p)
     c.requires.indexed)
