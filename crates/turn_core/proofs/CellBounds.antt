@@ -7,11 +7,12 @@ use Rattle.turn_core.specs.declared.cell.Turn.{Turn}
 use Rattle.turn_core.specs.declared.cell.Waiter.{Waiter}
 use Rattle.turn_core.specs.declared.answer.CellEnd.TheVariants as ending
 use Rattle.turn_core.specs.declared.answer.CellPoll.TheVariants as polled
-use Rattle.turn_core.specs.Cell.{CellState, EndStep, PollStep, longest_line, is_free, is_open_chain, kept_chain, has_turn, without_turn, waiter_of, without_waiter, first_unmoved, without_first_unmoved, all_moved, begun_turns, begun_next, next_call, call_of, without_call, not_open, cell_end, poll_waiter, cell_poll}
+use Rattle.turn_core.specs.Cell.{CellState, EndStep, PollStep, longest_line, is_in_cell, is_free, is_open_chain, kept_chain, has_turn, without_turn, waiter_of, without_waiter, first_unmoved, without_first_unmoved, all_moved, begun_turns, begun_next, next_call, call_of, without_call, not_open, cell_end, poll_waiter, cell_poll}
 use Rattle.turn_core.specs.CellSound.{FitsDepth, IsCellSound, IsCellKept}
 use Rattle.turn_core.proofs.Elements.{In-without_waiter}
 use Rattle.turn_core.proofs.CellSteps.{kept_chain-fits}
-use Rattle.turn_core.proofs.CellKeeps.{line_sound, turn_begins, enters_beside, waits_sound, without_call_sound, next_begins, moves_keep}
+use Rattle.turn_core.proofs.CellKeeps.{line_sound, turn_begins, enters_beside, enters_free, waits_sound, without_call_sound, next_begins, moves_keep}
+use Rattle.turn_core.proofs.Once.{begun_once, waits_once, ended_once, taken_once, next_once, moved_once}
 use Rattle.turn_core.proofs.Places.{of_waiter, waiter_of-found, waiter_of-missed, without_waiter-found, place_of-found}
 
 -- ---- the first call in the line begins
@@ -75,6 +76,7 @@ begun_kept c turns line k free p q =
     let e = depth-begun_next c (first_unmoved c.line) in
     let kept : IsCellKept d = record {
       sound = (next_begins c (first_unmoved c.line) k.sound free refl).sound;
+      once = next_once c (first_unmoved c.line) refl k.once;
       depth_fits = (let l = k.depth_fits in omega arith);
       line_fits = (let l = k.line_fits in omega arith);
       holds_fit = (let l = k.holds_fit in omega arith);
@@ -83,21 +85,31 @@ begun_kept c turns line k free p q =
 
 -- ---- ask
 
-pub asked_kept : (c : CellState) (call : ℕ) (chain kept : Option (List ℕ)) (turns : List Turn) → IsCellKept c → (0 < c.depth → IsSome chain) → kept ≡ kept_chain c chain
+pub asked_kept : (c : CellState) (call : ℕ) (chain kept : Option (List ℕ)) (turns : List Turn) → IsCellKept c → is_in_cell call c ≡ false → (0 < c.depth → IsSome chain) → kept ≡ kept_chain c chain
     → is_open_chain c kept ≡ true → length c.turns < c.depth → turns ≡ c.turns ++ record { call = call; chain = kept } ∷ [] → IsCellKept (record c { turns = turns })
-asked_kept c call chain kept turns k given same o l p =
+asked_kept c call chain kept turns k absent given same o l p =
     let fits : FitsDepth c.depth kept = subst (λ (z : Option (List ℕ)). FitsDepth c.depth z) (sym same) (kept_chain-fits c chain given) in
     let begun = turn_begins c call kept k.sound fits (enters_beside c kept k.sound fits o l) in
     subst (λ (ts : List Turn). IsCellKept (record c { turns = ts })) (sym p)
-    (record { sound = begun.sound; depth_fits = k.depth_fits; line_fits = k.line_fits; holds_fit = k.holds_fit })
+    (record { sound = begun.sound; once = begun_once c call kept k.once absent; depth_fits = k.depth_fits; line_fits = k.line_fits; holds_fit = k.holds_fit })
 
-pub waits_kept : (c : CellState) (call : ℕ) (chain kept : Option (List ℕ)) (line : List Waiter) → IsCellKept c → (0 < c.depth → IsSome chain) → kept ≡ kept_chain c chain
+-- the same of a call that begins in a free cell
+pub freed_kept : (c : CellState) (call : ℕ) (chain kept : Option (List ℕ)) (turns : List Turn) → IsCellKept c → is_in_cell call c ≡ false → (0 < c.depth → IsSome chain) → kept ≡ kept_chain c chain
+    → c.turns ≡ [] → turns ≡ c.turns ++ record { call = call; chain = kept } ∷ [] → IsCellKept (record c { turns = turns })
+freed_kept c call chain kept turns k absent given same free p =
+    let fits : FitsDepth c.depth kept = subst (λ (z : Option (List ℕ)). FitsDepth c.depth z) (sym same) (kept_chain-fits c chain given) in
+    let begun = turn_begins c call kept k.sound fits (enters_free c.depth c.turns kept free) in
+    subst (λ (ts : List Turn). IsCellKept (record c { turns = ts })) (sym p)
+    (record { sound = begun.sound; once = begun_once c call kept k.once absent; depth_fits = k.depth_fits; line_fits = k.line_fits; holds_fit = k.holds_fit })
+
+pub waits_kept : (c : CellState) (call : ℕ) (chain kept : Option (List ℕ)) (line : List Waiter) → IsCellKept c → is_in_cell call c ≡ false → (0 < c.depth → IsSome chain) → kept ≡ kept_chain c chain
     → length c.line < longest_line → line ≡ c.line ++ record { call = call; chain = kept; moved = false } ∷ [] → IsCellKept (record c { line = line })
-waits_kept c call chain kept line k given same l p =
+waits_kept c call chain kept line k absent given same l p =
     let fits : FitsDepth c.depth kept = subst (λ (z : Option (List ℕ)). FitsDepth c.depth z) (sym same) (kept_chain-fits c chain given) in
     subst (λ (ws : List Waiter). IsCellKept (record c { line = ws })) (sym p)
     (record {
       sound = waits_sound c call kept k.sound fits;
+      once = waits_once c call kept k.once absent;
       depth_fits = k.depth_fits;
       line_fits = (let q : length (c.line ++ record { call = call; chain = kept; moved = false } ∷ []) ≡ length c.line + 1 = simp length-append in omega arith);
       holds_fit = k.holds_fit;
@@ -114,7 +126,7 @@ without_turn-absent call (t ∷ ts) e =
 pub ended_kept : (c : CellState) (call : ℕ) (turns : List Turn) → IsCellKept c → turns ≡ without_turn call c.turns → IsCellKept (record c { turns = turns })
 ended_kept c call turns k p =
     subst (λ (ts : List Turn). IsCellKept (record c { turns = ts })) (sym p)
-    (record { sound = without_call_sound c call k.sound; depth_fits = k.depth_fits; line_fits = k.line_fits; holds_fit = k.holds_fit })
+    (record { sound = without_call_sound c call k.sound; once = ended_once c call k.once; depth_fits = k.depth_fits; line_fits = k.line_fits; holds_fit = k.holds_fit })
 
 end_of_absent : (c : CellState) (call : ℕ) (may_begin : Bool) → has_turn call c.turns ≡ false → cell_end c call may_begin ≡ record { cell = c; answer = not_open (waiter_of call c.line) }
 end_of_absent c call may_begin e = cond-false (has_turn call c.turns) _ _ e
@@ -172,6 +184,7 @@ polled_kept c call i line k p q =
     subst (λ (ws : List Waiter). IsCellKept (record c { line = ws })) (sym same)
     (record {
       sound = taken_sound;
+      once = taken_once c call k.once;
       depth_fits = k.depth_fits;
       line_fits = (let l = length-without_waiter call c.line in let m = k.line_fits in omega arith);
       holds_fit = k.holds_fit;
@@ -187,6 +200,7 @@ moved_kept c line k p =
     subst (λ (ws : List Waiter). IsCellKept (record c { line = ws })) (sym p)
     (record {
       sound = (moves_keep c k.sound).sound;
+      once = moved_once c k.once;
       depth_fits = k.depth_fits;
       line_fits = (let l = length-all_moved c.line in let m = k.line_fits in omega arith);
       holds_fit = k.holds_fit;

@@ -1,4 +1,5 @@
 mod CellBounds
+pub mod Once
 mod MovedLine
 pub mod Places
 pub mod Elements

@@ -1,5 +1,5 @@
 -- What stays true of a cell, whatever calls it takes. Own.
-use Rattle.std.specs.Prelude.{◌≡◌, ◌≤◌, ◌^◌, ℕ, ◌⊎◌, nat_lt, List, [], ◌∷◌, length, Option, is_some}
+use Rattle.std.specs.Prelude.{◌≡◌, ◌≤◌, ◌^◌, ◌+◌, ◌==◌, ℕ, ◌⊎◌, nat_lt, if◌then◌else◌, List, [], ◌∷◌, length, Option, is_some}
 use Rattle.turn_core.specs.declared.cell.Turn.{Turn}
 use Rattle.turn_core.specs.declared.cell.Waiter.{Waiter}
 use Rattle.turn_core.specs.Cell.{CellState, greatest_depth, longest_line}
@@ -21,9 +21,26 @@ pub record IsCellSound (c : CellState) : Type 0 where
   pub turns_fit : (t : Turn) → In t c.turns → FitsDepth c.depth t.chain
   pub line_fit : (w : Waiter) → In w c.line → FitsDepth c.depth w.chain
 
--- and besides the depth, the line and the holds are in their ranges
+-- how often a call stands among open turns, in a line, and in a cell
+abbrev pub turns_of : ℕ → List Turn → ℕ
+turns_of call [] = 0
+turns_of call (t ∷ ts) = (if call == t.call then 1 else 0) + turns_of call ts
+
+abbrev pub waiters_of : ℕ → List Waiter → ℕ
+waiters_of call [] = 0
+waiters_of call (w ∷ ws) = (if call == w.call then 1 else 0) + waiters_of call ws
+
+abbrev pub times_in : ℕ → CellState → ℕ
+times_in call c = turns_of call c.turns + waiters_of call c.line
+
+-- a call stands at most once in the cell: its turn is open, or it is in the line, or neither
+abbrev pub HasCallsOnce : CellState → Type 0
+HasCallsOnce c = (call : ℕ) → times_in call c ≤ 1
+
+-- and besides no call stands twice, and the depth, the line and the holds are in their ranges
 pub record IsCellKept (c : CellState) : Type 0 where
   pub sound : IsCellSound c
+  pub once : HasCallsOnce c
   pub depth_fits : c.depth ≤ greatest_depth
   pub line_fits : length c.line ≤ longest_line
   pub holds_fit : c.holds ≤ 2 ^ 62

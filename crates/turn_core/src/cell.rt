@@ -2,7 +2,7 @@
 ghost use Rattle.std.specs.Prelude.{◌≡◌, ◌+◌, ◌^◌, ◌<◌, ◌≤◌, ◌↔◌, ◌++◌, max, length, vec_len, vec_capacity, false, [], IfOk, IfErr, IsSome, OnOk, OnErr, option_map};
 ghost use Rattle.std.specs.Option.{option_copied};
 ghost use Rattle.turn_core.specs.Cell.{new_cell, greatest_depth, longest_line, admit_call, cell_end, cell_poll, cell_begin_next, first_unmoved, call_of, unmoved, turn_calls, chain_of, is_in_cell, with_hold, without_hold, with_line_moved, without_turns, GivesStep};
-ghost use Rattle.turn_core.specs.CellSound.{IsCellSound};
+ghost use Rattle.turn_core.specs.CellSound.{HasCallsOnce, IsCellSound};
 
 use crate::answer::{Asked, CellEnd, CellError, CellPoll, NotHeld};
 use crate::line::{
@@ -249,6 +249,7 @@ impl Cell {
         ensures within { result ≤ max self.now.depth 1 }
         ensures few { result ≤ greatest_depth }
         ensures sound { IsCellSound self.now }
+        ensures once { HasCallsOnce self.now }
     {
         self.turns.len() as u32
     }
