@@ -2,12 +2,16 @@
 use Rattle.std.proofs.Common.{◌≡◌, ℕ, ◌<◌, Bool, true, false, not, ◌&&◌, List, [], ◌∷◌, ◌++◌, length, Option, None, Some, Box, refl, sym, ap, ◌∙◌, arith}
 use Rattle.std.specs.Prelude.{if◌then◌else◌}
 use Rattle.std.specs.declared.alloc.Global.{Global}
+use Rattle.std.proofs.lemmas.Bool.{cond_both}
 use Rattle.part_cells.specs.declared.actor_cell.ActorCell.{ActorCell}
 use Rattle.part_cells.specs.declared.tree.Node.{Node}
 use Rattle.part_cells.specs.declared.tree.Root.{Root}
 use Rattle.part_cells.specs.declared.tree.Root.TheVariants.{Empty, Full}
 use Rattle.part_cells.specs.Tree.{root_cells}
-use Rattle.part_core.specs.Part.{PartState, is_foreign, no_active_foreign, may_close, first_to_close, ring_owner}
+use Rattle.turn_core.specs.Cell.{is_free}
+use Rattle.part_core.specs.declared.standing.Standing.{Standing}
+use Rattle.part_core.specs.Actors.{ActorsState, state_of}
+use Rattle.part_core.specs.Part.{PartState, CellStep, is_foreign, is_overdue, no_active_foreign, tick_cell, each_cell, may_close, first_to_close, ring_owner}
 use Rattle.part_core.proofs.EachCell.{length-fork}
 
 pub no_cells : {root : Root} {xs : List ActorCell} → root_cells root ≡ xs → root ≡ Empty → xs ≡ []
@@ -49,3 +53,20 @@ close-fork p now (c ∷ l) x r = go (may_close ring_owner p now c) (close-fork p
         → (if b then Some c else first_to_close ring_owner p now (l ++ x ∷ r)) ≡ or_else (if b then Some c else first_to_close ring_owner p now l) (if may_close ring_owner p now x then Some x else first_to_close ring_owner p now r)
     go true e = refl
     go false e = e
+
+-- ---- foreign actors
+
+-- the other actors of a part don't matter
+pub same-foreign : (s : Standing) (a b : ActorsState) (cs : List ActorCell) → no_active_foreign ring_owner (state_of s a) cs ≡ no_active_foreign ring_owner (state_of s b) cs
+same-foreign s a b [] = refl
+same-foreign s a b (c ∷ cs) = ap (λ (rest : Bool). not (c.active && is_foreign ring_owner (state_of s a) c.key) && rest) (same-foreign s a b cs)
+
+-- a tick leaves them active
+pub tick-foreign : (p : PartState) (now : ℕ) (cs : List ActorCell) → no_active_foreign ring_owner p (each_cell (tick_cell ring_owner p now) cs).cells ≡ no_active_foreign ring_owner p cs
+tick-foreign p now [] = refl
+tick-foreign p now (c ∷ cs) =
+    let here : not ((tick_cell ring_owner p now c).cell.active && is_foreign ring_owner p (tick_cell ring_owner p now c).cell.key) ≡ not (c.active && is_foreign ring_owner p c.key) =
+    cond_both (not (is_free c.inner) && (is_foreign ring_owner p c.key && is_overdue ring_owner p now c)) _ _
+    (λ (s : CellStep). not (s.cell.active && is_foreign ring_owner p s.cell.key) ≡ not (c.active && is_foreign ring_owner p c.key)) (λ _. refl) (λ _. refl)
+    in
+    λ i. here i && tick-foreign p now cs i

@@ -2,17 +2,17 @@
 ghost use Rattle.std.specs.Prelude.{◌≡◌, ◌≤◌, ◌^◌, []};
 ghost use Rattle.part_core.specs.Actors.{no_actors, state_of};
 ghost use Rattle.part_core.specs.Marks.{begun_calls, ended_calls, marks_of_stop};
-ghost use Rattle.part_core.specs.Part.{is_drained, seen_stage, receipt_of, open_cell, tick_cell, each_cell, ring_owner};
+ghost use Rattle.part_core.specs.Part.{is_drained, receipt_of, open_cell, tick_cell, each_cell, ring_owner};
 
 use crate::actors::Actors;
 use crate::calls::forget_calls;
 use crate::opening::{Opening, open_cells};
 use crate::owners::is_drained;
-use crate::receipt::{Receipt, SeenStage};
-use crate::stage::Stage;
+use crate::receipt::Receipt;
+use crate::stage::is_updated;
 use crate::standing::Standing;
 use crate::stopping::list_open;
-use crate::ticking::tick_cells;
+use crate::ticking::{Ticking, tick_cells};
 use part_cells::Tree;
 
 impl Actors {
@@ -23,38 +23,14 @@ impl Actors {
         is_drained(standing, &self.cells)
     }
 
-    /// The stage as a receipt tells it.
-    fn seen_stage(&self, standing: &Standing) -> SeenStage
-        ensures { result ≡ seen_stage ring_owner (state_of standing.now self.now) standing.now.stage }
-    {
-        match standing.stage {
-            Stage::Locked => SeenStage::Locked,
-            Stage::Open => SeenStage::Open,
-            Stage::Stopped => SeenStage::Stopped,
-            Stage::Updated => {
-                if self.is_drained(standing) {
-                    SeenStage::Drained
-                } else {
-                    SeenStage::Draining
-                }
-            }
-        }
-    }
-
     /// What the part shows of itself.
     pub(crate) fn receipt(&self, standing: &Standing) -> Receipt
         requires seen { standing.now.seen ≤ 2 ^ 62 }
         requires opened { standing.now.opened ≤ 2 ^ 62 }
         ensures { result ≡ receipt_of ring_owner (state_of standing.now self.now) }
     {
-        let stage = self.seen_stage(standing);
-        Receipt::of(
-            standing.member,
-            standing.number,
-            standing.seen,
-            standing.opened,
-            stage,
-        )
+        let drained = is_updated(&standing.stage) && self.is_drained(standing);
+        standing.receipt(drained)
     }
 
     /// The part opens: waiting calls begin in its own cells, and are moved in the others.
@@ -69,18 +45,20 @@ impl Actors {
         open_cells(standing, &mut self.cells, &mut self.calls.recent)
     }
 
-    /// The turns of other owners' actors end where their drain time is over; says how many.
-    pub(crate) fn tick(&mut self, standing: &Standing, now: u64) -> u32
+    /// The turns of other owners' actors end where their drain time is over. Says how many, and whether the part is
+    /// drained.
+    pub(crate) fn tick(&mut self, standing: &Standing, now: u64) -> Ticking
         ensures drawn { self.new.drawn ≡ self.old.drawn }
         ensures cells { self.new.cells ≡ (each_cell (tick_cell ring_owner (state_of standing.now no_actors) now) self.old.cells).cells }
         ensures recent { self.new.recent ≡ ended_calls (each_cell (tick_cell ring_owner (state_of standing.now no_actors) now) self.old.cells).marks }
-        ensures ended { result ≡ (each_cell (tick_cell ring_owner (state_of standing.now no_actors) now) self.old.cells).first }
+        ensures ended { result.ended ≡ (each_cell (tick_cell ring_owner (state_of standing.now no_actors) now) self.old.cells).first }
+        ensures drained { result.drained ≡ is_drained ring_owner (state_of standing.now self.new) }
     {
         self.calls.recent.clear();
-        let ended = tick_cells(standing, now, &mut self.cells, &mut self.calls.recent);
+        let ticking = tick_cells(standing, now, &mut self.cells, &mut self.calls.recent);
         let calls = self.calls.recent.as_slice();
         forget_calls(&mut self.calls.index, &self.cells, calls);
-        ended
+        ticking
     }
 
     /// Every turn ends, and every cell is dropped.

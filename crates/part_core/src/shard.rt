@@ -115,10 +115,10 @@ impl Shard {
                 ended: 0,
             };
         }
-        let ended = self.actors.tick(&self.standing, now);
+        let ticking = self.actors.tick(&self.standing, now);
         PartReply::Ticked {
-            receipt: self.actors.receipt(&self.standing),
-            ended,
+            receipt: self.standing.receipt(ticking.drained),
+            ended: ticking.ended,
         }
     }
 

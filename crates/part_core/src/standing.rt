@@ -1,4 +1,9 @@
 // What a part is apart from its actors.
+ghost use Rattle.std.specs.Prelude.{◌≡◌, ◌≤◌, ◌^◌, true};
+ghost use Rattle.part_core.specs.Actors.{ActorsState, state_of};
+ghost use Rattle.part_core.specs.Part.{PartState, is_updated, is_drained, seen_stage, receipt_of, ring_owner};
+
+use crate::receipt::{Receipt, SeenStage};
 use crate::settings::TypeList;
 use crate::stage::Stage;
 use actor_names::Member;
@@ -18,4 +23,34 @@ pub(crate) struct Standing {
     pub(crate) table: Table,
     /// When the table was installed.
     pub(crate) since: u64,
+}
+
+/// The stage as a receipt tells it. Whether the part is drained counts where it is updated.
+fn seen_stage(stage: &Stage, drained: bool) -> SeenStage
+    ensures { (p : PartState) → (is_updated stage.now ≡ true → drained ≡ is_drained ring_owner p) → result ≡ seen_stage ring_owner p stage.now }
+{
+    match stage {
+        Stage::Locked => SeenStage::Locked,
+        Stage::Open => SeenStage::Open,
+        Stage::Stopped => SeenStage::Stopped,
+        Stage::Updated => {
+            if drained {
+                SeenStage::Drained
+            } else {
+                SeenStage::Draining
+            }
+        }
+    }
+}
+
+impl Standing {
+    /// What a part that stands so shows of itself. Whether it is drained counts where it is updated.
+    pub(crate) fn receipt(&self, drained: bool) -> Receipt
+        requires seen { self.now.seen ≤ 2 ^ 62 }
+        requires opened { self.now.opened ≤ 2 ^ 62 }
+        ensures { (a : ActorsState) → (is_updated self.now.stage ≡ true → drained ≡ is_drained ring_owner (state_of self.now a)) → result ≡ receipt_of ring_owner (state_of self.now a) }
+    {
+        let stage = seen_stage(&self.stage, drained);
+        Receipt::of(self.member, self.number, self.seen, self.opened, stage)
+    }
 }

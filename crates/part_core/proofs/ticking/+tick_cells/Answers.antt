@@ -1,11 +1,11 @@
-use Rattle.std.proofs.Common.{◌++◌, ◌∷◌, ℕ, List, length, refl, sym, ap, ◌∙◌, rules, arith, length-append}
+use Rattle.std.proofs.Common.{◌&&◌, ◌++◌, ◌∷◌, ℕ, List, length, refl, sym, ap, ◌∙◌, rules, arith, length-append}
 use Rattle.part_cells.specs.declared.actor_cell.ActorCell.{ActorCell}
 use Rattle.part_cells.specs.Cells.{total_calls}
 use Rattle.part_core.specs.Actors.{no_actors, state_of}
 use Rattle.part_core.specs.Marks.{ended_calls}
 use Rattle.part_core.specs.Part.{CellStep, tick_cell, each_cell, ring_owner}
 use Rattle.part_core.proofs.EachCell.{ended-append, total-fork, cells-fork, first-fork, listed, picked-fork, picked-short, append_nil, tick-short}
-use Rattle.part_core.proofs.Tops.{no_cells, forked, left_shorter, right_shorter}
+use Rattle.part_core.proofs.Tops.{no_cells, forked, left_shorter, right_shorter, foreign-fork}
 use Rattle.part_core.proofs.ticking.+tick_cells.Goals as goal
 use Rattle.part_core.proofs.ticking.+tick_cells.Goals.{in-Empty, in-Full}
 
@@ -89,6 +89,20 @@ returns-clause-ended t c =
           let a = w.tick_cells-left.ensures.ended in
           let b = w.tick_cell-here.ensures.ended in
           let d = w.tick_cells-right.ensures.ended in
+          let g = w.then.ensures.ended in
+          let h = w.then-in-Full.ensures.ended in
           rw (w.result-is, forked top c.cells.view_is w.in-Full.is w.deref_mut-top.ensures.value) (omega arith)
+          )
+    ]
+
+pub returns-clause-drained : goal.returns-clause-drained
+returns-clause-drained t c =
+    let p = state_of c.args.standing.now no_actors in
+    elim c.match-cells.branch [
+      | in-Empty w ↦ rw (w.result-is, no_cells c.cells.view_is w.in-Empty.is) refl
+      | in-Full w ↦ (
+          let top = w.deref_mut-top.result.now in
+          rw (w.result-is, forked top c.cells.view_is w.in-Full.is w.deref_mut-top.ensures.value, foreign-fork p top.left top.cell top.right)
+          (w.then-in-Full.ensures.drained ∙ (λ i. w.tick_cells-left.ensures.drained i && (w.then.ensures.drained ∙ (λ j. w.tick_cell-here.ensures.drained j && w.tick_cells-right.ensures.drained j)) i))
           )
     ]

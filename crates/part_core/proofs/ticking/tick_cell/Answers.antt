@@ -1,4 +1,4 @@
-use Rattle.std.proofs.Common.{◌≡◌, ◌++◌, ◌&&◌, not, ℕ, true, List, [], ◌∷◌, length, refl, sym, ap, ◌∙◌, arith}
+use Rattle.std.proofs.Common.{◌≡◌, ◌++◌, ◌&&◌, not, ℕ, true, List, [], ◌∷◌, length, refl, sym, ap, ◌∙◌}
 use Rattle.std.proofs.lemmas.Bool.{cond-true, and_from, ne_eqb, not_from_false}
 use Rattle.actor_names.specs.declared.actor_key.ActorKey.{ActorKey}
 use Rattle.turn_core.specs.declared.cell.Turn.{Turn}
@@ -16,7 +16,7 @@ pub returns-clause-calls : goal.returns-clause-calls
 returns-clause-calls c =
     let cell = c.args.cell.now in
     let p = state_of c.args.standing.now no_actors in
-    let busy : not (is_free cell.inner) ≡ true = not_from_false (is_free cell.inner) (ne_eqb (length cell.inner.turns) 0 (λ e. let n = c.turns.ensures.count in absurd (omega arith))) in
+    let busy : not (is_free cell.inner) ≡ true = not_from_false (is_free cell.inner) (ne_eqb (length cell.inner.turns) 0 (λ e. c.if-free-2.false (c.turns-free.ensures.count ∙ e))) in
     let foreign : is_foreign ring_owner p cell.key ≡ true = not_from_false (is_own ring_owner p cell.key) (sym c.is_own.ensures ∙ c.if-is_own.false) in
     let overdue : is_overdue ring_owner p c.args.now cell ≡ true = sym c.is_overdue.ensures ∙ c.if-not-is_overdue.false in
     let step = cond-true (not (is_free cell.inner) && (is_foreign ring_owner p cell.key && is_overdue ring_owner p c.args.now cell)) _ _ (and_from _ _ busy (and_from _ _ foreign overdue)) in
