@@ -27,4 +27,5 @@ pub mod PartLaws
 pub mod PartTurns
 pub mod PartBegins
 mod LawRows
+mod Drained
 mod StepLaws

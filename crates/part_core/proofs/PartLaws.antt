@@ -141,7 +141,7 @@ module _ (owner : PlacementTable → ActorKey → Option HostInfo) where
   truly_drained p Stopped e d = absurd (cc)
 
   -- and says so of each that is
-  owns_drained : (p : PartState) (cs : List ActorCell) → ((c : ActorCell) → In c cs → c.active ≡ true → is_own owner p c.key ≡ true) → no_active_foreign owner p cs ≡ true
+  pub owns_drained : (p : PartState) (cs : List ActorCell) → ((c : ActorCell) → In c cs → c.active ≡ true → is_own owner p c.key ≡ true) → no_active_foreign owner p cs ≡ true
   owns_drained p [] h = refl
   owns_drained p (d ∷ cs) h =
       and_from (not (d.active && is_foreign owner p d.key)) (no_active_foreign owner p cs)

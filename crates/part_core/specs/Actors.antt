@@ -12,7 +12,8 @@ use Rattle.part_core.specs.declared.event.PartReply.{PartReply}
 use Rattle.part_core.specs.declared.event.PartReply.TheVariants as replies
 use Rattle.part_cells.specs.Cells.{drop_cell, total_calls}
 use Rattle.part_core.specs.Marks.{marks_of_begin}
-use Rattle.part_core.specs.Part.{PartState, PartStep, next_drawn, with_cell, refused}
+use Rattle.part_core.specs.Part.{PartState, PartStep, next_drawn, with_cell, refused, ring_owner}
+use Rattle.part_core.specs.PartRuns.{IsTrulyDrained}
 use Rattle.part_core.specs.Rooms.{PartView}
 use Rattle.part_core.specs.Settings.{AreShallow}
 use Rattle.part_cells.specs.Order.{AreInOrder}
@@ -44,11 +45,12 @@ state_of s a =
 abbrev pub view_of : Standing → ActorsState → PartView
 view_of s a = record { state = state_of s a; recent = a.recent }
 
--- depths are in range, and versions at most 2^62
-pub record IsStandingKept (s : Standing) : Type 0 where
+-- Depths are in range, versions at most 2^62, and a part that is known to be drained is.
+pub record IsStandingKept (s : Standing) (a : ActorsState) : Type 0 where
   pub shallow : AreShallow s.kinds
   pub seen_fits : s.seen ≤ 2 ^ 62
   pub opened_fits : s.opened ≤ 2 ^ 62
+  pub drained : s.drained ≡ true → IsTrulyDrained ring_owner (state_of s a)
 
 -- the number of each call of a cell was drawn, and a number for each hold
 pub record IsNumbered (drawn : ℕ) (c : CellState) : Type 0 where

@@ -58,6 +58,7 @@ impl Part {
                     opened: 0,
                     table,
                     since: 0,
+                    drained: false,
                 };
                 let actors = Actors::new(alloc);
                 Ok(Part {

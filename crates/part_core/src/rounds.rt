@@ -1,14 +1,14 @@
 // What table events, time and the stop do with the actors of a part.
-ghost use Rattle.std.specs.Prelude.{◌≡◌, ◌≤◌, ◌^◌, []};
+ghost use Rattle.std.specs.Prelude.{◌≡◌, ◌&&◌, true, []};
 ghost use Rattle.part_core.specs.Actors.{no_actors, state_of};
 ghost use Rattle.part_core.specs.Marks.{begun_calls, ended_calls, marks_of_stop};
-ghost use Rattle.part_core.specs.Part.{is_drained, receipt_of, open_cell, tick_cell, each_cell, ring_owner};
+ghost use Rattle.part_core.specs.Part.{is_updated, is_drained, open_cell, tick_cell, each_cell, ring_owner};
+ghost use Rattle.part_core.specs.PartRuns.{IsTrulyDrained};
 
 use crate::actors::Actors;
 use crate::calls::forget_calls;
 use crate::opening::{Opening, open_cells};
 use crate::owners::is_drained;
-use crate::receipt::Receipt;
 use crate::stage::is_updated;
 use crate::standing::Standing;
 use crate::stopping::list_open;
@@ -16,21 +16,13 @@ use crate::ticking::{Ticking, tick_cells};
 use part_cells::Tree;
 
 impl Actors {
-    /// Whether no active actor belongs to another owner.
+    /// Whether the part is updated and no active actor belongs to another owner. Where that is known, no cell is
+    /// looked at.
     pub(crate) fn is_drained(&self, standing: &Standing) -> bool
-        ensures { result ≡ is_drained ring_owner (state_of standing.now self.now) }
+        requires known { standing.now.drained ≡ true → IsTrulyDrained ring_owner (state_of standing.now self.now) }
+        ensures { result ≡ (is_updated standing.now.stage && is_drained ring_owner (state_of standing.now self.now)) }
     {
-        is_drained(standing, &self.cells)
-    }
-
-    /// What the part shows of itself.
-    pub(crate) fn receipt(&self, standing: &Standing) -> Receipt
-        requires seen { standing.now.seen ≤ 2 ^ 62 }
-        requires opened { standing.now.opened ≤ 2 ^ 62 }
-        ensures { result ≡ receipt_of ring_owner (state_of standing.now self.now) }
-    {
-        let drained = is_updated(&standing.stage) && self.is_drained(standing);
-        standing.receipt(drained)
+        standing.drained || (is_updated(&standing.stage) && is_drained(standing, &self.cells))
     }
 
     /// The part opens: waiting calls begin in its own cells, and are moved in the others.

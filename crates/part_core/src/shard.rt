@@ -1,10 +1,12 @@
 // A part as a state machine: what it is, and its actors.
 ghost use Rattle.std.specs.Prelude.{◌≡◌, ◌≤◌, ◌^◌, false, true, []};
-ghost use Rattle.part_core.specs.Part.{is_stopped, unchanged, lock_part, update_part, unlock_part, tick_part, stop_part, running_step, stopped_step, part_step, ring_owner};
+ghost use Rattle.part_core.specs.Part.{is_stopped, unchanged, lock_part, update_part, unlock_part, tick_part, stop_part, running_step, stopped_step, part_step, receipt_of, ring_owner};
 ghost use Rattle.part_core.specs.Rooms.{Gives, GivesEnded, GivesRunning, GivesStep, IsInRange};
+ghost use Rattle.part_core.specs.Sound.{IsPartSound};
 
 use crate::actors::Actors;
 use crate::event::{PartEvent, PartReply};
+use crate::receipt::Receipt;
 use crate::stage::{Stage, is_locked, is_updated};
 use crate::standing::Standing;
 use place_table::Table;
@@ -25,7 +27,7 @@ impl Model for Shard {
 
     ghost view = { λ a. view_of a.standing a.actors };
 
-    ghost invariant = { λ a. IsStandingKept a.standing };
+    ghost invariant = { λ a. IsStandingKept a.standing a.actors };
 }
 
 impl Shard {
@@ -36,13 +38,22 @@ impl Shard {
         self.actors.calls()
     }
 
+    /// What the part shows of itself. Whether an updated part is drained is kept.
+    fn receipt(&mut self) -> Receipt
+        ensures receipt { result ≡ receipt_of ring_owner self.old.state }
+        ensures same { self.new ≡ self.old }
+    {
+        self.standing.drained = self.actors.is_drained(&self.standing);
+        self.standing.receipt()
+    }
+
     /// Nothing has changed.
     fn unchanged(&mut self) -> PartReply
         ensures { Gives (unchanged ring_owner self.old.state) result self.new }
     {
         self.actors.forget();
         PartReply::TableStep {
-            receipt: self.actors.receipt(&self.standing),
+            receipt: self.receipt(),
             changed: false,
         }
     }
@@ -56,10 +67,10 @@ impl Shard {
             return self.unchanged();
         }
         self.actors.forget();
-        self.standing.stage = Stage::Locked;
+        self.standing.enter(Stage::Locked);
         self.standing.seen = version;
         PartReply::TableStep {
-            receipt: self.actors.receipt(&self.standing),
+            receipt: self.receipt(),
             changed: true,
         }
     }
@@ -72,11 +83,11 @@ impl Shard {
             return self.unchanged();
         }
         self.actors.forget();
-        self.standing.stage = Stage::Updated;
+        self.standing.enter(Stage::Updated);
         self.standing.table = table;
         self.standing.since = now;
         PartReply::TableStep {
-            receipt: self.actors.receipt(&self.standing),
+            receipt: self.receipt(),
             changed: true,
         }
     }
@@ -88,36 +99,39 @@ impl Shard {
         if !is_updated(&self.standing.stage) || version != self.standing.seen {
             return self.unchanged();
         }
-        if !self.actors.is_drained(&self.standing) {
+        self.standing.drained = self.actors.is_drained(&self.standing);
+        if !self.standing.drained {
             self.actors.forget();
             return PartReply::NotDrained {
-                receipt: self.actors.receipt(&self.standing),
+                receipt: self.standing.receipt(),
             };
         }
-        self.standing.stage = Stage::Open;
+        self.standing.enter(Stage::Open);
         self.standing.opened = self.standing.seen;
         let opening = self.actors.open(&self.standing);
         PartReply::Opened {
-            receipt: self.actors.receipt(&self.standing),
+            receipt: self.receipt(),
             begun: opening.begun,
             moved: opening.moved,
         }
     }
 
-    /// Time has passed.
+    /// Time has passed. In a drained part no turn of another owner's actor is open.
     fn tick(&mut self, now: u64) -> PartReply
+        requires { IsPartSound ring_owner self.old.state }
         ensures { GivesEnded (tick_part ring_owner self.old.state now) result self.new }
     {
-        if !is_updated(&self.standing.stage) {
+        if self.standing.drained || !is_updated(&self.standing.stage) {
             self.actors.forget();
             return PartReply::Ticked {
-                receipt: self.actors.receipt(&self.standing),
+                receipt: self.receipt(),
                 ended: 0,
             };
         }
         let ticking = self.actors.tick(&self.standing, now);
+        self.standing.drained = ticking.drained;
         PartReply::Ticked {
-            receipt: self.standing.receipt(ticking.drained),
+            receipt: self.standing.receipt(),
             ended: ticking.ended,
         }
     }
@@ -127,9 +141,9 @@ impl Shard {
         ensures { GivesEnded (stop_part ring_owner self.old.state) result self.new }
     {
         self.actors.stop();
-        self.standing.stage = Stage::Stopped;
+        self.standing.enter(Stage::Stopped);
         PartReply::StoppedNow {
-            receipt: self.actors.receipt(&self.standing),
+            receipt: self.receipt(),
         }
     }
 
@@ -140,7 +154,7 @@ impl Shard {
         self.actors.forget();
         match event {
             PartEvent::StopPart => PartReply::StoppedNow {
-                receipt: self.actors.receipt(&self.standing),
+                receipt: self.receipt(),
             },
             _ => PartReply::Stopped,
         }
@@ -150,6 +164,7 @@ impl Shard {
     fn run(&mut self, event: PartEvent) -> PartReply
         requires running { is_stopped self.old.state.stage ≡ false }
         requires range { IsInRange event }
+        requires sound { IsPartSound ring_owner self.old.state }
         ensures { GivesRunning event result self.old.state self.new }
     {
         match event {
@@ -177,7 +192,8 @@ impl Shard {
 
     /// One step of the part.
     pub(crate) fn step(&mut self, event: PartEvent) -> PartReply
-        requires { IsInRange event }
+        requires range { IsInRange event }
+        requires sound { IsPartSound ring_owner self.old.state }
         ensures { GivesStep event result self.old.state self.new }
     {
         match self.standing.stage {

@@ -1,5 +1,5 @@
 // What a part is apart from its actors.
-ghost use Rattle.std.specs.Prelude.{◌≡◌, ◌≤◌, ◌^◌, true};
+ghost use Rattle.std.specs.Prelude.{◌≡◌, ◌≤◌, ◌^◌, ◌&&◌, false};
 ghost use Rattle.part_core.specs.Actors.{ActorsState, state_of};
 ghost use Rattle.part_core.specs.Part.{PartState, is_updated, is_drained, seen_stage, receipt_of, ring_owner};
 
@@ -23,11 +23,13 @@ pub(crate) struct Standing {
     pub(crate) table: Table,
     /// When the table was installed.
     pub(crate) since: u64,
+    /// Whether the part is known to be drained, which it stays as long as it is updated.
+    pub(crate) drained: bool,
 }
 
-/// The stage as a receipt tells it. Whether the part is drained counts where it is updated.
+/// The stage as a receipt tells it.
 fn seen_stage(stage: &Stage, drained: bool) -> SeenStage
-    ensures { (p : PartState) → (is_updated stage.now ≡ true → drained ≡ is_drained ring_owner p) → result ≡ seen_stage ring_owner p stage.now }
+    ensures { (p : PartState) → drained ≡ (is_updated stage.now && is_drained ring_owner p) → result ≡ seen_stage ring_owner p stage.now }
 {
     match stage {
         Stage::Locked => SeenStage::Locked,
@@ -44,13 +46,21 @@ fn seen_stage(stage: &Stage, drained: bool) -> SeenStage
 }
 
 impl Standing {
-    /// What a part that stands so shows of itself. Whether it is drained counts where it is updated.
-    pub(crate) fn receipt(&self, drained: bool) -> Receipt
+    /// Comes to another stage, where nothing is known of the actors yet.
+    pub(crate) fn enter(&mut self, stage: Stage)
+        ensures { self.new ≡ record self.old { stage = stage; drained = false } }
+    {
+        self.stage = stage;
+        self.drained = false;
+    }
+
+    /// What a part that stands so shows of itself, where it is known whether it is drained.
+    pub(crate) fn receipt(&self) -> Receipt
         requires seen { self.now.seen ≤ 2 ^ 62 }
         requires opened { self.now.opened ≤ 2 ^ 62 }
-        ensures { (a : ActorsState) → (is_updated self.now.stage ≡ true → drained ≡ is_drained ring_owner (state_of self.now a)) → result ≡ receipt_of ring_owner (state_of self.now a) }
+        ensures { (a : ActorsState) → self.now.drained ≡ (is_updated self.now.stage && is_drained ring_owner (state_of self.now a)) → result ≡ receipt_of ring_owner (state_of self.now a) }
     {
-        let stage = seen_stage(&self.stage, drained);
+        let stage = seen_stage(&self.stage, self.drained);
         Receipt::of(self.member, self.number, self.seen, self.opened, stage)
     }
 }
