@@ -8,8 +8,9 @@ use Rattle.actors_top.specs.declared.status.Status.{Status}
 use Rattle.actors_top.specs.declared.status.Status.TheVariants as status
 use Rattle.actors_top.specs.Lines.{lines_of}
 use Rattle.actors_top.specs.Replay.{ReplayRun, replay_of, limit_run, run_lines, new_script, most_bytes, most_lines}
-use Rattle.actors_top.specs.ReplayTold.{IsFront, Prints, Writes, WritesFrontOf, WritesAs, RunEnds, EndsAs, ReadsAll, AreAllOf, IsAtEnd, Replays}
+use Rattle.actors_top.specs.ReplayTold.{IsFront, Prints, Writes, WritesFrontOf, WritesAs, PieceEnds, RunEnds, EndsAs, ReadsAll, AreAllOf, IsAtEnd, Replays}
 use Rattle.actors_top.proofs.NeverMix.{replay_never_mixes}
+use Rattle.actors_top.proofs.RunLemmas.{front_of, then_front}
 
 -- a front of a front is a front
 front_front : (a b c : List ℕ) → IsFront a b → IsFront b c → IsFront a c
@@ -45,6 +46,19 @@ run_ends run before after text ended status.Limit p w =
     let q : Prints run status.Limit text = subst (λ (s : Status). Prints run s text) w.0 p in (q.0, subst (λ (l : List ℕ). Writes before after l) q.1 w.1)
 run_ends run before after text ended status.Usage p w = absurd (subst (λ (s : Status). Prints run s text) w.0 p)
 run_ends run before after text ended status.SourceFault p w = absurd (subst (λ (s : Status). Prints run s text) w.0 p)
+
+-- a piece that wasn't written ends the run
+pub piece_fault : (run : ReplayRun) (before mid after : Option (List ℕ)) (written waiting rest more : List ℕ) (result : Status) → Writes before mid written → PieceEnds mid after waiting rest result
+    → (result ≡ status.Done → ⊥) → (written ++ waiting) ++ more ≡ run.text → RunEnds run result before after
+piece_fault run before mid after written waiting rest more status.SinkFault first piece not text =
+    wider_front before after (written ++ waiting) run.text (front_of (written ++ waiting) more run.text text) (then_front before mid after written waiting first piece)
+piece_fault run before mid after written waiting rest more status.OutOfMemory first piece not text =
+    wider_front before after (written ++ waiting) run.text (front_of (written ++ waiting) more run.text text) (then_front before mid after written waiting first piece)
+piece_fault run before mid after written waiting rest more status.Done first piece not text = absurd (not refl)
+piece_fault run before mid after written waiting rest more status.Refused first piece not text = absurd piece
+piece_fault run before mid after written waiting rest more status.Limit first piece not text = absurd piece
+piece_fault run before mid after written waiting rest more status.Usage first piece not text = absurd piece
+piece_fault run before mid after written waiting rest more status.SourceFault first piece not text = absurd piece
 
 -- a script within both limits is its lines' run
 pub replay-within : (bytes : List ℕ) → length bytes ≤ most_bytes → length (lines_of bytes) ≤ most_lines → replay_of bytes ≡ run_lines 1 new_script (lines_of bytes)

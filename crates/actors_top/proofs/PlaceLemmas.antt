@@ -1,5 +1,6 @@
 -- Places of texts in a roster, and what stands at these places in a list beside it.
-use Rattle.std.proofs.Common.{◌≡◌, ◌<◌, ◌+◌, ℕ, zero, suc, Bool, true, false, List, [], ◌∷◌, ◌++◌, length, get_or, Option, None, Some, is_some, refl, sym, ◌∙◌, arith, add-one}
+use Rattle.std.proofs.Common.{◌≡◌, ◌<◌, ◌+◌, ℕ, zero, suc, Bool, true, false, List, [], ◌∷◌, ◌++◌, length, get_or, Option, None, Some, is_some, refl, sym, subst, ◌∙◌, arith, add-one}
+use Rattle.std.specs.List.{slice_get}
 use Rattle.std.specs.Str.{bytes_eq}
 use Rattle.std.proofs.lemmas.Slice.Eq.{bytes_eq-Decides}
 use Rattle.actors_top.specs.Roster.{place_in, AreDistinct}
@@ -53,6 +54,22 @@ distinct_place (t ∷ ts) (suc i) h l =
         let there : place_in t ts ≡ Some i = rw same at ih in
         absurd (let gone = h.0 in cc)
     by false e ih = rw (e, ih, add-one)
+
+-- the text at a place of distinct ones is found there
+pub place_of : (ts : List (List ℕ)) (text : List ℕ) (i : ℕ) → AreDistinct ts → slice_get ts i ≡ Some text → place_in text ts ≡ Some i
+place_of ts text i h e =
+    let is : get_or ts i [] ≡ text = got ts text i e in
+    subst (λ (t : List ℕ). place_in t ts ≡ Some i) is (distinct_place ts i h (within ts text i e))
+  where
+    got : (us : List (List ℕ)) (u : List ℕ) (j : ℕ) → slice_get us j ≡ Some u → get_or us j [] ≡ u
+    got [] u j q = absurd (cc)
+    got (v ∷ us) u zero q = cc
+    got (v ∷ us) u (suc j) q = got us u j q
+
+    within : (us : List (List ℕ)) (u : List ℕ) (j : ℕ) → slice_get us j ≡ Some u → j < length us
+    within [] u j q = absurd (cc)
+    within (v ∷ us) u zero q = omega arith
+    within (v ∷ us) u (suc j) q = let rest = within us u j q in omega arith
 
 -- a text that wasn't there goes last
 pub place-push : (text : List ℕ) (ts : List (List ℕ)) (t : List ℕ) → bytes_eq text t ≡ false → place_in text (ts ++ t ∷ []) ≡ place_in text ts

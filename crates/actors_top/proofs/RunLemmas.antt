@@ -1,12 +1,15 @@
 -- One line more of a run.
-use Rattle.std.proofs.Common.{◌≡◌, ◌+◌, ◌<◌, ℕ, List, [], ◌∷◌, ◌++◌, length, take, drop, Option, None, Some, Ok, refl, sym, ap, ◌∙◌, arith}
-use Rattle.std.proofs.lemmas.List.{take_at, take_all, drop_all, take-append-drop, append_assoc}
+use Rattle.std.proofs.Common.{◌≡◌, ◌+◌, ◌<◌, ℕ, List, [], ◌∷◌, ◌++◌, length, take, drop, Option, None, Some, Ok, Err, refl, sym, ap, subst, ◌∙◌, arith}
+use Rattle.std.proofs.lemmas.List.{take_at, take_all, drop_all, take-append-drop, append_assoc, append-nil}
+use Rattle.std.proofs.Math.Seq.{take-append-add}
 use Rattle.actor_ports.specs.Port.{TakesFront, WritesAll}
 use Rattle.actor_ports.specs.declared.port.PortError.{PortError}
 use Rattle.actors_top.specs.World.{SoloWorld}
 use Rattle.actors_top.specs.Outcomes.{bad_line_text}
 use Rattle.actors_top.specs.Replay.{ScriptState, LineStep, Goes, Stops, ReplayRun, line_step, after_line, run_lines, most_bytes}
-use Rattle.actors_top.specs.ReplayTold.{GoesTo, IsFront, Prints, RefusesLine, HasRead, ReadsAll, Writes, WritesFrontOf, WritesAs}
+use Rattle.actors_top.specs.ReplayTold.{GoesTo, GivesLine, IsFront, Prints, RefusesLine, EndsLines, HasRead, ReadsAll, Writes, WritesFrontOf, WritesAs, PieceEnds}
+use Rattle.actors_top.specs.declared.script.LineEnd.{LineEnd}
+use Rattle.actors_top.specs.declared.script.LineEnd.TheVariants as ending
 use Rattle.actors_top.specs.declared.status.Status.{Status}
 use Rattle.actors_top.specs.declared.status.Status.TheVariants as status
 
@@ -45,6 +48,40 @@ refused_prints number column before after run rest status.Usage text same bad th
 refused_prints number column before after run rest status.SourceFault text same bad three h = absurd h
 refused_prints number column before after run rest status.SinkFault text same bad three h = absurd h
 refused_prints number column before after run rest status.Limit text same bad three h = absurd h
+
+-- ---- text behind what was written before
+
+-- what a step adds does so behind another text
+behind : (written a b x y : List ℕ) → a ++ x ≡ b ++ y → (written ++ a) ++ x ≡ (written ++ b) ++ y
+behind written a b x y e = append_assoc written a x ∙ ap (λ (r : List ℕ). written ++ r) e ∙ sym (append_assoc written b y)
+
+pub goes_on_behind : (written : List ℕ) (number : ℕ) (s new : ScriptState) (line : List ℕ) (lines : List (List ℕ)) (before after : List ℕ) → GoesTo (line_step s line) new before after
+    → GoesOn (written ++ before) (written ++ after) (run_lines number s (line ∷ lines)) (run_lines (number + 1) new lines)
+goes_on_behind written number s new line lines before after goes =
+    let on = goes_on number s new line lines before after goes in
+    record { text = behind written after before _ _ on.text; status = on.status }
+
+refused_behind : (written : List ℕ) (number column : ℕ) (before after : List ℕ) (ended : Status) → RefusesLine number column before after ended → RefusesLine number column (written ++ before) (written ++ after) ended
+refused_behind written number column before after status.Refused h = ap (λ (r : List ℕ). written ++ r) h ∙ sym (append_assoc written before (bad_line_text number column))
+refused_behind written number column before after status.OutOfMemory h = ap (λ (r : List ℕ). written ++ r) h
+refused_behind written number column before after status.Done h = absurd h
+refused_behind written number column before after status.Usage h = absurd h
+refused_behind written number column before after status.SourceFault h = absurd h
+refused_behind written number column before after status.SinkFault h = absurd h
+refused_behind written number column before after status.Limit h = absurd h
+
+-- a line that ends the replay ends the run; `written` was written before, and `before` and `after` wait
+pub ended_prints : (written : List ℕ) (number : ℕ) (end : LineEnd) (s new : ScriptState) (line : List ℕ) (lines : List (List ℕ)) (before mid after : List ℕ) (run : ReplayRun) (ended : Status)
+    → GivesLine {X = Unit {0}} (Err end) (line_step s line) new before mid → EndsLines end number mid after ended
+    → (written ++ before) ++ (run_lines number s (line ∷ lines)).text ≡ run.text → (run_lines number s (line ∷ lines)).status ≡ run.status → Prints run ended (written ++ after)
+ended_prints written number (ending.Refused column) s new line lines before mid after run ended gives ends text same =
+    let refuses : RefusesLine number column before after ended = subst (λ (m : List ℕ). RefusesLine number column m after ended) gives.1 ends in
+    refused_prints number column (written ++ before) (written ++ after) run (run_lines number s (line ∷ lines)) ended text same
+    (stops_text number column s line lines gives.0) (stops_status number column s line lines gives.0) (refused_behind written number column before after ended refuses)
+ended_prints written number ending.OutOfMemory s new line lines before mid after run ended gives ends text same =
+    let front : IsFront (written ++ before) run.text = front_of (written ++ before) (run_lines number s (line ∷ lines)).text run.text text in
+    let still : IsFront (written ++ after) run.text = subst (λ (r : List ℕ). IsFront (written ++ r) run.text) (sym (ends.1 ∙ gives)) front in
+    subst (λ (e : Status). Prints run e (written ++ after)) (sym ends.0) still
 
 -- ---- reading the source
 
@@ -96,3 +133,46 @@ written_as before after text status.Refused written = (refl, all_written before 
 written_as before after text status.Limit written = (refl, all_written before after text written)
 written_as before after text status.Usage written = (refl, all_written before after text written)
 written_as before after text status.SourceFault written = (refl, all_written before after text written)
+
+-- ---- writing it in pieces
+
+-- nothing was written yet
+pub none_written : (before : Option (List ℕ)) → Writes before before []
+none_written None = tt
+none_written (Some held) = ap (λ (r : List ℕ). Some r) (sym (append-nil held))
+
+-- a text was written, and then another
+pub then_written : (before mid after : Option (List ℕ)) (written text : List ℕ) → Writes before mid written → Writes mid after text → Writes before after (written ++ text)
+then_written None mid after written text first second = tt
+then_written (Some held) mid after written text first second =
+    let more : Writes (Some (held ++ written)) after text = subst (λ (m : Option (List ℕ)). Writes m after text) first second in
+    more ∙ ap (λ (r : List ℕ). Some r) (append_assoc held written text)
+
+pub then_front : (before mid after : Option (List ℕ)) (written text : List ℕ) → Writes before mid written → WritesFrontOf mid after text → WritesFrontOf before after (written ++ text)
+then_front None mid after written text first second = tt
+then_front (Some held) mid after written text first second =
+    let more : WritesFrontOf (Some (held ++ written)) after text = subst (λ (m : Option (List ℕ)). WritesFrontOf m after text) first second in (
+      written ++ more.0,
+      (length written + more.1.0, ap (λ (r : List ℕ). written ++ r) more.1.1 ∙ sym (take-append-add written text more.1.0)),
+      more.2 ∙ ap (λ (r : List ℕ). Some r) (append_assoc held written more.0),
+    )
+
+-- a text was written before one that was written so
+pub then_as : (before mid after : Option (List ℕ)) (written text : List ℕ) (ended result : Status) → Writes before mid written → WritesAs mid after text ended result → WritesAs before after (written ++ text) ended result
+then_as before mid after written text ended status.SinkFault first as_ = then_front before mid after written text first as_
+then_as before mid after written text ended status.OutOfMemory first as_ = then_front before mid after written text first as_
+then_as before mid after written text ended status.Done first as_ = (as_.0, then_written before mid after written text first as_.1)
+then_as before mid after written text ended status.Refused first as_ = (as_.0, then_written before mid after written text first as_.1)
+then_as before mid after written text ended status.Limit first as_ = (as_.0, then_written before mid after written text first as_.1)
+then_as before mid after written text ended status.Usage first as_ = (as_.0, then_written before mid after written text first as_.1)
+then_as before mid after written text ended status.SourceFault first as_ = (as_.0, then_written before mid after written text first as_.1)
+
+-- all that waited was written, and nothing waits
+pub piece_whole : (before after : Option (List ℕ)) (text rest : List ℕ) (result : Status) → WritesAs before after text status.Done result → rest ≡ [] → PieceEnds before after text rest result
+piece_whole before after text rest status.Done as_ none = (text, as_.1, ap (λ (r : List ℕ). text ++ r) none ∙ append-nil text)
+piece_whole before after text rest status.SinkFault as_ none = as_
+piece_whole before after text rest status.OutOfMemory as_ none = as_
+piece_whole before after text rest status.Refused as_ none = absurd (let e = as_.0 in cc)
+piece_whole before after text rest status.Limit as_ none = absurd (let e = as_.0 in cc)
+piece_whole before after text rest status.Usage as_ none = absurd (let e = as_.0 in cc)
+piece_whole before after text rest status.SourceFault as_ none = absurd (let e = as_.0 in cc)

@@ -104,6 +104,11 @@ RefusesLine number column before after status.SourceFault = ⊥
 RefusesLine number column before after status.SinkFault = ⊥
 RefusesLine number column before after status.Limit = ⊥
 
+-- so the lines ended: the line of a refused line was added, or there was no memory for an event
+abbrev pub EndsLines : LineEnd → ℕ → List ℕ → List ℕ → Status → Type 0
+EndsLines (ending.Refused column) number before after ended = RefusesLine number column before after ended
+EndsLines ending.OutOfMemory number before after ended = (ended ≡ status.OutOfMemory) × (after ≡ before)
+
 -- The status stays where all of the text was written, or where it was want of memory; else it is the sink's.
 abbrev pub WritesAs : Option (List ℕ) → Option (List ℕ) → List ℕ → Status → Status → Type 0
 WritesAs before after text run status.SinkFault = WritesFrontOf before after text
@@ -113,6 +118,16 @@ WritesAs before after text run status.Refused = (run ≡ status.Refused) × Writ
 WritesAs before after text run status.Limit = (run ≡ status.Limit) × Writes before after text
 WritesAs before after text run status.Usage = (run ≡ status.Usage) × Writes before after text
 WritesAs before after text run status.SourceFault = (run ≡ status.SourceFault) × Writes before after text
+
+-- Of the text that waited a piece was written, and the rest waits; with a fault a front of it was written.
+abbrev pub PieceEnds : Option (List ℕ) → Option (List ℕ) → List ℕ → List ℕ → Status → Type 0
+PieceEnds before after waiting rest status.Done = (piece : List ℕ) × Writes before after piece × (piece ++ rest ≡ waiting)
+PieceEnds before after waiting rest status.SinkFault = WritesFrontOf before after waiting
+PieceEnds before after waiting rest status.OutOfMemory = WritesFrontOf before after waiting
+PieceEnds before after waiting rest status.Refused = ⊥
+PieceEnds before after waiting rest status.Limit = ⊥
+PieceEnds before after waiting rest status.Usage = ⊥
+PieceEnds before after waiting rest status.SourceFault = ⊥
 
 -- these bytes came of the source, and the rest is left
 abbrev pub HasRead : Option (List ℕ) → Option (List ℕ) → List ℕ → Type 0

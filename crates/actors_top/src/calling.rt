@@ -49,12 +49,13 @@ fn new_cell(alloc: Global, depth: u32) -> Result<Cell, OutOfMemory>
     }
 }
 
-/// The call is asked of the actor, and the place of the actor's cell is told.
+/// The call is asked of the actor, which may well be at the place `near`; the place of its cell is told.
 pub(crate) fn ask_actor(
     alloc: Global,
     types: &Types,
     keys: &mut Roster,
     cells: &mut Vec<Cell>,
+    near: usize,
     number: u64,
     key: &[u8],
     chain: Option<&[u8]>,
@@ -66,10 +67,11 @@ pub(crate) fn ask_actor(
     ensures outcome { IfOk result (λ r. r.1.outcome ≡ ask_outcome number (ask_at (cell_for types.now key.now (actors_told keys.old cells.old.items)) number (option_copied chain.entry)).answer) }
     ensures admitted { IfOk result (λ r. r.1.admitted ≡ is_ok (ask_at (cell_for types.now key.now (actors_told keys.old cells.old.items)) number (option_copied chain.entry)).answer) }
     ensures place { IfOk result (λ r. slice_get keys.new r.0 ≡ Some key.now) }
+    ensures below { IfOk result (λ r. r.0 ≤ length keys.old) }
     ensures keeps { OnOk result (KeepsActors keys.old cells.old.items keys.new cells.new.items (ask_at (cell_for types.now key.now (actors_told keys.old cells.old.items)) number (option_copied chain.entry)).cell) }
     ensures unchanged { OnErr result ((keys.new ≡ keys.old) × (cells.new.items ≡ cells.old.items)) }
 {
-    match keys.find(key) {
+    match keys.find_near(key, near) {
         Some(at) => {
             let admission = ask_cell(alloc, &mut cells[at], number, chain)?;
             Ok((at, admission))

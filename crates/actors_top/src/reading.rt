@@ -94,9 +94,9 @@ fn chain_clause<'a>(past: u64, words: Words<'a>) -> Result<(Option<&'a [u8]>, Wo
     match words.next() {
         None => Ok((None, words)),
         Some((word, words)) => {
-            if word.text != b"chain".as_slice() {
+            let [b'c', b'h', b'a', b'i', b'n'] = word.text else {
                 return Err(word.column);
-            }
+            };
             let (chain, words) = next_chain(past, words)?;
             Ok((Some(chain), words))
         }

@@ -1,9 +1,9 @@
-// The replay of a script: its bytes are read whole, its lines run in order, and what they print is written.
-ghost use Rattle.std.specs.Prelude.{◌≡◌, ◌≢◌, ◌<◌, []};
+// The replay of a script: its bytes are read whole, its lines run in order, and what they print is written in pieces.
+ghost use Rattle.std.specs.Prelude.{◌≡◌, ◌≢◌, ◌<◌, ◌≤◌, []};
 ghost use Rattle.actor_ports.specs.Port.{HasCause};
 ghost use Rattle.actors_top.specs.Lines.{lines_of};
 ghost use Rattle.actors_top.specs.Replay.{new_script, run_lines, replay_of};
-ghost use Rattle.actors_top.specs.ReplayTold.{Prints, ReadsAll, RefusesLine, WritesAs, RunEnds, Replays};
+ghost use Rattle.actors_top.specs.ReplayTold.{ReadsAll, RefusesLine, EndsLines, WritesAs, PieceEnds, RunEnds, Replays};
 
 use crate::lines::{count_lines, next_line};
 use crate::script::{LineEnd, Script};
@@ -17,6 +17,9 @@ const MOST_BYTES: usize = 67_108_864;
 
 /// The greatest number of lines of a script.
 const MOST_LINES: usize = 1_000_000;
+
+/// How many bytes of outcomes are enough to be written.
+const PIECE: usize = 65_536;
 
 /// Reads the source to its end, or one byte past the greatest length of a script.
 fn read_all<I: Source>(input: &mut I, bytes: &mut Vec<u8>) -> Result<(), PortError>
@@ -34,30 +37,35 @@ fn read_all<I: Source>(input: &mut I, bytes: &mut Vec<u8>) -> Result<(), PortErr
     Ok(())
 }
 
-/// Runs the lines of a script up to the first that is refused.
-fn run_script(
-    alloc: Global,
-    script: &[u8],
-    state: &mut Script,
-    transcript: &mut Transcript,
-) -> Status
-    requires opening { state.old ≡ new_script }
-    requires empty { transcript.old ≡ [] }
-    ensures { Prints (run_lines 1 new_script (lines_of script.now)) result transcript.new }
+/// Writes the text of a run that has come to this status.
+fn write_all<W: Sink>(text: &[u8], status: Status, output: &mut W) -> Status
+    requires { status ≢ Status.SinkFault }
+    ensures ends { WritesAs (W.contents output.old) (W.contents output.new) text.now status result }
+    ensures cause { result ≡ Status.SinkFault → W.write_faults output.old < W.write_faults output.new }
+    ensures counted { W.write_faults output.old ≤ W.write_faults output.new }
 {
-    let mut rest = script;
-    let mut number = 1u64;
-    while !rest.is_empty() {
-        let (line, behind) = next_line(rest);
-        match state.line(alloc, line, transcript) {
-            Ok(()) => {}
-            Err(LineEnd::OutOfMemory) => return Status::OutOfMemory,
-            Err(LineEnd::Refused { column }) => return refuse(number, column, transcript),
-        }
-        rest = behind;
-        number += 1;
+    match output.write(text) {
+        Ok(()) => status,
+        Err(_) if status == Status::OutOfMemory => status,
+        Err(PortError::Failed) => Status::SinkFault,
+        Err(PortError::OutOfMemory) => Status::OutOfMemory,
     }
-    Status::Done
+}
+
+/// Writes the lines that wait, once they are many. Where that is done they wait no more.
+fn write_piece<W: Sink>(transcript: &mut Transcript, output: &mut W) -> Status
+    ensures ends { PieceEnds (W.contents output.old) (W.contents output.new) transcript.old transcript.new result }
+    ensures cause { result ≡ Status.SinkFault → W.write_faults output.old < W.write_faults output.new }
+    ensures counted { W.write_faults output.old ≤ W.write_faults output.new }
+{
+    if transcript.len() < PIECE {
+        return Status::Done;
+    }
+    let status = write_all(transcript.as_slice(), Status::Done, output);
+    if status == Status::Done {
+        transcript.clear();
+    }
+    status
 }
 
 /// Prints the line of a refused line.
@@ -70,18 +78,48 @@ fn refuse(number: u64, column: u64, transcript: &mut Transcript) -> Status
     }
 }
 
-/// Writes the text of a run that has come to this status.
-fn write_all<W: Sink>(text: &[u8], status: Status, output: &mut W) -> Status
-    requires { status ≢ Status.SinkFault }
-    ensures ends { WritesAs (W.contents output.old) (W.contents output.new) text.now status result }
+/// Prints why the line of this number ended the replay.
+fn end_lines(end: LineEnd, number: u64, transcript: &mut Transcript) -> Status
+    ensures { EndsLines end number transcript.old transcript.new result }
+{
+    match end {
+        LineEnd::OutOfMemory => Status::OutOfMemory,
+        LineEnd::Refused { column } => refuse(number, column, transcript),
+    }
+}
+
+/// Runs the lines of a script up to the first that is refused, and writes what they print, a piece at a time.
+fn run_script<W: Sink>(
+    alloc: Global,
+    script: &[u8],
+    state: &mut Script,
+    transcript: &mut Transcript,
+    output: &mut W,
+) -> Status
+    requires opening { state.old ≡ new_script }
+    requires empty { transcript.old ≡ [] }
+    ensures ends { RunEnds (run_lines 1 new_script (lines_of script.now)) result (W.contents output.old) (W.contents output.new) }
     ensures cause { result ≡ Status.SinkFault → W.write_faults output.old < W.write_faults output.new }
 {
-    match output.write(text) {
-        Ok(()) => status,
-        Err(_) if status == Status::OutOfMemory => status,
-        Err(PortError::Failed) => Status::SinkFault,
-        Err(PortError::OutOfMemory) => Status::OutOfMemory,
+    let mut rest = script;
+    let mut number = 1u64;
+    while !rest.is_empty() {
+        let (line, behind) = next_line(rest);
+        match state.line(alloc, line, transcript) {
+            Ok(()) => {}
+            Err(end) => {
+                let status = end_lines(end, number, transcript);
+                return write_all(transcript.as_slice(), status, output);
+            }
+        }
+        match write_piece(transcript, output) {
+            Status::Done => {}
+            fault => return fault,
+        }
+        rest = behind;
+        number += 1;
     }
+    write_all(transcript.as_slice(), Status::Done, output)
 }
 
 /// Writes the line of a limit that the script is above.
@@ -105,8 +143,7 @@ fn replay_bytes<W: Sink>(alloc: Global, script: &[u8], output: &mut W) -> Status
     }
     let mut state = Script::new(alloc);
     let mut transcript = Transcript::new(alloc);
-    let status = run_script(alloc, script, &mut state, &mut transcript);
-    write_all(transcript.as_slice(), status, output)
+    run_script(alloc, script, &mut state, &mut transcript, output)
 }
 
 /// Replays the script that comes from `input`, and writes what it prints to `output`.

@@ -46,6 +46,17 @@ impl Roster {
         self.texts.get_index_of(text)
     }
 
+    /// The same, where the text may well be at `near`.
+    pub(crate) fn find_near(&self, text: &[u8], near: usize) -> Option<usize>
+        ensures { result ≡ place_in text.now self.now }
+    {
+        let _count = self.len();
+        match self.texts.get_index(near) {
+            Some(found) if found.as_slice() == text => Some(near),
+            _ => self.find(text),
+        }
+    }
+
     /// Adds a new text at the end.
     pub(crate) fn add(&mut self, alloc: Global, text: &[u8]) -> Result<(), OutOfMemory>
         requires { place_in text.now self.old ≡ None }

@@ -216,3 +216,18 @@ fn faults_of_outside_are_told_apart(rt: HostRuntime) -> Result<(), Fail> {
     assert_eq!(rt; output.bytes(), b"none\n".as_slice());
     Ok(())
 }
+
+#[test]
+fn output_is_written_in_pieces(rt: HostRuntime) -> Result<(), Fail> {
+    let mut script = Vec::new(rt.alloc());
+    for _ in 0..20_000 {
+        script.extend_from_slice(b"end 1\n")?;
+    }
+    let (status, output) = replay(rt.alloc(), script.as_slice(), &[], &[])?;
+    assert_eq!(rt; status, 0);
+    assert_eq!(rt; output.bytes().len(), 100_000);
+    let (status, output) = replay(rt.alloc(), script.as_slice(), &[], &[2])?;
+    assert_eq!(rt; status, 5);
+    assert_eq!(rt; output.bytes().len(), 65_540);
+    Ok(())
+}

@@ -1,5 +1,5 @@
-// What a replay is to write, line by line.
-ghost use Rattle.std.specs.Prelude.{◌≡◌, ◌++◌, [], OnOk, OnErr};
+// What a replay is to write next, line by line.
+ghost use Rattle.std.specs.Prelude.{◌≡◌, ◌++◌, [], length, OnOk, OnErr};
 ghost use Rattle.actors_top.specs.Outcomes.{outcome_text, bad_line_text};
 
 use crate::event::Outcome;
@@ -8,7 +8,7 @@ use crate::outcomes::{write_bad_line, write_outcome};
 use std::alloc::{AllocError, Global};
 use std::marker::Model;
 
-/// The lines so far. Each line is made in a buffer of its own, so that it comes whole or not at all.
+/// The lines that wait to be written. Each line is made in a buffer of its own, so that it comes whole or not at all.
 #[derive(Drop)]
 pub(crate) struct Transcript {
     text: Vec<u8>,
@@ -34,11 +34,25 @@ impl Transcript {
         }
     }
 
-    /// The bytes of the lines so far.
+    /// The bytes of the lines.
     pub(crate) fn as_slice(&self) -> &[u8]
         ensures { result.now ≡ self.now }
     {
         self.text.as_slice()
+    }
+
+    /// How many bytes the lines have.
+    pub(crate) fn len(&self) -> usize
+        ensures { result ≡ length self.now }
+    {
+        self.text.len()
+    }
+
+    /// No line any more.
+    pub(crate) fn clear(&mut self)
+        ensures { self.new ≡ [] }
+    {
+        self.text.clear();
     }
 
     /// Adds an outcome's line.

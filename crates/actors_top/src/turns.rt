@@ -18,7 +18,7 @@ pub(crate) struct Admission {
 
 impl Admission {
     /// The place of the call's actor, none where the call was refused.
-    pub(crate) fn actor(&self, place: usize) -> Option<usize>
+    pub(crate) fn actor(&self, place: u32) -> Option<u32>
         ensures { result ≡ (if self.now.admitted then Some place else None) }
     {
         if self.admitted { Some(place) } else { None }

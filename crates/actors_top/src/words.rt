@@ -1,10 +1,23 @@
 // The words of a line, one after another.
-ghost use Rattle.std.specs.Prelude.{◌+◌, ◌≤◌, length};
+ghost use Rattle.std.specs.Prelude.{◌+◌, ◌≤◌, length, IfSome, IfNone};
 ghost use Rattle.std.specs.Option.{ForSome};
-
-use crate::lines::find_byte;
+ghost use Rattle.actors_top.specs.Lines.{IsFirstByte, LacksByte};
 
 const SPACE: u8 = b' ';
+
+/// The place, from 0, of the first space. Words are short, so the bytes are looked at one by one.
+#[inline]
+fn word_end(text: &[u8]) -> Option<usize>
+    ensures found { IfSome result (λ i. IsFirstByte 32 text.now i) }
+    ensures missing { IfNone result (LacksByte 32 text.now) }
+{
+    for (at, byte) in text.iter().enumerate() {
+        if *byte == SPACE {
+            return Some(at);
+        }
+    }
+    None
+}
 
 /// A word of a line and its column, from 1 and in bytes.
 #[derive(Clone, Copy)]
@@ -74,7 +87,7 @@ impl<'a> Words<'a> {
             (λ next. words_left self.entry ≡ word_told next.0 ∷ words_left next.1) }
     {
         let rest = self.rest?;
-        match find_byte(rest, SPACE) {
+        match word_end(rest) {
             Some(end) => {
                 let token = Token {
                     text: &rest[..end],

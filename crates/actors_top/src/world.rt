@@ -19,13 +19,18 @@ use turn_core::Cell;
 /// The greatest number of events of a world, 2^62.
 const MOST_EVENTS: u64 = 1 << 62;
 
-/// The cells of the actors that were called, and the depths of their types.
+/// The greatest place of an actor, which takes four bytes for each call.
+const GREATEST_PLACE: usize = u32::MAX as usize;
+
+/// The cells of the actors that were called, and the depths of their types. The place of the actor that was called
+/// last is kept, since its calls often follow each other.
 #[derive(Drop)]
 pub(crate) struct World {
     types: Types,
     keys: Roster,
     cells: Vec<Cell>,
-    calls: Vec<Option<usize>>,
+    calls: Vec<Option<u32>>,
+    near: usize,
     events: u64,
 }
 
@@ -51,6 +56,7 @@ impl World {
             keys: Roster::new(alloc),
             cells: Vec::new(alloc),
             calls: Vec::new(alloc),
+            near: 0,
             events: 0,
         }
     }
@@ -108,17 +114,22 @@ impl World {
         if number != next {
             return Err(WorldError::WrongNumber { next });
         }
+        if self.keys.len() > GREATEST_PLACE {
+            return Err(WorldError::OutOfMemory);
+        }
         self.calls.reserve(1)?;
         let (place, admission) = ask_actor(
             alloc,
             &self.types,
             &mut self.keys,
             &mut self.cells,
+            self.near,
             number,
             key,
             chain,
         )?;
-        self.calls.push(admission.actor(place)).unwrap();
+        self.calls.push(admission.actor(place as u32)).unwrap();
+        self.near = place;
         self.events += 1;
         Ok(admission.outcome)
     }
@@ -174,11 +185,14 @@ impl World {
 }
 
 /// The place of a call's actor, none where the call was refused or never asked.
-fn place_of_call(calls: &[Option<usize>], call: u64) -> Option<usize>
+fn place_of_call(calls: &[Option<u32>], call: u64) -> Option<usize>
     ensures { result ≡ place_of_call call calls.now }
 {
     if call == 0 || call > calls.len() as u64 {
         return None;
     }
-    calls[call as usize - 1]
+    match calls[call as usize - 1] {
+        Some(place) => Some(place as usize),
+        None => None,
+    }
 }

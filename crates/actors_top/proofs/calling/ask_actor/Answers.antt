@@ -36,6 +36,11 @@ returns-in_ok-admission-in-Some-clause-admitted c =
 pub returns-in_ok-admission-in-Some-clause-place : goal.returns-in_ok-admission-in-Some-clause-place
 returns-in_ok-admission-in-Some-clause-place c = key_at_place c.args.key.now c.args.keys.now c.in-Some.at (sym c.in-Some.ensures)
 
+pub returns-in_ok-admission-in-Some-clause-below : goal.returns-in_ok-admission-in-Some-clause-below
+returns-in_ok-admission-in-Some-clause-below c =
+    let below = place_below c.args.key.now c.args.keys.now c.in-Some.at (sym c.in-Some.ensures) in
+    omega arith
+
 pub returns-in_ok-admission-in-Some-clause-keeps : goal.returns-in_ok-admission-in-Some-clause-keeps
 returns-in_ok-admission-in-Some-clause-keeps c =
     let cell = cell_for-place c.args.types.now c.args.key.now c.args.keys.now c.args.cells.now.items c.in-Some.at c.index_mut.result.now c.requires.each (sym c.in-Some.ensures) in
