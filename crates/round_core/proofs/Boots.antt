@@ -1,93 +1,83 @@
--- Greatest boots where a search finds their node, and where it doesn't.
-use Rattle.std.proofs.Common.{◌≡◌, ℕ, Bool, cond, suc, zero, ◌<◌, ◌≤◌, true, false, List, [], ◌∷◌, length, get_or, set, refl, ap, arith}
-use Rattle.std.specs.List.{insert}
+-- What a map from nodes to boots says of the known nodes.
+use Rattle.std.proofs.Common.{◌≡◌, ℕ, ◌+◌, Bool, ◌||◌, cond, suc, ◌<◌, ◌≤◌, true, false, List, [], ◌∷◌, length, Option, Some, None, is_some, unwrap_or, bytes_eq, refl, sym, ap, ◌∙◌, arith}
 use Rattle.std.specs.declared.cmp.Ordering.{Ordering}
 use Rattle.std.specs.declared.cmp.Ordering.TheVariants.{Less, Equal, Greater}
-use Rattle.std.specs.declared.result.Result.{Result}
-use Rattle.std.specs.declared.result.Result.TheVariants.{Ok, Err}
+use Rattle.std.specs.BTreeMap.{insert_entry, is_at}
+use Rattle.std.specs.Map.{lookup}
+use Rattle.std.specs.Ordering.{is_eq, match_ordering}
+use Rattle.std.proofs.lemmas.Map.Text.{is_eq-slice_cmp}
+use Rattle.std.proofs.lemmas.Slice.Eq.{bytes_eq-Decides}
 use Rattle.actor_names.specs.declared.member.Member.{Member}
 use Rattle.round_core.specs.declared.book.Known.{Known}
-use Rattle.round_core.specs.Members.{greatest_boot, is_known, put_boot}
-use Rattle.round_core.specs.Places.{known_node, Ascends, place_from, place_by}
-use Rattle.round_core.proofs.Ascending.{ascends_insert}
-use Rattle.std.proofs.lemmas.List.Edits.{length-insert}
-use Rattle.round_core.proofs.Places.{cmp, same_texts, before_texts, one_more-Ok, one_more-Err, none_after, err_within}
+use Rattle.round_core.specs.declared.node_key.NodeKey.{NodeKey}
+use Rattle.round_core.specs.Book.{known_in}
+use Rattle.round_core.specs.Members.{greatest_boot, is_known, put_boot, is_before}
+use Rattle.round_core.proofs.Places.{cmp}
 
-abbrev place : List ℕ → List Known → Result ℕ ℕ
-place node ks = place_by known_node node ks
+abbrev pub key_cmp : NodeKey → NodeKey → Ordering
+key_cmp a b = cmp a.node b.node
 
-pub greatest_found : (node : List ℕ) (ks : List Known) (i : ℕ) (d : Known) → place_by known_node node ks ≡ Ok i → greatest_boot ks node ≡ (get_or ks i d).greatest
-greatest_found node [] i d p = absurd (cc)
-greatest_found node (k ∷ ks) i d p = go (cmp k.node node) refl (λ j q. greatest_found node ks j d q) i p
+abbrev boot_at : NodeKey → List (NodeKey × ℕ) → Option ℕ
+boot_at k es = lookup (is_at (key_cmp k)) es
+
+pub known_count : (es : List (NodeKey × ℕ)) → length (known_in es) ≡ length es
+known_count [] = refl
+known_count (e ∷ es) = ap suc (known_count es)
+
+greatest_in : (k : NodeKey) (es : List (NodeKey × ℕ)) → greatest_boot (known_in es) k.node ≡ unwrap_or (boot_at k es) 0
+greatest_in k [] = refl
+greatest_in k (e ∷ es) = rw (is_eq-slice_cmp k.node e.0.node) (go (bytes_eq k.node e.0.node) (greatest_in k es))
   where
-    go : (o : Ordering) → cmp k.node node ≡ o → ((j : ℕ) → place_by known_node node ks ≡ Ok j → greatest_boot ks node ≡ (get_or ks j d).greatest) → (i : ℕ) → place_from o (place node ks) ≡ Ok i → greatest_boot (k ∷ ks) node ≡ (get_or (k ∷ ks) i d).greatest
-    go Less e ih i p =
-        let h = one_more-Ok (place node ks) i p in
-        rw (same_texts k.node node Less e, h.2) (ih h.0 h.1)
-    go Equal e ih zero p = rw (same_texts k.node node Equal e) refl
-    go Equal e ih (suc i) p = absurd (cc)
-    go Greater e ih i p = absurd (cc)
+    go : (b : Bool) → greatest_boot (known_in es) k.node ≡ unwrap_or (boot_at k es) 0 → cond b e.1 (greatest_boot (known_in es) k.node) ≡ unwrap_or (cond b (Some e.1) (boot_at k es)) 0
+    go true ih = refl
+    go false ih = ih
 
-pub greatest_missing : (node : List ℕ) (ks : List Known) (i : ℕ) → Ascends known_node ks → place_by known_node node ks ≡ Err i → greatest_boot ks node ≡ 0
-greatest_missing node [] i a p = refl
-greatest_missing node (k ∷ ks) i a p = go (cmp k.node node) refl (λ j q. greatest_missing node ks j a.1 q) i p
+-- the boot at the node's key, if there is one
+pub greatest_at : (k : NodeKey) (node : List ℕ) (es : List (NodeKey × ℕ)) (boot : Option ℕ) → k.node ≡ node → boot ≡ boot_at k es → unwrap_or boot 0 ≡ greatest_boot (known_in es) node
+greatest_at k node es boot e is = ap (λ b. unwrap_or b 0) is ∙ sym (greatest_in k es) ∙ ap (greatest_boot (known_in es)) e
+
+known_by : (k : NodeKey) (es : List (NodeKey × ℕ)) → is_known (known_in es) k.node ≡ is_some (boot_at k es)
+known_by k [] = refl
+known_by k (e ∷ es) = rw (is_eq-slice_cmp k.node e.0.node) (go (bytes_eq k.node e.0.node) (known_by k es))
   where
-    go : (o : Ordering) → cmp k.node node ≡ o → ((j : ℕ) → place_by known_node node ks ≡ Err j → greatest_boot ks node ≡ 0) → (i : ℕ) → place_from o (place node ks) ≡ Err i → greatest_boot (k ∷ ks) node ≡ 0
-    go Less e ih i p =
-        let h = one_more-Err (place node ks) i p in
-        rw (same_texts k.node node Less e) (ih h.0 h.1)
-    go Equal e ih i p = absurd (cc)
-    go Greater e ih i p = rw (same_texts k.node node Greater e) (ih 0 (none_after known_node k.node node ks e a.0))
+    go : (b : Bool) → is_known (known_in es) k.node ≡ is_some (boot_at k es) → (b || is_known (known_in es) k.node) ≡ is_some (cond b (Some e.1) (boot_at k es))
+    go true ih = refl
+    go false ih = ih
 
-pub known_found : (node : List ℕ) (ks : List Known) (i : ℕ) → place_by known_node node ks ≡ Ok i → is_known ks node ≡ true
-known_found node [] i p = absurd (cc)
-known_found node (k ∷ ks) i p = go (cmp k.node node) refl (λ j q. known_found node ks j q) i p
+pub known_at : (k : NodeKey) (node : List ℕ) (es : List (NodeKey × ℕ)) → k.node ≡ node → is_some (boot_at k es) ≡ is_known (known_in es) node
+known_at k node es e = sym (known_by k es) ∙ ap (is_known (known_in es)) e
+
+put_in : (k : NodeKey) (boot : ℕ) (es : List (NodeKey × ℕ)) → known_in (insert_entry key_cmp es k boot) ≡ put_boot (known_in es) (record { node = k.node; boot = boot })
+put_in k boot [] = refl
+put_in k boot (e ∷ es) = go (cmp k.node e.0.node) refl (put_in k boot es)
   where
-    go : (o : Ordering) → cmp k.node node ≡ o → ((j : ℕ) → place_by known_node node ks ≡ Ok j → is_known ks node ≡ true) → (i : ℕ) → place_from o (place node ks) ≡ Ok i → is_known (k ∷ ks) node ≡ true
-    go Less e ih i p =
-        let h = one_more-Ok (place node ks) i p in
-        rw (same_texts k.node node Less e) (ih h.0 h.1)
-    go Equal e ih i p = rw (same_texts k.node node Equal e) refl
-    go Greater e ih i p = absurd (cc)
+    at : Known
+    at = record { node = k.node; greatest = boot }
 
-pub known_missing : (node : List ℕ) (ks : List Known) (i : ℕ) → Ascends known_node ks → place_by known_node node ks ≡ Err i → is_known ks node ≡ false
-known_missing node [] i a p = refl
-known_missing node (k ∷ ks) i a p = go (cmp k.node node) refl (λ j q. known_missing node ks j a.1 q) i p
-  where
-    go : (o : Ordering) → cmp k.node node ≡ o → ((j : ℕ) → place_by known_node node ks ≡ Err j → is_known ks node ≡ false) → (i : ℕ) → place_from o (place node ks) ≡ Err i → is_known (k ∷ ks) node ≡ false
-    go Less e ih i p =
-        let h = one_more-Err (place node ks) i p in
-        rw (same_texts k.node node Less e) (ih h.0 h.1)
-    go Equal e ih i p = absurd (cc)
-    go Greater e ih i p = rw (same_texts k.node node Greater e) (ih 0 (none_after known_node k.node node ks e a.0))
+    first : Known
+    first = record { node = e.0.node; greatest = e.1 }
 
-abbrev entry : Member → Known
-entry m = record { node = m.node; greatest = m.boot }
+    new : List (NodeKey × ℕ)
+    new = insert_entry key_cmp es k boot
 
-pub put_found : (m : Member) (ks : List Known) (i : ℕ) → place_by known_node m.node ks ≡ Ok i → set ks i (entry m) ≡ put_boot ks m
-put_found m [] i p = absurd (cc)
-put_found m (k ∷ ks) i p = go (cmp k.node m.node) refl (λ j q. put_found m ks j q) i p
-  where
-    go : (o : Ordering) → cmp k.node m.node ≡ o → ((j : ℕ) → place_by known_node m.node ks ≡ Ok j → set ks j (entry m) ≡ put_boot ks m) → (i : ℕ) → place_from o (place m.node ks) ≡ Ok i → set (k ∷ ks) i (entry m) ≡ put_boot (k ∷ ks) m
-    go Less e ih i p =
-        let h = one_more-Ok (place m.node ks) i p in
-        rw (same_texts k.node m.node Less e, before_texts k.node m.node Less e, h.2) (ap (λ xs. k ∷ xs) (ih h.0 h.1))
-    go Equal e ih zero p = rw (same_texts k.node m.node Equal e) refl
-    go Equal e ih (suc i) p = absurd (cc)
-    go Greater e ih i p = absurd (cc)
+    old : List Known
+    old = put_boot (known_in es) (record { node = k.node; boot = boot })
 
-pub put_missing : (m : Member) (ks : List Known) (i : ℕ) → place_by known_node m.node ks ≡ Err i → insert ks i (entry m) ≡ put_boot ks m
-put_missing m [] i p = let e : i ≡ 0 = cc in rw e refl
-put_missing m (k ∷ ks) i p = go (cmp k.node m.node) refl (λ j q. put_missing m ks j q) i p
-  where
-    go : (o : Ordering) → cmp k.node m.node ≡ o → ((j : ℕ) → place_by known_node m.node ks ≡ Err j → insert ks j (entry m) ≡ put_boot ks m) → (i : ℕ) → place_from o (place m.node ks) ≡ Err i → insert (k ∷ ks) i (entry m) ≡ put_boot (k ∷ ks) m
-    go Less e ih i p =
-        let h = one_more-Err (place m.node ks) i p in
-        rw (same_texts k.node m.node Less e, before_texts k.node m.node Less e, h.2) (ap (λ xs. k ∷ xs) (ih h.0 h.1))
-    go Equal e ih i p = absurd (cc)
-    go Greater e ih i p = let z : i ≡ 0 = cc in rw (same_texts k.node m.node Greater e, before_texts k.node m.node Greater e, z) refl
+    go : (o : Ordering) → cmp k.node e.0.node ≡ o → known_in new ≡ old → known_in (match_ordering o ((k, boot) ∷ e ∷ es) ((e.0, boot) ∷ es) (e ∷ new)) ≡ cond (bytes_eq k.node e.0.node) (at ∷ known_in es) (cond (is_before k.node e.0.node) (at ∷ first ∷ known_in es) (first ∷ old))
+    go Less is ih = rw (sym (is_eq-slice_cmp k.node e.0.node), is) refl
+    go Equal is ih =
+        let b : bytes_eq k.node e.0.node ≡ true = sym (is_eq-slice_cmp k.node e.0.node) ∙ ap is_eq is in
+        rw (b, sym ((bytes_eq-Decides k.node e.0.node).0 b)) refl
+    go Greater is ih = rw (sym (is_eq-slice_cmp k.node e.0.node), is) (ap (λ ks. first ∷ ks) ih)
 
--- after an insertion, if there was memory for it
-pub inserted_kept : (m : Member) (ks : List Known) (i : ℕ) (b : Bool) (new : List Known) → new ≡ cond b (insert ks i (entry m)) ks → place_by known_node m.node ks ≡ Err i → Ascends known_node ks → length ks < 65536 → Ascends known_node new × (length new ≤ 65536)
-inserted_kept m ks i true new e p a few = rw e (ascends_insert known_node (entry m) ks i p a, (let h = length-insert ks i (entry m) (err_within known_node m.node ks i p) in omega arith))
-inserted_kept m ks i false new e p a few = rw e (a, omega arith)
+-- an insertion at the node's key puts the member's boot
+pub put_at : (k : NodeKey) (m : Member) (es : List (NodeKey × ℕ)) → k.node ≡ m.node → known_in (insert_entry key_cmp es k m.boot) ≡ put_boot (known_in es) m
+put_at k m es e = put_in k m.boot es ∙ ap (λ node. put_boot (known_in es) (record { node = node; boot = m.boot })) e
+
+-- it leaves no more than 65,536, where there is room for a new node
+pub few_at : (k : NodeKey) (node : List ℕ) (es fs : List (NodeKey × ℕ)) (before : Option ℕ) → k.node ≡ node → before ≡ boot_at k es → length fs ≡ length es + cond (is_some before) 0 1 → length es ≤ 65536 → (is_known (known_in es) node ≡ false → length (known_in es) < 65536) → length fs ≤ 65536
+few_at k node es fs (Some boot) e is long few free = omega arith
+few_at k node es fs None e is long few free =
+    let room = free (sym (known_at k node es e) ∙ ap is_some (sym is)) in
+    let count = known_count es in
+    omega arith

@@ -1,7 +1,7 @@
 -- A step forgets nothing: greatest boots never fall, new members are fresh, versions never fall.
 use Rattle.std.proofs.Common.{◌≡◌, ℕ, ◌<◌, ◌≤◌, Bool, true, false, cond, List, [], ◌∷◌, Option, None, Some, refl, sym, ◌∙◌, subst, inl, inr, arith}
-use Rattle.std.specs.Prelude.{◌==◌, nat_le, bytes_eq}
-use Rattle.std.proofs.lemmas.Bool.{leb-false, eqb-true, cond_both}
+use Rattle.std.specs.Prelude.{nat_le, bytes_eq}
+use Rattle.std.proofs.lemmas.Bool.{leb-false, cond_both}
 use Rattle.std.proofs.lemmas.Slice.Eq.{bytes_eq-Decides}
 use Rattle.actor_names.specs.declared.member.Member.{Member}
 use Rattle.place_table.specs.declared.host.HostInfo.{HostInfo}
@@ -11,7 +11,7 @@ use Rattle.round_core.specs.declared.event.PlaceEvent.TheVariants as events
 use Rattle.round_core.specs.declared.event.PlaceReply.{PlaceReply}
 use Rattle.round_core.specs.declared.event.PlaceReply.TheVariants as replies
 use Rattle.round_core.specs.Members.{Joined, of_node, is_here, is_before, greatest_boot, put_boot, heard_at, new_joined}
-use Rattle.round_core.specs.Placement.{PlacementState, Membership, new_placement, settle_round, conclude, not_member, with_member, with_joined, join_node, is_full, ack_change, remove_member, apply_membership, placement_step, placement_restarted, awoken}
+use Rattle.round_core.specs.Placement.{PlacementState, Membership, settle_round, conclude, not_member, with_member, with_joined, join_node, is_full, ack_change, remove_member, apply_membership, placement_step, awoken}
 use Rattle.round_core.specs.Rooms.{PlacementView, Gives, GivesInMemory}
 use Rattle.round_core.specs.Runs.{HasMember, ForgetsNothing}
 use Rattle.round_core.proofs.Durable.{Keeps, hosts_map, hosts_with, settle_keeps, conclude_keeps, ack_same}

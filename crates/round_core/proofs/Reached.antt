@@ -1,7 +1,7 @@
 -- What holds of each state that a run reaches.
-use Rattle.std.proofs.Common.{◌≡◌, ℕ, ◌≤◌, ◌^◌, Bool, true, false, cond, List, [], ◌∷◌, Option, None, Some, refl, sym, ap, ◌∙◌, subst, inl, inr, arith}
+use Rattle.std.proofs.Common.{◌≡◌, ℕ, ◌≤◌, ◌^◌, Bool, true, false, cond, List, [], ◌∷◌, Option, None, Some, refl, sym, ap, ◌∙◌, subst, arith}
 use Rattle.std.specs.Prelude.{◌==◌, is_some, nat_le}
-use Rattle.std.proofs.lemmas.Bool.{cases_eq, eqb-true, eq-eqb, true≢false, cond_both}
+use Rattle.std.proofs.lemmas.Bool.{eqb-true, cond_both}
 use Rattle.actor_names.specs.declared.member.Member.{Member}
 use Rattle.place_table.specs.declared.host.HostInfo.{HostInfo}
 use Rattle.round_core.specs.declared.event.PlaceEvent.{PlaceEvent}

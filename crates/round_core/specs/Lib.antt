@@ -1,6 +1,7 @@
 pub mod Listed
 pub mod Places
 pub mod Members
+pub mod Book
 pub mod Placement
 pub mod Roster
 pub mod Openings

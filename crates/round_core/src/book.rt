@@ -2,9 +2,10 @@
 ghost use Rattle.std.specs.Prelude.{◌≡◌, ◌<◌, ◌≤◌, [], false, length, OnOk, OnErr, IfOk};
 ghost use Rattle.round_core.specs.Members.{greatest_boot, is_known, put_boot};
 
-use crate::search::known_place;
+use crate::node_key::NodeKey;
 use actor_names::{Member, Node, OutOfMemory};
 use std::alloc::Global;
+use std::collections::BTreeMap;
 use std::marker::Model;
 
 /// A node, and the greatest boot that it joined with.
@@ -19,19 +20,26 @@ pub struct Known {
 /// The known nodes in byte order, at most 65,536, each with its greatest boot.
 #[derive(Drop)]
 pub(crate) struct BootBook {
-    known: Vec<Known>,
+    boots: BTreeMap<NodeKey, u64>,
 }
 
 impl Model for BootBook {
     ghost use Rattle.std.specs.Prelude.{List, length, ◌≤◌};
     ghost use Rattle.round_core.specs.declared.book.Known.{Known};
-    ghost use Rattle.round_core.specs.Places.{Ascends, known_node};
+    ghost use Rattle.round_core.specs.Book.{known_in};
 
     ghost Value = { List Known };
 
-    ghost view = { λ a. a.known.items };
+    ghost view = { λ a. known_in a.boots.entries };
 
-    ghost invariant = { λ a. Ascends known_node a.known.items × (length a.known.items ≤ 65536) };
+    ghost invariant = { λ a. length a.boots.entries ≤ 65536 };
+}
+
+/// The node as a key.
+fn key_of(node: &Node) -> NodeKey
+    ensures { result.node ≡ node.now }
+{
+    NodeKey { node: *node }
 }
 
 impl BootBook {
@@ -40,7 +48,7 @@ impl BootBook {
         ensures { result ≡ [] }
     {
         BootBook {
-            known: Vec::new(alloc),
+            boots: BTreeMap::new(alloc),
         }
     }
 
@@ -49,16 +57,16 @@ impl BootBook {
         ensures count { result ≡ length self.now }
         ensures within { result ≤ 65536 }
     {
-        self.known.len() as u32
+        self.boots.len() as u32
     }
 
     /// The greatest boot of the node, 0 for an unknown one.
     pub(crate) fn greatest(&self, node: &Node) -> u64
         ensures { result ≡ greatest_boot self.now node.now }
     {
-        match known_place(&self.known, node) {
-            Ok(at) => self.known[at].greatest,
-            Err(_) => 0,
+        match self.boots.get(&key_of(node)) {
+            Some(greatest) => *greatest,
+            None => 0,
         }
     }
 
@@ -66,10 +74,7 @@ impl BootBook {
     pub(crate) fn knows(&self, node: &Node) -> bool
         ensures { result ≡ is_known self.now node.now }
     {
-        match known_place(&self.known, node) {
-            Ok(_) => true,
-            Err(_) => false,
-        }
+        self.boots.contains_key(&key_of(node))
     }
 
     /// The member's boot is the greatest one of its node.
@@ -78,35 +83,23 @@ impl BootBook {
         ensures ok { OnOk result (self.new ≡ put_boot self.old member) }
         ensures err { OnErr result (self.new ≡ self.old) }
     {
-        let known = Known {
-            node: member.node,
-            greatest: member.boot,
-        };
-        match known_place(&self.known, &member.node) {
-            Ok(at) => {
-                self.known[at] = known;
-                Ok(())
-            }
-            Err(at) => {
-                self.known.insert(at, known)?;
-                Ok(())
-            }
-        }
+        let _before = self.boots.insert(key_of(&member.node), member.boot)?;
+        Ok(())
     }
 
     /// No node is known.
     pub(crate) fn clear(&mut self)
         ensures { self.new ≡ [] }
     {
-        self.known.clear();
+        self.boots.clear();
     }
 
     /// An equal book.
-    pub(crate) fn copy(&self, alloc: Global) -> Result<BootBook, OutOfMemory>
+    pub(crate) fn copy(&self) -> Result<BootBook, OutOfMemory>
         ensures { IfOk result (λ copy. copy ≡ self.now) }
     {
-        match Vec::from_slice(alloc, self.known.as_slice()) {
-            Ok(known) => Ok(BootBook { known }),
+        match self.boots.clone() {
+            Ok(boots) => Ok(BootBook { boots }),
             Err(_) => Err(OutOfMemory),
         }
     }

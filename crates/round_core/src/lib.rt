@@ -11,6 +11,7 @@ mod event;
 mod late;
 mod law;
 mod marks;
+mod node_key;
 mod phase;
 mod placement;
 mod record;

@@ -364,7 +364,7 @@ impl Rounds {
     pub(crate) fn copy(&self, alloc: Global) -> Result<Rounds, OutOfMemory>
         ensures { IfOk result (λ copy. copy ≡ self.now) }
     {
-        let boots = self.boots.copy(alloc)?;
+        let boots = self.boots.copy()?;
         let roster = self.roster.copy(alloc)?;
         Ok(Rounds {
             next_version: self.next_version,

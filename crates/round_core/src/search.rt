@@ -3,9 +3,8 @@ ghost use Rattle.std.specs.Prelude.{◌≡◌, length};
 ghost use Rattle.std.specs.Ordering.{nat_cmp};
 ghost use Rattle.std.specs.List.Sorted.{IsSearchInRange};
 ghost use Rattle.std.specs.Cmp.Lexicographic.{slice_cmp};
-ghost use Rattle.round_core.specs.Places.{place_by, Ascends, host_node, known_node};
+ghost use Rattle.round_core.specs.Places.{place_by, Ascends, host_node};
 
-use crate::book::Known;
 use actor_names::Node;
 use place_table::HostInfo;
 use std::cmp::Ordering;
@@ -36,13 +35,4 @@ pub(crate) fn host_place_near(hosts: &[HostInfo], node: &Node, near: usize) -> R
         return Ok(near);
     }
     host_place(hosts, node)
-}
-
-/// Where the greatest boot of this node stands, or is to stand.
-pub(crate) fn known_place(known: &[Known], node: &Node) -> Result<usize, usize>
-    requires { Ascends known_node known.now }
-    ensures place { result ≡ place_by known_node node.now known.now }
-    ensures within { IsSearchInRange result (length known.now) }
-{
-    known.binary_search_by(|known| node_cmp(&known.node, node))
 }

@@ -1,26 +1,13 @@
-use Rattle.std.proofs.Common.{◌≡◌, sym, ◌∙◌, Ok, Err, length-set}
-use Rattle.round_core.specs.Places.{known_node, place_by}
-use Rattle.round_core.proofs.Ascending.{ascends_set}
-use Rattle.round_core.proofs.Boots.{put_found, put_missing, known_missing, inserted_kept}
+use Rattle.std.proofs.Common.{ap, ◌∙◌}
+use Rattle.round_core.specs.Book.{known_in}
+use Rattle.round_core.proofs.Boots.{few_at, put_at}
 use Rattle.round_core.proofs.book.BootBook.put.Goals as goal
 
-pub invariant_of-self : goal.invariant_of-self
-invariant_of-self c =
-    let p : place_by known_node c.args.member.node c.self.inside.known.items ≡ Ok c.in-Ok.at = rw c.deref.ensures.value at (sym c.known_place.ensures.place ∙ c.in-Ok.is) in
-    (ascends_set known_node (record { node = c.args.member.node; greatest = c.args.member.boot }) c.self.inside.known.items c.in-Ok.at p c.self.invariant.0, rw length-set c.self.invariant.1)
+pub invariant_of-self-2 : goal.invariant_of-self-2
+invariant_of-self-2 c =
+    few_at c.key_of.result c.args.member.node c.self.inside.boots.entries c.insert.new.self.entries c.in_ok-_before._before c.key_of.ensures c.in_ok-_before.ensures.old c.in_ok-_before.ensures.len c.self.invariant
+    (rw (← c.self.view_is) at c.requires)
 
-pub returns-in-Ok-clause-ok : goal.returns-in-Ok-clause-ok
-returns-in-Ok-clause-ok c =
-    let p : place_by known_node c.args.member.node c.self.inside.known.items ≡ Ok c.in-Ok.at = rw c.deref.ensures.value at (sym c.known_place.ensures.place ∙ c.in-Ok.is) in
-    rw (← c.self.view_is) (put_found c.args.member c.self.inside.known.items c.in-Ok.at p)
-
-pub invariant_of-self-in-Err : goal.invariant_of-self-in-Err
-invariant_of-self-in-Err c =
-    let p : place_by known_node c.args.member.node c.self.inside.known.items ≡ Err c.in-Err.at = rw c.deref.ensures.value at (sym c.known_place.ensures.place ∙ c.in-Err.is) in
-    inserted_kept c.args.member c.self.inside.known.items c.in-Err.at _ _ c.insert.ensures.items p c.self.invariant.0
-    ((rw (← c.self.view_is) at c.requires) (known_missing c.args.member.node c.self.inside.known.items c.in-Err.at c.self.invariant.0 p))
-
-pub returns-in_ok-insert-in-Err-clause-ok : goal.returns-in_ok-insert-in-Err-clause-ok
-returns-in_ok-insert-in-Err-clause-ok c =
-    let p : place_by known_node c.args.member.node c.self.inside.known.items ≡ Err c.in-Err.at = rw c.deref.ensures.value at (sym c.known_place.ensures.place ∙ c.in-Err.is) in
-    rw (← c.self.view_is) (c.in_ok-insert-in-Err.ensures.items ∙ put_missing c.args.member c.self.inside.known.items c.in-Err.at p)
+pub returns-clause-ok : goal.returns-clause-ok
+returns-clause-ok c =
+    rw (← c.self.view_is) (ap known_in c.in_ok-_before.ensures.entries ∙ put_at c.key_of.result c.args.member c.self.inside.boots.entries c.key_of.ensures)

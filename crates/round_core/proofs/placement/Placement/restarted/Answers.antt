@@ -1,4 +1,4 @@
-use Rattle.std.proofs.Common.{◌≡◌, rules, refl, ap, sym, ◌∙◌, subst}
+use Rattle.std.proofs.Common.{◌≡◌, rules, ap, sym, ◌∙◌, subst}
 use Rattle.round_core.specs.declared.record.PlacementRecord as declared
 use Rattle.round_core.specs.Openings.{IsNewOrUsed}
 use Rattle.round_core.specs.Placement.{PlacementState, placement_restarted}
