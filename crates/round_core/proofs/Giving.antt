@@ -11,7 +11,7 @@ use Rattle.place_table.specs.declared.ack_stage.AckStage.TheVariants as stages
 use Rattle.round_core.specs.declared.phase.RoundPhase.{RoundPhase}
 use Rattle.round_core.specs.declared.phase.RoundPhase.TheVariants.{Quiet, Running}
 use Rattle.round_core.specs.declared.record.PlacementRecord as declared
-use Rattle.round_core.specs.Members.{Joined, boot_of, is_here, is_left, is_late, heard_of, late_of}
+use Rattle.member_roster.specs.Members.{Joined, boot_of, is_here, is_left, is_late, heard_of, late_of}
 use Rattle.round_core.specs.Placement.{PlacementState, Membership, Conclusion, apply_membership, conclude, settle_round, placement_restarted, reply_for, phase_reply, last_version}
 use Rattle.round_core.specs.Records.{record_of, changes_record, restart_record}
 use Rattle.round_core.specs.Rooms.{RoundState, with_state, PlacementView, Gives, GivesInMemory}

@@ -5,7 +5,7 @@ use Rattle.std.proofs.lemmas.Bool.{or_parts, or_from}
 use Rattle.std.proofs.lemmas.Slice.Eq.{bytes_eq-Decides}
 use Rattle.actor_names.specs.declared.member.Member.{Member}
 use Rattle.place_table.specs.declared.host.HostInfo.{HostInfo}
-use Rattle.round_core.specs.Members.{Joined, joined_node, hosts_of, of_node, has_boot, is_here, is_before, is_late, without_node, put_joined, heard_of}
+use Rattle.member_roster.specs.Members.{Joined, joined_node, hosts_of, of_node, has_boot, is_here, is_before, is_late, without_node, put_joined, heard_of}
 use Rattle.round_core.specs.Runs.{HasMember}
 
 pub same_bytes : (a : List ℕ) → bytes_eq a a ≡ true

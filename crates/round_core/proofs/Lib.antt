@@ -1,16 +1,9 @@
-mod Ascending
-mod Boots
-mod Counts
-mod Backed
 mod Durable
 mod Giving
 mod Hosts
-mod Lateness
 mod Memory
 mod Openings
-mod Places
 mod Reached
 mod Replays
-mod Rosters
 mod Rows
 mod Versions

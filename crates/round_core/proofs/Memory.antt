@@ -5,12 +5,12 @@ use Rattle.std.proofs.lemmas.Bool.{leb-false, cond_both}
 use Rattle.std.proofs.lemmas.Slice.Eq.{bytes_eq-Decides}
 use Rattle.actor_names.specs.declared.member.Member.{Member}
 use Rattle.place_table.specs.declared.host.HostInfo.{HostInfo}
-use Rattle.round_core.specs.declared.book.Known.{Known}
+use Rattle.member_roster.specs.declared.book.Known.{Known}
 use Rattle.round_core.specs.declared.event.PlaceEvent.{PlaceEvent}
 use Rattle.round_core.specs.declared.event.PlaceEvent.TheVariants as events
 use Rattle.round_core.specs.declared.event.PlaceReply.{PlaceReply}
 use Rattle.round_core.specs.declared.event.PlaceReply.TheVariants as replies
-use Rattle.round_core.specs.Members.{Joined, of_node, is_here, is_before, greatest_boot, put_boot, heard_at, new_joined}
+use Rattle.member_roster.specs.Members.{Joined, of_node, is_here, is_before, greatest_boot, put_boot, heard_at, new_joined}
 use Rattle.round_core.specs.Placement.{PlacementState, Membership, settle_round, conclude, not_member, with_member, with_joined, join_node, is_full, ack_change, remove_member, apply_membership, placement_step, awoken}
 use Rattle.round_core.specs.Rooms.{PlacementView, Gives, GivesInMemory}
 use Rattle.round_core.specs.Runs.{HasMember, ForgetsNothing}

@@ -4,7 +4,7 @@ use Rattle.std.specs.Prelude.{◌==◌}
 use Rattle.std.proofs.lemmas.Bool.{cases_eq, eq-eqb, true≢false, cond_both}
 use Rattle.actor_names.specs.declared.member.Member.{Member}
 use Rattle.place_table.specs.declared.host.HostInfo.{HostInfo}
-use Rattle.round_core.specs.Members.{is_here}
+use Rattle.member_roster.specs.Members.{is_here}
 use Rattle.round_core.specs.Openings.{IsNewOrUsed}
 use Rattle.round_core.specs.Placement.{PlacementState, new_placement, settle_round, with_joined, drop_late, placement_restarted, awoken}
 use Rattle.round_core.proofs.Memory.{awoken_rises}

@@ -6,7 +6,7 @@ use Rattle.actor_names.specs.declared.member.Member.{Member}
 use Rattle.place_table.specs.declared.host.HostInfo.{HostInfo}
 use Rattle.round_core.specs.declared.event.PlaceEvent.{PlaceEvent}
 use Rattle.round_core.specs.declared.event.PlaceEvent.TheVariants as events
-use Rattle.round_core.specs.Members.{Joined, hosts_of, of_node, is_here, greatest_boot, heard_at, new_joined}
+use Rattle.member_roster.specs.Members.{Joined, hosts_of, of_node, is_here, greatest_boot, heard_at, new_joined}
 use Rattle.round_core.specs.Openings.{IsNewOrUsed}
 use Rattle.round_core.specs.Placement.{PlacementState, Membership, new_placement, settle_round, conclude, not_member, with_member, join_node, is_full, ack_change, remove_member, apply_membership, placement_step, placement_restarted, awoken}
 use Rattle.round_core.specs.Runs.{RunEvent, Steps, Restarts, ForgetsNothing, state_after, run_state}

@@ -10,9 +10,9 @@ use Rattle.round_core.specs.declared.event.PlaceEvent.TheVariants as events
 use Rattle.round_core.specs.declared.event.PlaceReply.TheVariants as replies
 use Rattle.round_core.specs.declared.restore.RestoreError.{RestoreError}
 use Rattle.round_core.specs.declared.restore.RestoreError.TheVariants.{BadRecord, OutOfMemory}
-use Rattle.round_core.specs.Members.{Joined, joined_node, hosts_of, of_node, is_here, is_late, greatest_boot, put_boot, without_node, late_of, heard_of, heard_at, new_joined, restarted_at}
+use Rattle.member_roster.specs.Members.{Joined, joined_node, hosts_of, of_node, is_here, is_late, greatest_boot, put_boot, without_node, late_of, heard_of, heard_at, new_joined, restarted_at, removes_all}
 use Rattle.round_core.specs.Placement.{PlacementState, Membership, new_placement, version_limit, settle_round, conclude, unchanged, not_member, with_member, with_joined, join_node, is_full, ack_change, remove_member, drop_late, apply_membership, placement_restarted, awoken, SameDurableState}
-use Rattle.round_core.specs.Records.{RecordOf, removes_all, may_join, after_removal, after_record, after_records, placement_restored, IsBadAt}
+use Rattle.round_core.specs.Records.{RecordOf, may_join, after_removal, after_record, after_records, placement_restored, IsBadAt}
 use Rattle.round_core.specs.Runs.{RunEvent, Steps, Restarts, state_after, record_after, and_then, run_state, run_records}
 use Rattle.round_core.proofs.Durable.{Keeps, hosts_with, hosts_length, conclude_keeps, ack_same, none_parts, recorded_durable}
 use Rattle.round_core.proofs.Hosts.{same_bytes, flip_bytes, has_host, Distinct, of_node-host, put_same, without_same, here_same}

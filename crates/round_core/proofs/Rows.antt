@@ -8,7 +8,7 @@ use Rattle.round_core.specs.declared.event.PlaceEvent.{PlaceEvent}
 use Rattle.round_core.specs.declared.event.PlaceEvent.TheVariants as events
 use Rattle.round_core.specs.declared.event.PlaceReply.{PlaceReply}
 use Rattle.round_core.specs.declared.event.PlaceReply.TheVariants as replies
-use Rattle.round_core.specs.Members.{members_of}
+use Rattle.member_roster.specs.Members.{members_of}
 use Rattle.round_core.specs.Placement.{PlacementState, new_placement, last_version, placement_step, placement_restarted}
 use Rattle.round_core.specs.Records.{RecordOf, step_record, after_records, placement_restored}
 use Rattle.round_core.specs.Runs.{Steps, Restarts, run_records}

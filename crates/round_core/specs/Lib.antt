@@ -1,9 +1,4 @@
-pub mod Listed
-pub mod Places
-pub mod Members
-pub mod Book
 pub mod Placement
-pub mod Roster
 pub mod Openings
 pub mod Records
 pub mod Rooms

@@ -11,8 +11,8 @@ use Rattle.round_core.specs.declared.event.PlaceReply.{PlaceReply}
 use Rattle.round_core.specs.declared.event.PlaceReply.TheVariants as replies
 use Rattle.round_core.specs.declared.phase.RoundPhase.{RoundPhase}
 use Rattle.round_core.specs.declared.phase.RoundPhase.TheVariants.{Quiet, Running}
-use Rattle.round_core.specs.declared.book.Known.{Known}
-use Rattle.round_core.specs.Members.{Joined, greatest_boot, is_known, put_boot, of_node, is_here, is_left, with_node, without_node, put_joined, late_of, heard_of, any_left, entered, targeted, target_hosts, heard_at, acked_at, restarted_at, hosts_of, new_joined}
+use Rattle.member_roster.specs.declared.book.Known.{Known}
+use Rattle.member_roster.specs.Members.{Joined, greatest_boot, is_known, put_boot, of_node, is_here, is_left, with_node, without_node, put_joined, late_of, heard_of, any_left, entered, targeted, target_hosts, heard_at, acked_at, restarted_at, hosts_of, new_joined}
 
 pub record PlacementState : Type 0 where
   pub next_version : ℕ

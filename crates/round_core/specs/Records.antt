@@ -8,7 +8,7 @@ use Rattle.round_core.specs.declared.event.PlaceEvent.{PlaceEvent}
 use Rattle.round_core.specs.declared.record.PlacementRecord as declared
 use Rattle.round_core.specs.declared.restore.RestoreError.{RestoreError}
 use Rattle.round_core.specs.declared.restore.RestoreError.TheVariants.{BadRecord, OutOfMemory}
-use Rattle.round_core.specs.Members.{Joined, greatest_boot, of_node, is_here, without_node}
+use Rattle.member_roster.specs.Members.{Joined, greatest_boot, of_node, removes_all}
 use Rattle.round_core.specs.Placement.{PlacementState, new_placement, version_limit, is_full, with_joined, apply_membership, placement_step, placement_restarted}
 
 -- what contracts see of a record
@@ -35,10 +35,6 @@ abbrev pub restart_record : PlacementState → ℕ → Option RecordOf
 restart_record s now = changes_record None [] s.next_version (placement_restarted s now).next_version
 
 -- ---- what is restored
-
-abbrev pub removes_all : List Joined → List Member → Option (List Joined)
-removes_all js [] = Some js
-removes_all js (m ∷ ms) = if is_here js m then removes_all (without_node js m.node) ms else None
 
 -- a host may join: its node has no member, its boot is above the greatest one, and there is room
 abbrev pub may_join : PlacementState → HostInfo → Bool

@@ -3,7 +3,7 @@ use Rattle.std.specs.Prelude.{◌≡◌, ◌⊎◌, ℕ, ◌<◌, ◌≤◌, Lis
 use Rattle.actor_names.specs.declared.member.Member.{Member}
 use Rattle.place_table.specs.declared.host.HostInfo.{HostInfo}
 use Rattle.round_core.specs.declared.event.PlaceEvent.{PlaceEvent}
-use Rattle.round_core.specs.Members.{greatest_boot, hosts_of}
+use Rattle.member_roster.specs.Members.{greatest_boot, hosts_of}
 use Rattle.round_core.specs.Placement.{PlacementState, placement_step, placement_restarted}
 use Rattle.round_core.specs.Records.{RecordOf, step_record, restart_record}
 

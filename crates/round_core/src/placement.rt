@@ -2,21 +2,21 @@
 ghost use Rattle.std.specs.Prelude.{◌≡◌, ◌↔◌, ◌==◌, ◌||◌, ◌+◌, ◌<◌, ◌≤◌, List, not, nat_lt, is_some, false, [], Some, None, map, IfOk, IfErr, OnOk, OnErr, ℕ, length, option_map};
 ghost use Rattle.std.specs.Option.{option_copied};
 ghost use Rattle.std.specs.declared.result.Result.TheVariants.{Ok};
-ghost use Rattle.round_core.specs.Members.{hosts_of, of_node};
+ghost use Rattle.member_roster.specs.Members.{hosts_of, of_node};
 ghost use Rattle.round_core.specs.Placement.{placement_restarted, new_placement, last_version, settle_round, is_full, with_joined, SameDurableState};
-ghost use Rattle.round_core.specs.Places.{Ascends, host_node};
+ghost use Rattle.member_roster.specs.Places.{Ascends, host_node};
 ghost use Rattle.round_core.specs.Records.{record_of, restart_record, placement_restored, restored_record, IsBadAt};
 ghost use Rattle.round_core.specs.Runs.{RunEvent, ForgetsNothing, run_state, run_records};
 ghost use Rattle.round_core.specs.declared.restore.RestoreError.TheVariants.{OutOfMemory as out_of_memory};
 ghost use Rattle.round_core.specs.Rooms.{with_state, Gives, GivesInMemory, GivesStep};
 
-use crate::copying::copy_option;
 use crate::event::{PlaceEvent, PlaceReply};
-use crate::record::{MemberList, PlacementRecord};
+use crate::record::PlacementRecord;
 use crate::restore::{RestoreError, apply_records};
 use crate::rounds::Rounds;
 use crate::seating::seat;
 use actor_names::{Member, OutOfMemory};
+use member_roster::{MemberList, copy_option};
 use place_table::{AckStage, HostInfo};
 use std::alloc::Global;
 use std::marker::Model;

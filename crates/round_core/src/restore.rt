@@ -4,10 +4,11 @@ ghost use Rattle.round_core.specs.Placement.{PlacementState};
 ghost use Rattle.round_core.specs.Records.{record_of, after_join, after_record, after_records, IsBadAt};
 ghost use Rattle.std.specs.declared.result.Result.TheVariants.{Ok};
 
-use crate::record::{MemberList, PlacementRecord};
+use crate::record::PlacementRecord;
 use crate::rounds::{Rounds, VERSION_LIMIT};
 use crate::seating::seat;
 use actor_names::OutOfMemory;
+use member_roster::MemberList;
 use place_table::HostInfo;
 use std::alloc::Global;
 use thiserror::Error;

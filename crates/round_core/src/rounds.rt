@@ -1,17 +1,15 @@
 // The members, their greatest boots, and the rounds that spread each table.
 ghost use Rattle.std.specs.Prelude.{◌≡◌, ◌==◌, ◌&&◌, true, ◌+◌, ◌<◌, ◌≤◌, ◌^◌, ◌++◌, length, IfOk, OnOk, OnErr, Some, None, false, max, option_map, IsTrue, IsFalse};
-ghost use Rattle.round_core.specs.Members.{is_here, is_left, with_node, without_node, heard_at, hosts_of, boot_of, of_node, greatest_boot, late_of};
+ghost use Rattle.member_roster.specs.Members.{is_here, is_left, with_node, without_node, heard_at, hosts_of, boot_of, of_node, greatest_boot, late_of, removes_all};
 ghost use Rattle.round_core.specs.Placement.{placement_restarted, new_placement, advance_round, start_round, settle_round, advance_fully, may_start, is_in_stage, is_full, with_joined, drop_late, reply_for, last_version, ack_change};
-ghost use Rattle.round_core.specs.Places.{Ascends, host_node};
-ghost use Rattle.round_core.specs.Records.{removes_all, may_join};
+ghost use Rattle.member_roster.specs.Places.{Ascends, host_node};
+ghost use Rattle.round_core.specs.Records.{may_join};
 ghost use Rattle.round_core.specs.Rooms.{with_state};
 
-use crate::book::BootBook;
 use crate::event::PlaceReply;
 use crate::phase::RoundPhase;
-use crate::record::MemberList;
-use crate::roster::Roster;
 use actor_names::{Member, Node, OutOfMemory};
+use member_roster::{BootBook, MemberList, Roster};
 use place_table::{AckStage, HostInfo};
 use std::alloc::Global;
 use std::marker::Model;

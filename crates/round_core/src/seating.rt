@@ -1,11 +1,11 @@
 // A host takes its place among the members, with all the room that it needs.
 ghost use Rattle.std.specs.Prelude.{◌≡◌, ◌≤◌, None, false, OnOk, OnErr};
-ghost use Rattle.round_core.specs.Members.{of_node};
+ghost use Rattle.member_roster.specs.Members.{of_node};
 ghost use Rattle.round_core.specs.Placement.{is_full, with_joined};
 
-use crate::record::MemberList;
 use crate::rounds::Rounds;
 use actor_names::OutOfMemory;
+use member_roster::MemberList;
 use place_table::HostInfo;
 use std::alloc::Global;
 

@@ -1,7 +1,7 @@
 use Rattle.std.proofs.Common.{◌≡◌, true, [], None, refl, ap, sym, subst, ◌∙◌, rules}
 use Rattle.round_core.specs.declared.record.PlacementRecord as declared
 use Rattle.round_core.specs.declared.event.PlaceEvent.TheVariants as events
-use Rattle.round_core.specs.Members.{is_here, with_node}
+use Rattle.member_roster.specs.Members.{is_here, with_node}
 use Rattle.round_core.specs.Openings.{IsNewOrUsed}
 use Rattle.round_core.specs.Placement.{PlacementState, Tells, reply_for, ack_change, settle_round}
 use Rattle.round_core.specs.Rooms.{RoundState, PlacementView}

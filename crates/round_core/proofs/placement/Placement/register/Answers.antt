@@ -2,7 +2,7 @@ use Rattle.std.proofs.Common.{◌≡◌, ◌<◌, ℕ, true, false, [], Some, No
 use Rattle.std.specs.Prelude.{nat_le}
 use Rattle.round_core.specs.declared.record.PlacementRecord as declared
 use Rattle.round_core.specs.declared.event.PlaceEvent.TheVariants as events
-use Rattle.round_core.specs.Members.{is_here, of_node, greatest_boot, with_node, heard_at}
+use Rattle.member_roster.specs.Members.{is_here, of_node, greatest_boot, with_node, heard_at}
 use Rattle.round_core.specs.Openings.{IsNewOrUsed}
 use Rattle.round_core.specs.Placement.{PlacementState, Tells, reply_for, settle_round, is_full, with_joined}
 use Rattle.round_core.specs.Rooms.{RoundState, PlacementView}

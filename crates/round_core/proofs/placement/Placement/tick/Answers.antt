@@ -2,7 +2,7 @@ use Rattle.std.proofs.Common.{◌≡◌, ℕ, ◌++◌, None, length, refl, ap, 
 use Rattle.round_core.specs.declared.record.PlacementRecord as declared
 use Rattle.round_core.specs.declared.event.PlaceEvent.TheVariants as events
 use Rattle.round_core.specs.declared.event.PlaceReply.TheVariants as replies
-use Rattle.round_core.specs.Members.{late_of}
+use Rattle.member_roster.specs.Members.{late_of}
 use Rattle.round_core.specs.Openings.{IsNewOrUsed}
 use Rattle.round_core.specs.Placement.{PlacementState, Says, drop_late, settle_round}
 use Rattle.round_core.specs.Rooms.{RoundState, PlacementView}

@@ -1,6 +1,6 @@
 use Rattle.std.proofs.Common.{◌≡◌, ◌<◌, Bool, length, ap, arith}
-use Rattle.round_core.specs.Members.{heard_of, late_of}
-use Rattle.round_core.specs.Roster.{RosterState}
+use Rattle.member_roster.specs.Members.{heard_of, late_of}
+use Rattle.member_roster.specs.Roster.{RosterState}
 use Rattle.round_core.specs.Rooms.{RoundState}
 use Rattle.round_core.proofs.Giving.{counted, dirty_more, dirty_same}
 use Rattle.round_core.proofs.rounds.Rounds.drop_late.Goals as goal

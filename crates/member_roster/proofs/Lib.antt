@@ -1,0 +1,7 @@
+mod Ascending
+mod Backed
+mod Boots
+mod Counts
+mod Lateness
+mod Places
+mod Rosters

@@ -1,0 +1,45 @@
+use Rattle.std.proofs.Common.{◌≡◌, ◌<◌, rules, List, length, length-set, sym, ◌∙◌, ap, Ok, Err, set, refl, arith, true, false}
+use Rattle.member_roster.specs.declared.marks.Mark.{Mark}
+use Rattle.member_roster.specs.Members.{Joined, heard_at}
+use Rattle.member_roster.specs.Places.{host_node, place_by}
+use Rattle.member_roster.specs.Roster.{RosterState, joined_all, mark_weight}
+use Rattle.member_roster.proofs.Counts.{count-set}
+use Rattle.member_roster.proofs.Places.{ok_within}
+use Rattle.member_roster.proofs.Rosters.{is_here-found, is_here-missing, with_node-found}
+use Rattle.member_roster.proofs.roster.Roster.hear.Goals as goal
+
+pub returns-else-not-has_boot-clause-heard : goal.returns-else-not-has_boot-clause-heard
+returns-else-not-has_boot-clause-heard c = λ yes.
+    let p : place_by host_node c.args.member.now.node c.self.inside.hosts.items ≡ Ok c.in-Ok.at = rw c.deref.ensures.value at (sym c.host_place.ensures.place ∙ c.in-Ok.is) in
+    let f : List Joined → RosterState = λ js. record { members = js; table = c.self.inside.table.items; room = c.self.inside.room } in
+    let g : Mark → Mark = λ k. record k { heard = c.args.now } in
+    rw (← c.self.view_is) (ap (λ (k : Mark). f (joined_all c.self.inside.hosts.items (set c.self.inside.marks.items c.in-Ok.at (g k)))) c.index_mut-mark.ensures.value ∙ ap f (sym (with_node-found c.args.member.now.node c.self.inside.hosts.items c.self.inside.marks.items c.in-Ok.at g (heard_at c.args.now) c.index_mut-mark.result.now (λ h k. refl) p)))
+
+pub returns-in-Err-clause-here : goal.returns-in-Err-clause-here
+returns-in-Err-clause-here c =
+    let p : place_by host_node c.args.member.now.node c.self.inside.hosts.items ≡ Err c.in-Err.field-0 = rw c.deref.ensures.value at (sym c.host_place.ensures.place ∙ c.in-Err.is) in
+    rw (← c.self.view_is) (is_here-missing c.args.member.now c.self.inside.hosts.items c.self.inside.marks.items c.in-Err.field-0 c.self.invariant.0.ascends p)
+
+pub returns-else-not-has_boot-clause-here : goal.returns-else-not-has_boot-clause-here
+returns-else-not-has_boot-clause-here c =
+    let p : place_by host_node c.args.member.now.node c.self.inside.hosts.items ≡ Ok c.in-Ok.at = rw c.deref.ensures.value at (sym c.host_place.ensures.place ∙ c.in-Ok.is) in
+    let h : c.has_boot.result ≡ true = search rules in
+    rw (← c.self.view_is) (is_here-found c.args.member.now true c.self.inside.hosts.items c.self.inside.marks.items c.in-Ok.at c.index.result.now c.self.invariant.0.marked p c.index.ensures (sym h ∙ c.has_boot.ensures))
+
+pub returns-then-not-has_boot-clause-here : goal.returns-then-not-has_boot-clause-here
+returns-then-not-has_boot-clause-here c =
+    let p : place_by host_node c.args.member.now.node c.self.inside.hosts.items ≡ Ok c.in-Ok.at = rw c.deref.ensures.value at (sym c.host_place.ensures.place ∙ c.in-Ok.is) in
+    let h : c.has_boot.result ≡ false = search rules in
+    rw (← c.self.view_is) (is_here-found c.args.member.now false c.self.inside.hosts.items c.self.inside.marks.items c.in-Ok.at c.index.result.now c.self.invariant.0.marked p c.index.ensures (sym h ∙ c.has_boot.ensures))
+
+pub invariant_of-self : goal.invariant_of-self
+invariant_of-self c =
+    let k = c.self.invariant.0 in
+    let r = c.self.invariant.1 in
+    let ms = c.self.inside.marks.items in
+    let d = c.index_mut-mark.result.now in
+    let within : c.in-Ok.at < length c.self.inside.hosts.items = ok_within host_node c.args.member.now.node c.self.inside.hosts.items c.in-Ok.at (rw c.deref.ensures.value at (sym c.host_place.ensures.place ∙ c.in-Ok.is)) in
+    let e = count-set ms c.in-Ok.at (record d { heard = c.args.now }) d (rw k.marked within) in
+    let w = ap mark_weight c.index_mut-mark.ensures.value in
+    let kc = k.counted in
+    (record { ascends = k.ascends; marked = rw length-set k.marked; spared = k.spared; backed = k.backed; few = k.few; within = k.within; ordered = k.ordered; counted = omega arith }, record { hosts_room = r.hosts_room; marks_room = r.marks_room; spares_room = r.spares_room; table_room = r.table_room })

@@ -1,0 +1,66 @@
+// Equal copies of what a placement keeps, each with room.
+ghost use Rattle.std.specs.Prelude.{◌≡◌, ◌≤◌, IfOk, vec_capacity};
+
+use crate::marks::Mark;
+use actor_names::OutOfMemory;
+use place_table::HostInfo;
+use std::alloc::Global;
+
+/// Equal hosts, with room for so many.
+pub(crate) fn copy_hosts(
+    alloc: Global,
+    hosts: &[HostInfo],
+    room: usize,
+) -> Result<Vec<HostInfo>, OutOfMemory>
+    ensures items { IfOk result (λ v. v.items ≡ hosts.now) }
+    ensures room { IfOk result (λ v. room ≤ vec_capacity v) }
+{
+    let mut items = Vec::with_capacity(alloc, room)?;
+    for host in hosts.iter() {
+        items.push(host.copy(alloc)?)?;
+    }
+    Ok(items)
+}
+
+/// An equal host, where there is one.
+pub fn copy_option(alloc: Global, host: &Option<HostInfo>) -> Result<Option<HostInfo>, OutOfMemory>
+    ensures { IfOk result (λ copy. copy ≡ host.now) }
+{
+    match host {
+        Some(host) => {
+            let copy = host.copy(alloc)?;
+            Ok(Some(copy))
+        }
+        None => Ok(None),
+    }
+}
+
+/// Equal spare copies, with room for so many.
+pub(crate) fn copy_spares(
+    alloc: Global,
+    spares: &[Option<HostInfo>],
+    room: usize,
+) -> Result<Vec<Option<HostInfo>>, OutOfMemory>
+    ensures items { IfOk result (λ v. v.items ≡ spares.now) }
+    ensures room { IfOk result (λ v. room ≤ vec_capacity v) }
+{
+    let mut items = Vec::with_capacity(alloc, room)?;
+    for spare in spares.iter() {
+        items.push(copy_option(alloc, spare)?)?;
+    }
+    Ok(items)
+}
+
+/// Equal marks, with room for so many.
+pub(crate) fn copy_marks(
+    alloc: Global,
+    marks: &[Mark],
+    room: usize,
+) -> Result<Vec<Mark>, OutOfMemory>
+    ensures items { IfOk result (λ v. v.items ≡ marks.now) }
+    ensures room { IfOk result (λ v. room ≤ vec_capacity v) }
+{
+    let mut items = Vec::with_capacity(alloc, room)?;
+    items.extend_from_slice(marks)?;
+    Ok(items)
+}

@@ -1,0 +1,329 @@
+// The members and the table that was fixed last.
+ghost use Rattle.std.specs.Prelude.{◌≡◌, ◌==◌, ◌+◌, ◌<◌, ◌≤◌, ◌↔◌, [], ◌∷◌, ◌++◌, None, false, length, map, IfOk, OnOk, OnErr, IsTrue, IsFalse, Some, max, option_map};
+ghost use Rattle.member_roster.specs.Members.{heard_at, acked_at, restarted_at, new_joined, boot_of, hosts_of, of_node, is_here, is_left, with_node, without_node, put_joined, late_of, heard_of, any_left, entered, targeted, target_hosts, removes_all};
+ghost use Rattle.member_roster.specs.Places.{Ascends, host_node};
+ghost use Rattle.member_roster.specs.Roster.{RosterState, SameButRoom};
+
+use crate::copies::{fix_table, give_back_all};
+use crate::copying::{copy_hosts, copy_marks, copy_spares};
+use crate::late::drop_late;
+use crate::list::MemberList;
+use crate::marks::{Mark, count_left, enter_marks, restart_marks, target_marks, weigh_mark};
+use crate::room::insert_in_room;
+use crate::search::{host_place, host_place_near};
+use actor_names::{Member, Node, OutOfMemory};
+use place_table::HostInfo;
+use std::alloc::Global;
+use std::marker::Model;
+
+/// The members in byte order of node, at most 256, and the table that was fixed last. Of each member's host there
+/// is a second copy, which is spare or in the table. Those left are counted, and the place of the member that was
+/// heard last is kept, since it is asked for again.
+#[derive(Drop)]
+pub struct Roster {
+    hosts: Vec<HostInfo>,
+    marks: Vec<Mark>,
+    spares: Vec<Option<HostInfo>>,
+    table: Vec<HostInfo>,
+    room: usize,
+    left: usize,
+    near: usize,
+}
+
+impl Model for Roster {
+    ghost use Rattle.std.specs.Prelude.{vec_capacity};
+    ghost use Rattle.member_roster.specs.Roster.{RosterState, joined_all, IsRosterKept, HasRoom};
+
+    ghost Value = { RosterState };
+
+    ghost view = { λ a. record { members = joined_all a.hosts.items a.marks.items; table = a.table.items; room = a.room } };
+
+    ghost invariant = { λ a. IsRosterKept a.hosts.items a.marks.items a.spares.items a.table.items a.room a.left × HasRoom a.room (vec_capacity a.hosts) (vec_capacity a.marks) (vec_capacity a.spares) (vec_capacity a.table) };
+}
+
+/// Whether the host is of the member's boot.
+fn has_boot(host: &HostInfo, member: &Member) -> bool
+    ensures { result ≡ (member.now.boot == host.now.member.boot) }
+{
+    member.boot == host.member.boot
+}
+
+impl Roster {
+    /// Nobody, and no table.
+    pub fn new(alloc: Global) -> Roster
+        ensures { result ≡ record { members = []; table = []; room = 0 } }
+    {
+        Roster {
+            hosts: Vec::new(alloc),
+            marks: Vec::new(alloc),
+            spares: Vec::new(alloc),
+            table: Vec::new(alloc),
+            room: 0,
+            left: 0,
+            near: 0,
+        }
+    }
+
+    /// The members' hosts.
+    pub fn hosts(&self) -> &[HostInfo]
+        ensures hosts { result.now ≡ hosts_of self.now.members }
+        ensures order { Ascends host_node result.now }
+    {
+        self.hosts.as_slice()
+    }
+
+    /// The hosts of the table that was fixed last.
+    pub fn table(&self) -> &[HostInfo]
+        ensures hosts { result.now ≡ self.now.table }
+        ensures order { Ascends host_node result.now }
+    {
+        self.table.as_slice()
+    }
+
+    /// How many members there are.
+    pub fn len(&self) -> u32
+        ensures count { result ≡ length self.now.members }
+        ensures within { result ≤ 256 }
+        ensures room { result ≤ self.now.room }
+    {
+        self.hosts.len() as u32
+    }
+
+    /// For how many members there is room.
+    pub fn room(&self) -> usize
+        ensures { result ≡ self.now.room }
+    {
+        self.room
+    }
+
+    /// The boot of the member of this node.
+    pub fn boot_at(&self, node: &Node) -> Option<u64>
+        ensures { result ≡ option_map boot_of (of_node self.now.members node.now) }
+    {
+        match host_place(&self.hosts, node) {
+            Ok(at) => Some(self.hosts[at].member.boot),
+            Err(_) => None,
+        }
+    }
+
+    /// Whether the member of its node is among those left.
+    pub fn is_left(&self, member: &Member) -> bool
+        ensures { result ≡ is_left self.now.members member.now }
+    {
+        if self.left == 0 {
+            return false;
+        }
+        match host_place_near(&self.hosts, &member.node, self.near) {
+            Ok(at) => self.marks[at].left,
+            Err(_) => false,
+        }
+    }
+
+    /// Whether anybody is left.
+    pub fn any_left(&self) -> bool
+        ensures { result ≡ any_left self.now.members }
+    {
+        self.left > 0
+    }
+
+    /// The member is heard, if it is one; says whether it is.
+    pub fn hear(&mut self, member: &Member, now: u64) -> bool
+        ensures here { result ≡ is_here self.old.members member.now }
+        ensures heard { IsTrue result → self.new ≡ record self.old { members = with_node self.old.members member.now.node (heard_at now) } }
+        ensures stranger { IsFalse result → self.new ≡ self.old }
+    {
+        match host_place(&self.hosts, &member.node) {
+            Ok(at) => {
+                if !has_boot(&self.hosts[at], member) {
+                    return false;
+                }
+                let mark = &mut self.marks[at];
+                mark.heard = now;
+                self.near = at;
+                true
+            }
+            Err(_) => false,
+        }
+    }
+
+    /// The member is heard, if it is one, and isn't left any more; says whether it is one.
+    pub fn ack(&mut self, member: &Member, now: u64) -> bool
+        ensures here { result ≡ is_here self.old.members member.now }
+        ensures acked { IsTrue result → self.new ≡ record self.old { members = with_node self.old.members member.now.node (acked_at now) } }
+        ensures stranger { IsFalse result → self.new ≡ self.old }
+    {
+        match host_place(&self.hosts, &member.node) {
+            Ok(at) => {
+                if !has_boot(&self.hosts[at], member) {
+                    return false;
+                }
+                let weight = weigh_mark(self.marks[at]);
+                let mark = &mut self.marks[at];
+                mark.heard = now;
+                mark.left = false;
+                self.left -= weight;
+                self.near = at;
+                true
+            }
+            Err(_) => false,
+        }
+    }
+
+    /// Makes room for one member more.
+    pub fn reserve(&mut self) -> Result<(), OutOfMemory>
+        ensures same { SameButRoom self.old self.new }
+        ensures room { OnOk result (length self.old.members < self.new.room) }
+        ensures most { self.new.room ≤ max self.old.room (length self.old.members + 1) }
+    {
+        let wanted = self.hosts.len() + 1;
+        if wanted <= self.room {
+            return Ok(());
+        }
+        self.hosts.reserve(1)?;
+        self.marks.reserve(1)?;
+        self.spares.reserve(1)?;
+        self.table.reserve(wanted.saturating_sub(self.table.len()))?;
+        self.room = wanted;
+        Ok(())
+    }
+
+    /// A host joins, whose node has no member; `spare` is a copy of it.
+    pub fn join(&mut self, host: HostInfo, spare: HostInfo, now: u64)
+        requires room { length self.old.members < self.old.room }
+        requires few { length self.old.members < 256 }
+        requires free { of_node self.old.members host.member.node ≡ None }
+        requires copy { spare ≡ host }
+        ensures { self.new ≡ record self.old { members = put_joined self.old.members (new_joined host now) } }
+    {
+        match host_place(&self.hosts, &host.member.node) {
+            Ok(_) => unreachable!(),
+            Err(at) => {
+                insert_in_room(&mut self.hosts, at, host);
+                let mark = Mark {
+                    heard: now,
+                    target: false,
+                    left: false,
+                };
+                insert_in_room(&mut self.marks, at, mark);
+                insert_in_room(&mut self.spares, at, Some(spare));
+            }
+        }
+    }
+
+    /// The member is removed, if it is one; says whether it was.
+    pub fn remove(&mut self, member: &Member) -> bool
+        ensures here { result ≡ is_here self.old.members member.now }
+        ensures removed { IsTrue result → self.new ≡ record self.old { members = without_node self.old.members member.now.node } }
+        ensures stranger { IsFalse result → self.new ≡ self.old }
+    {
+        match host_place(&self.hosts, &member.node) {
+            Ok(at) => {
+                if !has_boot(&self.hosts[at], member) {
+                    return false;
+                }
+                let _host = self.hosts.remove(at);
+                let mark = self.marks.remove(at);
+                let _spare = self.spares.remove(at);
+                let weight = weigh_mark(mark);
+                self.left -= weight;
+                true
+            }
+            Err(_) => false,
+        }
+    }
+
+    /// Removes members in their order, and says whether each was one.
+    pub fn remove_all(&mut self, members: &[Member]) -> bool
+        ensures all { IsTrue result → removes_all self.old.members members.now ≡ Some self.new.members }
+        ensures stranger { IsFalse result → removes_all self.old.members members.now ≡ None }
+        ensures table { self.new.table ≡ self.old.table }
+        ensures room { self.new.room ≡ self.old.room }
+    {
+        for i in 0..members.len() {
+            if !self.remove(&members[i]) {
+                return false;
+            }
+        }
+        true
+    }
+
+    /// The table of the targets is fixed.
+    pub fn fix(&mut self)
+        ensures { self.new ≡ record self.old { table = target_hosts self.old.members } }
+    {
+        fix_table(&self.hosts, &self.marks, &mut self.spares, &mut self.table);
+    }
+
+    /// A round enters a stage: the targets are left.
+    pub fn enter(&mut self)
+        ensures { self.new ≡ record self.old { members = map entered self.old.members } }
+    {
+        let left = enter_marks(&mut self.marks);
+        self.left = left;
+    }
+
+    /// A round starts: each member is a target, and left.
+    pub fn target(&mut self)
+        ensures { self.new ≡ record self.old { members = map targeted self.old.members } }
+    {
+        target_marks(&mut self.marks);
+        let left = self.marks.len();
+        self.left = left;
+    }
+
+    /// Drops each member that was not heard for 10,000 milliseconds, and lists it.
+    pub fn drop_late(&mut self, removed: &mut MemberList, now: u64)
+        requires { length removed.old.members + length self.old.members ≤ removed.old.room }
+        ensures members { self.new ≡ record self.old { members = heard_of self.old.members now } }
+        ensures late { removed.new.members ≡ removed.old.members ++ late_of self.old.members now }
+        ensures room { removed.old.room ≤ removed.new.room }
+    {
+        drop_late(
+            &mut self.hosts,
+            &mut self.marks,
+            &mut self.spares,
+            removed,
+            now,
+        );
+        let left = count_left(&self.marks);
+        self.left = left;
+    }
+
+    /// A restart: each member is heard, and there is no round and no table.
+    pub fn restart(&mut self, now: u64)
+        ensures { self.new ≡ record self.old { members = map (restarted_at now) self.old.members; table = [] } }
+    {
+        give_back_all(&self.hosts, &mut self.spares, &mut self.table);
+        restart_marks(&mut self.marks, now);
+        self.left = 0;
+    }
+
+    /// Nobody, and no table.
+    pub fn clear(&mut self)
+        ensures { self.new ≡ record self.old { members = []; table = [] } }
+    {
+        self.hosts.clear();
+        self.marks.clear();
+        self.spares.clear();
+        self.table.clear();
+        self.left = 0;
+    }
+    /// An equal roster, with the same room.
+    pub fn copy(&self, alloc: Global) -> Result<Roster, OutOfMemory>
+        ensures { IfOk result (λ copy. copy ≡ self.now) }
+    {
+        let hosts = copy_hosts(alloc, self.hosts.as_slice(), self.room)?;
+        let marks = copy_marks(alloc, self.marks.as_slice(), self.room)?;
+        let spares = copy_spares(alloc, self.spares.as_slice(), self.room)?;
+        let table = copy_hosts(alloc, self.table.as_slice(), self.room)?;
+        Ok(Roster {
+            hosts,
+            marks,
+            spares,
+            table,
+            room: self.room,
+            left: self.left,
+            near: self.near,
+        })
+    }
+}

@@ -1,6 +1,0 @@
-use Rattle.std.proofs.Common.{◌∙◌}
-use Rattle.round_core.proofs.Boots.{known_at}
-use Rattle.round_core.proofs.book.BootBook.knows.Goals as goal
-
-pub returns : goal.returns
-returns c = rw (← c.self.view_is) (c.contains_key.ensures ∙ known_at c.key_of.result c.args.node.now c.self.inside.boots.entries c.key_of.ensures)

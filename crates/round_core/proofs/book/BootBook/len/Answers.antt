@@ -1,6 +1,0 @@
-use Rattle.std.proofs.Common.{sym, ◌∙◌}
-use Rattle.round_core.proofs.Boots.{known_count}
-use Rattle.round_core.proofs.book.BootBook.len.Goals as goal
-
-pub returns-clause-count : goal.returns-clause-count
-returns-clause-count c = rw (← c.self.view_is) (c.len.ensures.len ∙ sym (known_count c.self.inside.boots.entries))

@@ -1,6 +1,0 @@
-use Rattle.std.proofs.Common.{◌≡◌, ◌≤◌, take}
-use Rattle.std.specs.Vec.{vec_capacity}
-use Rattle.round_core.proofs.copying.copy_hosts.Given as goal
-
-abbrev pub invariant-loop-host : goal.invariant-loop-host
-invariant-loop-host l = record { items : l.items.items ≡ take l.host-index l.hosts; room : l.room ≤ vec_capacity l.items }

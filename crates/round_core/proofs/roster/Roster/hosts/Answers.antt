@@ -1,6 +1,0 @@
-use Rattle.std.proofs.Common.{sym, ◌∙◌}
-use Rattle.round_core.proofs.Rosters.{hosts_of-joined_all}
-use Rattle.round_core.proofs.roster.Roster.hosts.Goals as goal
-
-pub returns-clause-hosts : goal.returns-clause-hosts
-returns-clause-hosts c = rw (← c.self.view_is) (c.as_slice.ensures.value ∙ sym (hosts_of-joined_all c.self.inside.hosts.items c.self.inside.marks.items c.self.invariant.0.marked))

@@ -1,8 +1,0 @@
--- What is seen of a map from nodes to boots. Own.
-use Rattle.std.specs.Prelude.{ℕ, List, [], ◌∷◌}
-use Rattle.round_core.specs.declared.book.Known.{Known}
-use Rattle.round_core.specs.declared.node_key.NodeKey.{NodeKey}
-
-abbrev pub known_in : List (NodeKey × ℕ) → List Known
-known_in [] = []
-known_in (e ∷ es) = record { node = e.0.node; greatest = e.1 } ∷ known_in es
