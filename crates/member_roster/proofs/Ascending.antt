@@ -1,26 +1,17 @@
 -- Lists stay in byte order of node through each change at a place that a search gave.
-use Rattle.std.proofs.Common.{◌≡◌, ℕ, suc, zero, List, [], ◌∷◌, set, refl, sym, ◌∙◌}
+use Rattle.std.proofs.Common.{◌≡◌, ℕ, suc, zero, List, [], ◌∷◌, refl}
 use Rattle.std.specs.List.{insert, remove}
 use Rattle.std.specs.declared.cmp.Ordering.{Ordering}
 use Rattle.std.specs.declared.cmp.Ordering.TheVariants.{Less, Equal, Greater}
-use Rattle.std.specs.declared.result.Result.TheVariants.{Ok, Err}
+use Rattle.std.specs.declared.result.Result.TheVariants.{Err}
 use Rattle.std.proofs.lemmas.Cmp.{nat_list_cmp_total}
 use Rattle.member_roster.specs.Places.{IsBelowAll, Ascends, place_from, place_by}
-use Rattle.member_roster.proofs.Places.{cmp, less, one_more-Ok, one_more-Err}
+use Rattle.member_roster.proofs.Places.{cmp, less, one_more-Err}
 
 module _ {X : Type 0} (key : X → List ℕ) where
   below_less : (b a : List ℕ) (xs : List X) → cmp b a ≡ Less → IsBelowAll key a xs → IsBelowAll key b xs
   below_less b a [] e h = tt
   below_less b a (x ∷ xs) e h = (let t = nat_list_cmp_total in t.trans b a (key x) e h.0, below_less b a xs e h.1)
-
-  below_equal : (a b : List ℕ) (xs : List X) → cmp a b ≡ Equal → IsBelowAll key a xs → IsBelowAll key b xs
-  below_equal a b [] e h = tt
-  below_equal a b (x ∷ xs) e h = (let t = nat_list_cmp_total in sym (t.congr a b (key x) e) ∙ h.0, below_equal a b xs e h.1)
-
-  below_set : (a : List ℕ) (xs : List X) (i : ℕ) (y : X) → cmp a (key y) ≡ Less → IsBelowAll key a xs → IsBelowAll key a (set xs i y)
-  below_set a [] i y e h = tt
-  below_set a (x ∷ xs) zero y e h = (e, h.1)
-  below_set a (x ∷ xs) (suc i) y e h = (h.0, below_set a xs i y e h.1)
 
   below_insert : (a : List ℕ) (xs : List X) (i : ℕ) (y : X) → cmp a (key y) ≡ Less → IsBelowAll key a xs → IsBelowAll key a (insert xs i y)
   below_insert a [] zero y e h = (e, tt)
@@ -33,16 +24,6 @@ module _ {X : Type 0} (key : X → List ℕ) where
   below_remove a [] (suc i) h = tt
   below_remove a (x ∷ xs) zero h = h.1
   below_remove a (x ∷ xs) (suc i) h = (h.0, below_remove a xs i h.1)
-
-  pub ascends_set : (y : X) (xs : List X) (i : ℕ) → place_by key (key y) xs ≡ Ok i → Ascends key xs → Ascends key (set xs i y)
-  ascends_set y [] i p a = tt
-  ascends_set y (x ∷ xs) i p a = go (cmp (key x) (key y)) refl (λ j q. ascends_set y xs j q a.1) i p
-    where
-      go : (o : Ordering) → cmp (key x) (key y) ≡ o → ((j : ℕ) → place_by key (key y) xs ≡ Ok j → Ascends key (set xs j y)) → (i : ℕ) → place_from o (place_by key (key y) xs) ≡ Ok i → Ascends key (set (x ∷ xs) i y)
-      go Less e ih i p = let h = one_more-Ok (place_by key (key y) xs) i p in rw h.2 (below_set (key x) xs h.0 y e a.0, ih h.0 h.1)
-      go Equal e ih zero p = (below_equal (key x) (key y) xs e a.0, a.1)
-      go Equal e ih (suc i) p = absurd (cc)
-      go Greater e ih i p = absurd (cc)
 
   pub ascends_insert : (y : X) (xs : List X) (i : ℕ) → place_by key (key y) xs ≡ Err i → Ascends key xs → Ascends key (insert xs i y)
   ascends_insert y [] i p a = let z : i ≡ 0 = cc in rw z (tt, tt)
