@@ -1,13 +1,13 @@
--- How many cells, and how many calls in them, a change leaves.
-use Rattle.std.proofs.Common.{◌≡◌, ◌+◌, ◌≤◌, List, [], ◌∷◌, length, Some, ap, inl, inr, arith}
+-- How many cells a change leaves, and the sum of a number of each of them, such as of its calls.
+use Rattle.std.proofs.Common.{◌≡◌, ℕ, false, ◌+◌, ◌≤◌, List, [], ◌∷◌, length, Some, None, ap, inl, inr, arith}
 use Rattle.std.proofs.lemmas.Bool.{cond_both}
 use Rattle.actor_names.specs.declared.actor_key.ActorKey.{ActorKey}
 use Rattle.turn_core.specs.CellSound.{In}
 use Rattle.part_cells.specs.declared.actor_cell.ActorCell.{ActorCell}
 use Rattle.part_cells.specs.Keys.{same_key, key_before}
-use Rattle.part_cells.specs.Cells.{cell_at, drop_cell, insert_cell, put_cell, keep_cell, is_kept, calls_in, total_calls}
+use Rattle.part_cells.specs.Cells.{cell_at, drop_cell, insert_cell, put_cell, keep_cell, is_kept, total}
 use Rattle.part_cells.specs.Order.{AreInOrder}
-use Rattle.part_cells.proofs.Changes.{insert-taken}
+use Rattle.part_cells.proofs.Changes.{insert-taken, drop-missing}
 
 -- ---- cells
 
@@ -46,44 +46,53 @@ length-keep-found cs x c e o =
     let d = length-drop_cell cs x.key in
     cond_both (is_kept x) _ _ (λ r. length r ≤ length cs) (λ _. omega arith) (λ _. d)
 
--- ---- calls
+-- ---- a number of each
 
-pub calls_within : (cs : List ActorCell) (c : ActorCell) → In c cs → calls_in c ≤ total_calls cs
-calls_within [] c i = absurd i
-calls_within (d ∷ cs) c (inl e) = let q = ap calls_in e in omega arith
-calls_within (d ∷ cs) c (inr i) = let m = calls_within cs c i in omega arith
+module _ (f : ActorCell → ℕ) where
+  pub within_total : (cs : List ActorCell) (c : ActorCell) → In c cs → f c ≤ total f cs
+  within_total [] c i = absurd i
+  within_total (d ∷ cs) c (inl e) = let q = ap f e in omega arith
+  within_total (d ∷ cs) c (inr i) = let m = within_total cs c i in omega arith
 
-pub total-drop_cell : (cs : List ActorCell) (key : ActorKey) → total_calls (drop_cell cs key) ≤ total_calls cs
-total-drop_cell [] key = omega arith
-total-drop_cell (c ∷ cs) key =
-    let more = total-drop_cell cs key in
-    cond_both (same_key key c.key) _ _ (λ r. total_calls r ≤ total_calls (c ∷ cs)) (λ _. omega arith) (λ _. omega arith)
+  total-drop_cell : (cs : List ActorCell) (key : ActorKey) → total f (drop_cell cs key) ≤ total f cs
+  total-drop_cell [] key = omega arith
+  total-drop_cell (c ∷ cs) key =
+      let more = total-drop_cell cs key in
+      cond_both (same_key key c.key) _ _ (λ r. total f r ≤ total f (c ∷ cs)) (λ _. omega arith) (λ _. omega arith)
 
-pub total-insert_cell : (cs : List ActorCell) (x : ActorCell) → total_calls (insert_cell cs x) ≡ total_calls cs + calls_in x
-total-insert_cell [] x = omega arith
-total-insert_cell (c ∷ cs) x =
-    let more = total-insert_cell cs x in
-    cond_both (key_before x.key c.key) _ _ (λ r. total_calls r ≡ total_calls (c ∷ cs) + calls_in x) (λ _. omega arith) (λ _. omega arith)
+  total-insert_cell : (cs : List ActorCell) (x : ActorCell) → total f (insert_cell cs x) ≡ total f cs + f x
+  total-insert_cell [] x = omega arith
+  total-insert_cell (c ∷ cs) x =
+      let more = total-insert_cell cs x in
+      cond_both (key_before x.key c.key) _ _ (λ r. total f r ≡ total f (c ∷ cs) + f x) (λ _. omega arith) (λ _. omega arith)
 
--- the calls of a cell that is taken are its own
-pub total-taken : (cs : List ActorCell) (key : ActorKey) (c : ActorCell) → cell_at cs key ≡ Some c → AreInOrder cs → total_calls (drop_cell cs key) + calls_in c ≡ total_calls cs
-total-taken cs key c e o = let n = total-insert_cell (drop_cell cs key) c in let same = ap total_calls (insert-taken cs key c e o) in omega arith
+  -- that of a cell that is taken is its own
+  total-taken : (cs : List ActorCell) (key : ActorKey) (c : ActorCell) → cell_at cs key ≡ Some c → AreInOrder cs → total f (drop_cell cs key) + f c ≡ total f cs
+  total-taken cs key c e o = let n = total-insert_cell (drop_cell cs key) c in let same = ap (total f) (insert-taken cs key c e o) in omega arith
 
-pub total-put_cell : (cs : List ActorCell) (x : ActorCell) → total_calls (put_cell cs x) ≤ total_calls cs + calls_in x
-total-put_cell cs x = let n = total-insert_cell (drop_cell cs x.key) x in let d = total-drop_cell cs x.key in omega arith
+  pub total-put_cell : (cs : List ActorCell) (x : ActorCell) → total f (put_cell cs x) ≤ total f cs + f x
+  total-put_cell cs x = let n = total-insert_cell (drop_cell cs x.key) x in let d = total-drop_cell cs x.key in omega arith
 
-pub total-put-found : (cs : List ActorCell) (x c : ActorCell) → cell_at cs x.key ≡ Some c → AreInOrder cs → total_calls (put_cell cs x) + calls_in c ≡ total_calls cs + calls_in x
-total-put-found cs x c e o = let n = total-insert_cell (drop_cell cs x.key) x in let d = total-taken cs x.key c e o in omega arith
+  pub total-put-found : (cs : List ActorCell) (x c : ActorCell) → cell_at cs x.key ≡ Some c → AreInOrder cs → total f (put_cell cs x) + f c ≡ total f cs + f x
+  total-put-found cs x c e o = let n = total-insert_cell (drop_cell cs x.key) x in let d = total-taken cs x.key c e o in omega arith
 
-pub total-keep_cell : (cs : List ActorCell) (x : ActorCell) → total_calls (keep_cell cs x) ≤ total_calls cs + calls_in x
-total-keep_cell cs x =
-    let p = total-put_cell cs x in
-    let d = total-drop_cell cs x.key in
-    cond_both (is_kept x) _ _ (λ r. total_calls r ≤ total_calls cs + calls_in x) (λ _. p) (λ _. omega arith)
+  -- that of one cell changes
+  pub total-keep-found : (cs : List ActorCell) (x c : ActorCell) → cell_at cs x.key ≡ Some c → AreInOrder cs → total f (keep_cell cs x) + f c ≤ total f cs + f x
+  total-keep-found cs x c e o =
+      let p = total-put-found cs x c e o in
+      let d = total-taken cs x.key c e o in
+      cond_both (is_kept x) _ _ (λ r. total f r + f c ≤ total f cs + f x) (λ _. omega arith) (λ _. omega arith)
 
--- the calls of one cell change
-pub total-keep-found : (cs : List ActorCell) (x c : ActorCell) → cell_at cs x.key ≡ Some c → AreInOrder cs → total_calls (keep_cell cs x) + calls_in c ≤ total_calls cs + calls_in x
-total-keep-found cs x c e o =
-    let p = total-put-found cs x c e o in
-    let d = total-taken cs x.key c e o in
-    cond_both (is_kept x) _ _ (λ r. total_calls r + calls_in c ≤ total_calls cs + calls_in x) (λ _. omega arith) (λ _. omega arith)
+  -- and is all of the change where one that isn't kept has none
+  module _ (cs : List ActorCell) (x : ActorCell) (idle : is_kept x ≡ false → f x ≡ 0) where
+    pub total-keep-changed : (c : ActorCell) → cell_at cs x.key ≡ Some c → AreInOrder cs → total f (keep_cell cs x) + f c ≡ total f cs + f x
+    total-keep-changed c e o =
+        let p = total-put-found cs x c e o in
+        let d = total-taken cs x.key c e o in
+        cond_both (is_kept x) _ _ (λ r. total f r + f c ≡ total f cs + f x) (λ _. omega arith) (λ b. let z = idle b in omega arith)
+
+    pub total-keep-missing : cell_at cs x.key ≡ None → total f (keep_cell cs x) ≡ total f cs + f x
+    total-keep-missing e =
+        let n = total-insert_cell (drop_cell cs x.key) x in
+        let d = ap (total f) (drop-missing cs x.key e) in
+        cond_both (is_kept x) _ _ (λ r. total f r ≡ total f cs + f x) (λ _. omega arith) (λ b. let z = idle b in omega arith)

@@ -42,6 +42,10 @@ first_cell key depth = record { key = key; inner = new_cell depth; active = fals
 abbrev pub calls_in : ActorCell → ℕ
 calls_in c = length c.inner.turns + length c.inner.line
 
+-- the sum of a number of each cell
+abbrev pub total : (ActorCell → ℕ) → List ActorCell → ℕ
+total f [] = 0
+total f (c ∷ cs) = f c + total f cs
+
 abbrev pub total_calls : List ActorCell → ℕ
-total_calls [] = 0
-total_calls (c ∷ cs) = calls_in c + total_calls cs
+total_calls = total calls_in

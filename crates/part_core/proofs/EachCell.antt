@@ -5,7 +5,7 @@ use Rattle.actor_names.specs.declared.actor_key.ActorKey.{ActorKey}
 use Rattle.turn_core.specs.declared.cell.Turn.{Turn}
 use Rattle.turn_core.specs.Cell.{is_free}
 use Rattle.part_cells.specs.declared.actor_cell.ActorCell.{ActorCell}
-use Rattle.part_cells.specs.Cells.{calls_in, total_calls}
+use Rattle.part_cells.specs.Cells.{calls_in, total, total_calls}
 use Rattle.part_core.specs.Marks.{PartMark, TurnBegan, TurnEnded, BecameActive, BecameInactive, PartOpened, begun_calls, ended_calls, marks_of_ends}
 use Rattle.part_core.specs.Part.{PartState, CellStep, each_cell, is_foreign, is_overdue, tick_cell, ring_owner}
 
@@ -25,9 +25,9 @@ ended-append (BecameActive key version ∷ xs) ys = ended-append xs ys
 ended-append (BecameInactive key ∷ xs) ys = ended-append xs ys
 ended-append (PartOpened number version ∷ xs) ys = ended-append xs ys
 
-pub total-fork : (l : List ActorCell) (x : ActorCell) (r : List ActorCell) → total_calls (l ++ x ∷ r) ≡ total_calls l + calls_in x + total_calls r
-total-fork [] x r = omega arith
-total-fork (c ∷ l) x r = let h = total-fork l x r in omega arith
+pub total-fork : (f : ActorCell → ℕ) (l : List ActorCell) (x : ActorCell) (r : List ActorCell) → total f (l ++ x ∷ r) ≡ total f l + f x + total f r
+total-fork f [] x r = omega arith
+total-fork f (c ∷ l) x r = let h = total-fork f l x r in omega arith
 
 pub length-fork : (l : List ActorCell) (x : ActorCell) (r : List ActorCell) → length (l ++ x ∷ r) ≡ length l + 1 + length r
 length-fork l x r = omega (arith, length-append l (x ∷ r))

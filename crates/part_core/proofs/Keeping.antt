@@ -24,18 +24,18 @@ pub record IsChanged (cells : List ActorCell) (gone : ℕ) (x : ActorCell) (new 
 
 module _ (cells : List ActorCell) (x : ActorCell) (o : AreInOrder cells) where
   pub changed_first : IsChanged cells 0 x (put_cell cells x)
-  changed_first = record { in_order = order-put_cell cells x o; each = λ d i. In-put_cell cells x d i; total = (let t = total-put_cell cells x in omega arith) }
+  changed_first = record { in_order = order-put_cell cells x o; each = λ d i. In-put_cell cells x d i; total = (let t = total-put_cell calls_in cells x in omega arith) }
 
   module _ (c : ActorCell) (e : cell_at cells x.key ≡ Some c) where
     pub changed_put : IsChanged cells (calls_in c) x (put_cell cells x)
-    changed_put = record { in_order = order-put_cell cells x o; each = λ d i. In-put_cell cells x d i; total = (let t = total-put-found cells x c e o in omega arith) }
+    changed_put = record { in_order = order-put_cell cells x o; each = λ d i. In-put_cell cells x d i; total = (let t = total-put-found calls_in cells x c e o in omega arith) }
 
     pub changed_keep : IsChanged cells (calls_in c) x (keep_cell cells x)
     changed_keep =
         record {
           in_order = order-keep_cell cells x o;
           each = λ d i. elim (In-keep_cell cells x d i) [ inl h ↦ inl h.0 | inr j ↦ inr j ];
-          total = total-keep-found cells x c e o;
+          total = total-keep-found calls_in cells x c e o;
         }
 
 module _ (drawn size count room : ℕ) (look : ℕ → Option ActorKey) (cells : List ActorCell) (k : AreActorsKept drawn cells size look count room) where

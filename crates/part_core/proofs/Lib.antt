@@ -27,5 +27,6 @@ pub mod PartLaws
 pub mod PartTurns
 pub mod PartBegins
 mod LawRows
+mod Foreigns
 mod Drained
 mod StepLaws

@@ -10,7 +10,7 @@ use Rattle.part_cells.specs.Order.{AreInOrder}
 use Rattle.part_cells.proofs.Elements.{In-cell_at, key-cell_at}
 use Rattle.part_cells.proofs.Orders.{order-drop_cell}
 use Rattle.part_cells.proofs.Changes.{at-In, put-found, drop-dropped, put-dropped, keep-dropped}
-use Rattle.part_cells.proofs.Sizes.{length-taken, calls_within}
+use Rattle.part_cells.proofs.Sizes.{length-taken, within_total}
 use Rattle.part_core.specs.Actors.{without_taken}
 use Rattle.part_core.proofs.CellLaws.{In-cell_of_call}
 use Rattle.part_core.proofs.Founds.{has-cell_of_call}
@@ -39,7 +39,7 @@ module _ (cells : List ActorCell) (o : AreInOrder cells) where
         counted = sym (length-taken cells c.key c e o);
         put = λ x s. ap (λ (k : ActorKey). put_cell (drop_cell cells k) x) (sym s) ∙ put-dropped cells x;
         kept = λ x s. ap (λ (k : ActorKey). keep_cell (drop_cell cells k) x) (sym s) ∙ keep-dropped cells x;
-        within = calls_within cells c (In-cell_at cells c.key c e);
+        within = within_total calls_in cells c (In-cell_at cells c.key c e);
       }
 
   -- by its key: the node's cell, and what the node is lent as

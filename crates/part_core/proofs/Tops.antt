@@ -1,17 +1,13 @@
--- What is known of a tree's cells once its top is known, and of passes over them.
-use Rattle.std.proofs.Common.{◌≡◌, ℕ, ◌<◌, Bool, true, false, not, ◌&&◌, List, [], ◌∷◌, ◌++◌, length, Option, None, Some, Box, refl, sym, ap, ◌∙◌, arith}
+-- What is known of a tree's cells once its top is known, and of a pass over them.
+use Rattle.std.proofs.Common.{◌≡◌, ℕ, ◌<◌, Bool, true, false, List, [], ◌∷◌, ◌++◌, length, Option, None, Some, Box, refl, sym, ap, ◌∙◌, arith}
 use Rattle.std.specs.Prelude.{if◌then◌else◌}
 use Rattle.std.specs.declared.alloc.Global.{Global}
-use Rattle.std.proofs.lemmas.Bool.{cond_both}
 use Rattle.part_cells.specs.declared.actor_cell.ActorCell.{ActorCell}
 use Rattle.part_cells.specs.declared.tree.Node.{Node}
 use Rattle.part_cells.specs.declared.tree.Root.{Root}
 use Rattle.part_cells.specs.declared.tree.Root.TheVariants.{Empty, Full}
 use Rattle.part_cells.specs.Tree.{root_cells}
-use Rattle.turn_core.specs.Cell.{is_free}
-use Rattle.part_core.specs.declared.standing.Standing.{Standing}
-use Rattle.part_core.specs.Actors.{ActorsState, state_of}
-use Rattle.part_core.specs.Part.{PartState, CellStep, is_foreign, is_overdue, no_active_foreign, tick_cell, each_cell, may_close, first_to_close, ring_owner}
+use Rattle.part_core.specs.Part.{PartState, may_close, first_to_close, ring_owner}
 use Rattle.part_core.proofs.EachCell.{length-fork}
 
 pub no_cells : {root : Root} {xs : List ActorCell} → root_cells root ≡ xs → root ≡ Empty → xs ≡ []
@@ -27,17 +23,7 @@ left_shorter m e = let n = ap (λ (l : List ActorCell). length l) e in let f = l
 pub right_shorter : {xs : List ActorCell} (m : Node) → xs ≡ m.left ++ m.cell ∷ m.right → length m.right < length xs
 right_shorter m e = let n = ap (λ (l : List ActorCell). length l) e in let f = length-fork m.left m.cell m.right in omega arith
 
--- ---- passes that stop
-
-pub foreign-fork : (p : PartState) (l : List ActorCell) (x : ActorCell) (r : List ActorCell)
-    → no_active_foreign ring_owner p (l ++ x ∷ r) ≡ (no_active_foreign ring_owner p l && (not (x.active && is_foreign ring_owner p x.key) && no_active_foreign ring_owner p r))
-foreign-fork p [] x r = refl
-foreign-fork p (c ∷ l) x r = go (not (c.active && is_foreign ring_owner p c.key)) (foreign-fork p l x r)
-  where
-    go : (b : Bool) → no_active_foreign ring_owner p (l ++ x ∷ r) ≡ (no_active_foreign ring_owner p l && (not (x.active && is_foreign ring_owner p x.key) && no_active_foreign ring_owner p r))
-        → (b && no_active_foreign ring_owner p (l ++ x ∷ r)) ≡ ((b && no_active_foreign ring_owner p l) && (not (x.active && is_foreign ring_owner p x.key) && no_active_foreign ring_owner p r))
-    go true e = e
-    go false e = refl
+-- ---- a pass that stops
 
 -- the first that may be taken, if there is one
 abbrev pub or_else : Option ActorCell → Option ActorCell → Option ActorCell
@@ -53,20 +39,3 @@ close-fork p now (c ∷ l) x r = go (may_close ring_owner p now c) (close-fork p
         → (if b then Some c else first_to_close ring_owner p now (l ++ x ∷ r)) ≡ or_else (if b then Some c else first_to_close ring_owner p now l) (if may_close ring_owner p now x then Some x else first_to_close ring_owner p now r)
     go true e = refl
     go false e = e
-
--- ---- foreign actors
-
--- the other actors of a part don't matter
-pub same-foreign : (s : Standing) (a b : ActorsState) (cs : List ActorCell) → no_active_foreign ring_owner (state_of s a) cs ≡ no_active_foreign ring_owner (state_of s b) cs
-same-foreign s a b [] = refl
-same-foreign s a b (c ∷ cs) = ap (λ (rest : Bool). not (c.active && is_foreign ring_owner (state_of s a) c.key) && rest) (same-foreign s a b cs)
-
--- a tick leaves them active
-pub tick-foreign : (p : PartState) (now : ℕ) (cs : List ActorCell) → no_active_foreign ring_owner p (each_cell (tick_cell ring_owner p now) cs).cells ≡ no_active_foreign ring_owner p cs
-tick-foreign p now [] = refl
-tick-foreign p now (c ∷ cs) =
-    let here : not ((tick_cell ring_owner p now c).cell.active && is_foreign ring_owner p (tick_cell ring_owner p now c).cell.key) ≡ not (c.active && is_foreign ring_owner p c.key) =
-    cond_both (not (is_free c.inner) && (is_foreign ring_owner p c.key && is_overdue ring_owner p now c)) _ _
-    (λ (s : CellStep). not (s.cell.active && is_foreign ring_owner p s.cell.key) ≡ not (c.active && is_foreign ring_owner p c.key)) (λ _. refl) (λ _. refl)
-    in
-    λ i. here i && tick-foreign p now cs i

@@ -1,7 +1,9 @@
 -- The actors of a part without its stage and table: the numbers drawn, the cells, and the calls of the last step.
 -- Own.
-use Rattle.std.specs.Prelude.{◌≡◌, ◌+◌, ◌≤◌, ◌^◌, ℕ, Bool, true, false, if◌then◌else◌, List, [], ◌∷◌, length, Option, None, Some}
+use Rattle.std.specs.Prelude.{◌≡◌, ◌+◌, ◌≤◌, ◌^◌, ℕ, Bool, true, false, ◌&&◌, if◌then◌else◌, List, [], ◌∷◌, length, Option, None, Some}
 use Rattle.actor_names.specs.declared.actor_key.ActorKey.{ActorKey}
+use Rattle.place_table.specs.declared.host.HostInfo.{HostInfo}
+use Rattle.place_table.specs.Hosts.{PlacementTable}
 use Rattle.turn_core.specs.declared.cell.Turn.{Turn}
 use Rattle.turn_core.specs.declared.cell.Waiter.{Waiter}
 use Rattle.turn_core.specs.Cell.{CellState}
@@ -10,10 +12,9 @@ use Rattle.part_cells.specs.declared.actor_cell.ActorCell.{ActorCell}
 use Rattle.part_core.specs.declared.standing.Standing.{Standing}
 use Rattle.part_core.specs.declared.event.PartReply.{PartReply}
 use Rattle.part_core.specs.declared.event.PartReply.TheVariants as replies
-use Rattle.part_cells.specs.Cells.{drop_cell, total_calls}
+use Rattle.part_cells.specs.Cells.{drop_cell, total, total_calls}
 use Rattle.part_core.specs.Marks.{marks_of_begin}
-use Rattle.part_core.specs.Part.{PartState, PartStep, next_drawn, with_cell, refused, ring_owner}
-use Rattle.part_core.specs.PartRuns.{IsTrulyDrained}
+use Rattle.part_core.specs.Part.{PartState, PartStep, next_drawn, with_cell, refused, is_updated, is_foreign, ring_owner}
 use Rattle.part_core.specs.Rooms.{PartView}
 use Rattle.part_core.specs.Settings.{AreShallow}
 use Rattle.part_cells.specs.Order.{AreInOrder}
@@ -45,12 +46,24 @@ state_of s a =
 abbrev pub view_of : Standing → ActorsState → PartView
 view_of s a = record { state = state_of s a; recent = a.recent }
 
--- Depths are in range, versions at most 2^62, and a part that is known to be drained is.
+-- one for an active actor of another owner
+abbrev pub foreign_in : (PlacementTable → ActorKey → Option HostInfo) → PartState → ActorCell → ℕ
+foreign_in owner p c = if c.active && is_foreign owner p c.key then 1 else 0
+
+-- how many active actors belong to another owner by the installed table
+abbrev pub total_foreign : (PlacementTable → ActorKey → Option HostInfo) → PartState → List ActorCell → ℕ
+total_foreign owner p = total (foreign_in owner p)
+
+-- an updated part keeps how many they are
+abbrev pub IsForeignCounted : Standing → List ActorCell → Type 0
+IsForeignCounted s cells = is_updated s.stage ≡ true → s.foreign ≡ total_foreign ring_owner (state_of s no_actors) cells
+
+-- Depths are in range, versions at most 2^62, and foreign actors are counted.
 pub record IsStandingKept (s : Standing) (a : ActorsState) : Type 0 where
   pub shallow : AreShallow s.kinds
   pub seen_fits : s.seen ≤ 2 ^ 62
   pub opened_fits : s.opened ≤ 2 ^ 62
-  pub drained : s.drained ≡ true → IsTrulyDrained ring_owner (state_of s a)
+  pub counted : IsForeignCounted s a.cells
 
 -- the number of each call of a cell was drawn, and a number for each hold
 pub record IsNumbered (drawn : ℕ) (c : CellState) : Type 0 where
@@ -90,6 +103,11 @@ abbrev pub is_accepted : PartReply → Bool
 is_accepted (replies.Begun call chain) = true
 is_accepted (replies.Waits call place) = true
 is_accepted reply = false
+
+-- whether a deactivation is over
+abbrev pub is_closed : PartReply → Bool
+is_closed (replies.ClosedDone next) = true
+is_closed reply = false
 
 -- the numbers drawn after the reply
 abbrev pub drawn_after : ℕ → PartReply → ℕ

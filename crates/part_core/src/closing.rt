@@ -1,7 +1,7 @@
 // The deactivation of actors: one is taken, and its deactivation call is over.
 ghost use Rattle.std.specs.Prelude.{◌≡◌, ◌&&◌, false};
 ghost use Rattle.std.specs.Option.{option_copied};
-ghost use Rattle.part_core.specs.Actors.{no_actors, state_of, view_of};
+ghost use Rattle.part_core.specs.Actors.{no_actors, state_of, view_of, is_closed};
 ghost use Rattle.part_core.specs.Part.{is_stopped, is_idle, may_close, first_to_close, take_closing, closed_part, is_updated, is_foreign, ring_owner};
 ghost use Rattle.part_core.specs.Rooms.{Gives, GivesInMemory};
 
@@ -28,11 +28,21 @@ fn is_idle(standing: &Standing, now: u64, cell: &ActorCell) -> bool
 }
 
 /// Whether the part gives up an actor that belongs to another owner.
-fn gives_up(standing: &Standing, key: &ActorKey) -> bool
+pub(crate) fn gives_up(standing: &Standing, key: &ActorKey) -> bool
     ensures { result ≡ (is_updated standing.now.stage && is_foreign ring_owner (state_of standing.now no_actors) key.now) }
 {
     match standing.stage {
         Stage::Updated => !is_own(&standing.table, &standing.member, key),
+        _ => false,
+    }
+}
+
+/// Whether a deactivation is over.
+pub(crate) fn is_closed(reply: &PartReply) -> bool
+    ensures { result ≡ is_closed reply.now }
+{
+    match reply {
+        PartReply::ClosedDone { .. } => true,
         _ => false,
     }
 }

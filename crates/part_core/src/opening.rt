@@ -31,7 +31,7 @@ pub(crate) fn begin_if(cell: &mut Cell, may_begin: bool) -> Option<u64>
     }
 }
 
-/// What the opening does with one cell.
+/// What the opening does with one cell. The owner is looked up only where a call is in its line.
 fn open_cell(standing: &Standing, cell: &mut ActorCell) -> CellOpening
     ensures cell { cell.new ≡ (open_cell ring_owner (state_of standing.now no_actors) cell.old).cell }
     ensures next { begun_next_in result.next ≡ begun_calls (open_cell ring_owner (state_of standing.now no_actors) cell.old).marks }
@@ -40,6 +40,12 @@ fn open_cell(standing: &Standing, cell: &mut ActorCell) -> CellOpening
     ensures few { result.moved ≤ 1024 }
     ensures in_line { length (begun_next_in result.next) ≤ calls_in cell.old }
 {
+    if cell.inner.waiting() == 0 {
+        return CellOpening {
+            next: None,
+            moved: 0,
+        };
+    }
     if is_own(&standing.table, &standing.member, &cell.key) {
         let next = begin_if(&mut cell.inner, !cell.closing);
         if next.is_some() {
@@ -47,7 +53,6 @@ fn open_cell(standing: &Standing, cell: &mut ActorCell) -> CellOpening
         }
         return CellOpening { next, moved: 0 };
     }
-    let _waiting = cell.inner.waiting();
     let moved = cell.inner.move_waiting();
     CellOpening { next: None, moved }
 }

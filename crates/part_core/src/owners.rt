@@ -1,9 +1,9 @@
 // Which actors belong to this member.
-ghost use Rattle.std.specs.Prelude.{◌≡◌, ◌<◌, ◌&&◌, not, length, IfOk};
+ghost use Rattle.std.specs.Prelude.{◌≡◌, ◌<◌, ◌≤◌, ◌&&◌, not, length, IfOk};
 ghost use Rattle.std.specs.Option.{option_copied};
-ghost use Rattle.part_core.specs.Actors.{ActorsState, state_of};
+ghost use Rattle.part_core.specs.Actors.{no_actors, state_of, foreign_in, total_foreign};
 ghost use Rattle.part_core.specs.Keys.{same_member};
-ghost use Rattle.part_core.specs.Part.{ring_owner, is_owned_by, is_foreign, is_open, owner_reply, no_active_foreign};
+ghost use Rattle.part_core.specs.Part.{ring_owner, is_owned_by, is_open, owner_reply};
 
 use crate::event::PartReply;
 use crate::stage::Stage;
@@ -38,27 +38,34 @@ pub(crate) fn is_own(table: &Table, member: &Member, key: &ActorKey) -> bool
     }
 }
 
-/// Whether no active actor belongs to another owner.
-pub(crate) fn is_drained(standing: &Standing, cells: &Tree) -> bool
-    ensures { (a : ActorsState) → result ≡ no_active_foreign ring_owner (state_of standing.now a) cells.now }
+/// One for an active actor of another owner.
+fn foreign_in(standing: &Standing, cell: &ActorCell) -> usize
+    ensures count { result ≡ foreign_in ring_owner (state_of standing.now no_actors) cell.now }
+    ensures few { result ≤ 1 }
 {
-    match &cells.root {
-        Root::Empty => true,
-        Root::Full(node) => {
-            let top: &Node = node;
-            if !is_drained(standing, &top.left) || !is_kept_here(standing, &top.cell) {
-                return false;
-            }
-            is_drained(standing, &top.right)
-        }
+    if cell.active && !is_own(&standing.table, &standing.member, &cell.key) {
+        1
+    } else {
+        0
     }
 }
 
-/// Whether the actor isn't active, or belongs to this member.
-fn is_kept_here(standing: &Standing, cell: &ActorCell) -> bool
-    ensures { (a : ActorsState) → result ≡ not (cell.now.active && is_foreign ring_owner (state_of standing.now a) cell.now.key) }
+/// How many active actors belong to another owner.
+pub(crate) fn count_foreign(standing: &Standing, cells: &Tree) -> usize
+    requires { length cells.now ≤ 65536 }
+    ensures count { result ≡ total_foreign ring_owner (state_of standing.now no_actors) cells.now }
+    ensures few { result ≤ length cells.now }
 {
-    !cell.active || is_own(&standing.table, &standing.member, &cell.key)
+    match &cells.root {
+        Root::Empty => 0,
+        Root::Full(node) => {
+            let top: &Node = node;
+            let left = count_foreign(standing, &top.left);
+            let here = foreign_in(standing, &top.cell);
+            let right = count_foreign(standing, &top.right);
+            left + here + right
+        }
+    }
 }
 
 /// Where a moved call should go, by the installed table.

@@ -58,7 +58,7 @@ impl Part {
                     opened: 0,
                     table,
                     since: 0,
-                    drained: false,
+                    foreign: 0,
                 };
                 let actors = Actors::new(alloc);
                 Ok(Part {

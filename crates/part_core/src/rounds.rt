@@ -1,28 +1,24 @@
 // What table events, time and the stop do with the actors of a part.
-ghost use Rattle.std.specs.Prelude.{◌≡◌, ◌&&◌, true, []};
-ghost use Rattle.part_core.specs.Actors.{no_actors, state_of};
+ghost use Rattle.std.specs.Prelude.{◌≡◌, []};
+ghost use Rattle.part_core.specs.Actors.{no_actors, state_of, total_foreign};
 ghost use Rattle.part_core.specs.Marks.{begun_calls, ended_calls, marks_of_stop};
-ghost use Rattle.part_core.specs.Part.{is_updated, is_drained, open_cell, tick_cell, each_cell, ring_owner};
-ghost use Rattle.part_core.specs.PartRuns.{IsTrulyDrained};
+ghost use Rattle.part_core.specs.Part.{open_cell, tick_cell, each_cell, ring_owner};
 
 use crate::actors::Actors;
 use crate::calls::forget_calls;
 use crate::opening::{Opening, open_cells};
-use crate::owners::is_drained;
-use crate::stage::is_updated;
+use crate::owners::count_foreign;
 use crate::standing::Standing;
 use crate::stopping::list_open;
-use crate::ticking::{Ticking, tick_cells};
+use crate::ticking::tick_cells;
 use part_cells::Tree;
 
 impl Actors {
-    /// Whether the part is updated and no active actor belongs to another owner. Where that is known, no cell is
-    /// looked at.
-    pub(crate) fn is_drained(&self, standing: &Standing) -> bool
-        requires known { standing.now.drained ≡ true → IsTrulyDrained ring_owner (state_of standing.now self.now) }
-        ensures { result ≡ (is_updated standing.now.stage && is_drained ring_owner (state_of standing.now self.now)) }
+    /// How many active actors belong to another owner.
+    pub(crate) fn count_foreign(&self, standing: &Standing) -> usize
+        ensures { result ≡ total_foreign ring_owner (state_of standing.now no_actors) self.now.cells }
     {
-        standing.drained || (is_updated(&standing.stage) && is_drained(standing, &self.cells))
+        count_foreign(standing, &self.cells)
     }
 
     /// The part opens: waiting calls begin in its own cells, and are moved in the others.
@@ -37,20 +33,18 @@ impl Actors {
         open_cells(standing, &mut self.cells, &mut self.calls.recent)
     }
 
-    /// The turns of other owners' actors end where their drain time is over. Says how many, and whether the part is
-    /// drained.
-    pub(crate) fn tick(&mut self, standing: &Standing, now: u64) -> Ticking
+    /// The turns of other owners' actors end where their drain time is over. Says how many.
+    pub(crate) fn tick(&mut self, standing: &Standing, now: u64) -> u32
         ensures drawn { self.new.drawn ≡ self.old.drawn }
         ensures cells { self.new.cells ≡ (each_cell (tick_cell ring_owner (state_of standing.now no_actors) now) self.old.cells).cells }
         ensures recent { self.new.recent ≡ ended_calls (each_cell (tick_cell ring_owner (state_of standing.now no_actors) now) self.old.cells).marks }
-        ensures ended { result.ended ≡ (each_cell (tick_cell ring_owner (state_of standing.now no_actors) now) self.old.cells).first }
-        ensures drained { result.drained ≡ is_drained ring_owner (state_of standing.now self.new) }
+        ensures ended { result ≡ (each_cell (tick_cell ring_owner (state_of standing.now no_actors) now) self.old.cells).first }
     {
         self.calls.recent.clear();
-        let ticking = tick_cells(standing, now, &mut self.cells, &mut self.calls.recent);
+        let ended = tick_cells(standing, now, &mut self.cells, &mut self.calls.recent);
         let calls = self.calls.recent.as_slice();
         forget_calls(&mut self.calls.index, &self.cells, calls);
-        ticking
+        ended
     }
 
     /// Every turn ends, and every cell is dropped.

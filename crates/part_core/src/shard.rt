@@ -1,14 +1,16 @@
 // A part as a state machine: what it is, and its actors.
 ghost use Rattle.std.specs.Prelude.{◌≡◌, ◌≤◌, ◌^◌, false, true, []};
-ghost use Rattle.part_core.specs.Part.{is_stopped, unchanged, lock_part, update_part, unlock_part, tick_part, stop_part, running_step, stopped_step, part_step, receipt_of, ring_owner};
+ghost use Rattle.part_core.specs.Part.{is_stopped, unchanged, lock_part, update_part, unlock_part, tick_part, stop_part, closed_part, running_step, stopped_step, part_step, receipt_of, ring_owner};
 ghost use Rattle.part_core.specs.Rooms.{Gives, GivesEnded, GivesRunning, GivesStep, IsInRange};
 ghost use Rattle.part_core.specs.Sound.{IsPartSound};
 
 use crate::actors::Actors;
+use crate::closing::{gives_up, is_closed};
 use crate::event::{PartEvent, PartReply};
 use crate::receipt::Receipt;
 use crate::stage::{Stage, is_locked, is_updated};
 use crate::standing::Standing;
+use actor_names::ActorKey;
 use place_table::Table;
 use std::marker::Model;
 
@@ -38,12 +40,10 @@ impl Shard {
         self.actors.calls()
     }
 
-    /// What the part shows of itself. Whether an updated part is drained is kept.
-    fn receipt(&mut self) -> Receipt
-        ensures receipt { result ≡ receipt_of ring_owner self.old.state }
-        ensures same { self.new ≡ self.old }
+    /// What the part shows of itself.
+    fn receipt(&self) -> Receipt
+        ensures { result ≡ receipt_of ring_owner self.now.state }
     {
-        self.standing.drained = self.actors.is_drained(&self.standing);
         self.standing.receipt()
     }
 
@@ -67,7 +67,7 @@ impl Shard {
             return self.unchanged();
         }
         self.actors.forget();
-        self.standing.enter(Stage::Locked);
+        self.standing.stage = Stage::Locked;
         self.standing.seen = version;
         PartReply::TableStep {
             receipt: self.receipt(),
@@ -75,7 +75,7 @@ impl Shard {
         }
     }
 
-    /// The table of the round is installed.
+    /// The table of the round is installed, and the active actors of other owners are counted.
     fn update(&mut self, table: Table, now: u64) -> PartReply
         ensures { Gives (update_part ring_owner self.old.state table now) result self.new }
     {
@@ -83,9 +83,10 @@ impl Shard {
             return self.unchanged();
         }
         self.actors.forget();
-        self.standing.enter(Stage::Updated);
+        self.standing.stage = Stage::Updated;
         self.standing.table = table;
         self.standing.since = now;
+        self.standing.foreign = self.actors.count_foreign(&self.standing);
         PartReply::TableStep {
             receipt: self.receipt(),
             changed: true,
@@ -99,14 +100,13 @@ impl Shard {
         if !is_updated(&self.standing.stage) || version != self.standing.seen {
             return self.unchanged();
         }
-        self.standing.drained = self.actors.is_drained(&self.standing);
-        if !self.standing.drained {
+        if self.standing.foreign > 0 {
             self.actors.forget();
             return PartReply::NotDrained {
-                receipt: self.standing.receipt(),
+                receipt: self.receipt(),
             };
         }
-        self.standing.enter(Stage::Open);
+        self.standing.stage = Stage::Open;
         self.standing.opened = self.standing.seen;
         let opening = self.actors.open(&self.standing);
         PartReply::Opened {
@@ -121,19 +121,31 @@ impl Shard {
         requires { IsPartSound ring_owner self.old.state }
         ensures { GivesEnded (tick_part ring_owner self.old.state now) result self.new }
     {
-        if self.standing.drained || !is_updated(&self.standing.stage) {
+        if !is_updated(&self.standing.stage) || self.standing.foreign == 0 {
             self.actors.forget();
             return PartReply::Ticked {
                 receipt: self.receipt(),
                 ended: 0,
             };
         }
-        let ticking = self.actors.tick(&self.standing, now);
-        self.standing.drained = ticking.drained;
+        let ended = self.actors.tick(&self.standing, now);
         PartReply::Ticked {
-            receipt: self.standing.receipt(),
-            ended: ticking.ended,
+            receipt: self.receipt(),
+            ended,
         }
+    }
+
+    /// The deactivation of an actor is over. In an updated part there is one active actor of another owner less, where
+    /// it was one.
+    fn closed(&mut self, key: &ActorKey) -> PartReply
+        requires { IsPartSound ring_owner self.old.state }
+        ensures { Gives (closed_part ring_owner self.old.state key.now) result self.new }
+    {
+        let reply = self.actors.closed(&self.standing, key);
+        if is_closed(&reply) && gives_up(&self.standing, key) {
+            self.standing.foreign -= 1;
+        }
+        reply
     }
 
     /// The part stops for good.
@@ -141,7 +153,7 @@ impl Shard {
         ensures { GivesEnded (stop_part ring_owner self.old.state) result self.new }
     {
         self.actors.stop();
-        self.standing.enter(Stage::Stopped);
+        self.standing.stage = Stage::Stopped;
         PartReply::StoppedNow {
             receipt: self.receipt(),
         }
@@ -185,7 +197,7 @@ impl Shard {
             PartEvent::Unlock { version } => self.unlock(version),
             PartEvent::Tick { now } => self.tick(now),
             PartEvent::TakeClosing { now } => self.actors.take_closing(&self.standing, now),
-            PartEvent::Closed { key } => self.actors.closed(&self.standing, &key),
+            PartEvent::Closed { key } => self.closed(&key),
             PartEvent::StopPart => self.stop(),
         }
     }

@@ -1,9 +1,9 @@
 // The end of the drain time: open turns of actors of other owners end.
-ghost use Rattle.std.specs.Prelude.{◌≡◌, ◌+◌, ◌*◌, ◌^◌, ◌≤◌, ◌++◌, ◌&&◌, not, length, vec_len, vec_capacity};
+ghost use Rattle.std.specs.Prelude.{◌≡◌, ◌+◌, ◌*◌, ◌≤◌, ◌++◌, length, vec_len, vec_capacity};
 ghost use Rattle.part_core.specs.Actors.{no_actors, state_of};
 ghost use Rattle.part_cells.specs.Cells.{total_calls};
 ghost use Rattle.part_core.specs.Marks.{ended_calls};
-ghost use Rattle.part_core.specs.Part.{is_foreign, is_overdue, no_active_foreign, tick_cell, each_cell, ring_owner};
+ghost use Rattle.part_core.specs.Part.{is_overdue, tick_cell, each_cell, ring_owner};
 
 use crate::owners::is_own;
 use crate::settings::drain_of;
@@ -17,53 +17,25 @@ fn is_overdue(standing: &Standing, now: u64, cell: &ActorCell) -> bool
     drain_of(standing.kinds.as_slice(), &cell.key.kind) <= now.saturating_sub(standing.since)
 }
 
-/// How many turns a tick ended, and whether none of the cells is both active and another owner's.
-#[derive(Clone, Copy)]
-pub(crate) struct Ticking {
-    pub(crate) ended: u32,
-    pub(crate) drained: bool,
-}
-
-impl Ticking {
-    /// What a tick does with these cells and then with the later ones.
-    fn then(self, later: Ticking) -> Ticking
-        requires { self.ended + later.ended ≤ 2 ^ 31 }
-        ensures ended { result.ended ≡ self.ended + later.ended }
-        ensures drained { result.drained ≡ (self.drained && later.drained) }
-    {
-        Ticking {
-            ended: self.ended + later.ended,
-            drained: self.drained && later.drained,
-        }
-    }
-}
-
-/// What a tick does with one cell of an updated part: the calls of turns that end are put at the end of the list. The
-/// owner is looked up once, and not at all where the cell is neither active nor has an open turn.
-fn tick_cell(standing: &Standing, now: u64, cell: &mut ActorCell, calls: &mut Vec<u64>) -> Ticking
+/// What a tick does with one cell of an updated part: the calls of turns that end are put at the end of the list, and
+/// counted. The owner is looked up only where the cell has an open turn and its drain time has passed.
+fn tick_cell(standing: &Standing, now: u64, cell: &mut ActorCell, calls: &mut Vec<u64>) -> u32
     requires { vec_len calls.old + length cell.old.inner.turns ≤ vec_capacity calls.old }
     ensures cell { cell.new ≡ (tick_cell ring_owner (state_of standing.now no_actors) now cell.old).cell }
     ensures calls { calls.new.items ≡ calls.old.items ++ ended_calls (tick_cell ring_owner (state_of standing.now no_actors) now cell.old).marks }
-    ensures ended { result.ended ≡ (tick_cell ring_owner (state_of standing.now no_actors) now cell.old).first }
-    ensures drained { result.drained ≡ not (cell.old.active && is_foreign ring_owner (state_of standing.now no_actors) cell.old.key) }
+    ensures ended { result ≡ (tick_cell ring_owner (state_of standing.now no_actors) now cell.old).first }
     ensures room { vec_capacity calls.old ≤ vec_capacity calls.new }
-    ensures few { result.ended ≤ 1024 }
+    ensures few { result ≤ 1024 }
 {
-    let drained = !cell.active;
-    let free = cell.inner.turns() == 0;
-    if (drained && free) || is_own(&standing.table, &standing.member, &cell.key) {
-        return Ticking {
-            ended: 0,
-            drained: true,
-        };
+    if cell.inner.turns() == 0 || !is_overdue(standing, now, cell) {
+        return 0;
     }
-    if free || !is_overdue(standing, now, cell) {
-        return Ticking { ended: 0, drained };
+    if is_own(&standing.table, &standing.member, &cell.key) {
+        return 0;
     }
     cell.inner.list_turns(calls);
     cell.last = cell.last.max(now);
-    let ended = cell.inner.end_all();
-    Ticking { ended, drained }
+    cell.inner.end_all()
 }
 
 /// What a tick does with every cell, one after another.
@@ -72,27 +44,23 @@ pub(crate) fn tick_cells(
     now: u64,
     cells: &mut Tree,
     calls: &mut Vec<u64>,
-) -> Ticking
+) -> u32
     requires few { length cells.old ≤ 65536 }
     requires room { vec_len calls.old + total_calls cells.old ≤ vec_capacity calls.old }
     ensures cells { cells.new ≡ (each_cell (tick_cell ring_owner (state_of standing.now no_actors) now) cells.old).cells }
     ensures calls { calls.new.items ≡ calls.old.items ++ ended_calls (each_cell (tick_cell ring_owner (state_of standing.now no_actors) now) cells.old).marks }
-    ensures ended { result.ended ≡ (each_cell (tick_cell ring_owner (state_of standing.now no_actors) now) cells.old).first }
-    ensures drained { result.drained ≡ no_active_foreign ring_owner (state_of standing.now no_actors) cells.old }
-    ensures few { result.ended ≤ 1024 * length cells.old }
+    ensures ended { result ≡ (each_cell (tick_cell ring_owner (state_of standing.now no_actors) now) cells.old).first }
+    ensures few { result ≤ 1024 * length cells.old }
     ensures kept_room { vec_capacity calls.old ≤ vec_capacity calls.new }
 {
     match &mut cells.root {
-        Root::Empty => Ticking {
-            ended: 0,
-            drained: true,
-        },
+        Root::Empty => 0,
         Root::Full(node) => {
             let top: &mut Node = node;
             let left = tick_cells(standing, now, &mut top.left, calls);
             let here = tick_cell(standing, now, &mut top.cell, calls);
             let right = tick_cells(standing, now, &mut top.right, calls);
-            left.then(here.then(right))
+            left + here + right
         }
     }
 }

@@ -1,6 +1,6 @@
 use Rattle.std.proofs.Common.{◌++◌, ◌∷◌, ℕ, List, length, refl, sym, ap, ◌∙◌, rules, arith, length-append}
 use Rattle.part_cells.specs.declared.actor_cell.ActorCell.{ActorCell}
-use Rattle.part_cells.specs.Cells.{total_calls}
+use Rattle.part_cells.specs.Cells.{calls_in, total_calls}
 use Rattle.part_core.specs.Actors.{no_actors, state_of}
 use Rattle.part_core.specs.Marks.{begun_calls}
 use Rattle.part_core.specs.Part.{CellStep, open_cell, each_cell, ring_owner}
@@ -16,7 +16,7 @@ open_cells-left-requires t c =
     let e = forked top c.cells.view_is c.in-Full.is c.deref_mut-top.ensures.value in
     let s = left_shorter top e in
     let m = ap total_calls e in
-    let f = total-fork top.left top.cell top.right in
+    let f = total-fork calls_in top.left top.cell top.right in
     let few = c.requires.few in
     let room = c.requires.room in
     (search rules, (omega arith, omega arith))
@@ -27,7 +27,7 @@ note_next-requires t c =
     let e = forked top c.cells.view_is c.in-Full.is c.deref_mut-top.ensures.value in
     let p = state_of c.args.standing.now no_actors in
     let m = ap total_calls e in
-    let f = total-fork top.left top.cell top.right in
+    let f = total-fork calls_in top.left top.cell top.right in
     let room = c.requires.room in
     let kept = c.open_cells-left.ensures.kept_room in
     let q = ap (λ (l : List ℕ). length l) c.open_cells-left.ensures.calls in
@@ -42,7 +42,7 @@ open_cells-right-requires t c =
     let p = state_of c.args.standing.now no_actors in
     let s = right_shorter top e in
     let m = ap total_calls e in
-    let f = total-fork top.left top.cell top.right in
+    let f = total-fork calls_in top.left top.cell top.right in
     let few = c.requires.few in
     let room = c.requires.room in
     let kept = c.open_cells-left.ensures.kept_room in

@@ -9,4 +9,4 @@ unmoved-within [] = omega arith
 unmoved-within (w ∷ ws) = let l = unmoved-within ws in cond_both w.moved _ _ (λ (n : ℕ). n ≤ length (w ∷ ws)) (λ _. omega arith) (λ _. omega arith)
 
 pub returns-clause-few : goal.returns-clause-few
-returns-clause-few c = let l = unmoved-within c.args.cell.now.inner.line in let m = c.waiting-waiting.ensures.within in let n = c.waiting-waiting.ensures.count in let r = c.move_waiting-moved.ensures.answer in omega arith
+returns-clause-few c = let l = unmoved-within c.args.cell.now.inner.line in let m = c.waiting.ensures.within in let n = c.waiting.ensures.count in let r = c.move_waiting-moved.ensures.answer in omega arith

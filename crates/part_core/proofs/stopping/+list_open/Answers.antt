@@ -1,6 +1,6 @@
 use Rattle.std.proofs.Common.{◌++◌, ℕ, List, length, sym, ap, ◌∙◌, rules, arith, length-append}
 use Rattle.turn_core.specs.Cell.{turn_calls}
-use Rattle.part_cells.specs.Cells.{total_calls}
+use Rattle.part_cells.specs.Cells.{calls_in, total_calls}
 use Rattle.part_core.specs.Marks.{ended_calls, marks_of_stop}
 use Rattle.part_core.proofs.EachCell.{total-fork, listed}
 use Rattle.part_core.proofs.EachKept.{stop-fork, stop-short, length-turn_calls}
@@ -13,7 +13,7 @@ list_open-requires t c =
     let e = forked top c.cells.view_is c.in-Full.is c.deref-top.ensures in
     let s = left_shorter top e in
     let m = ap total_calls e in
-    let f = total-fork top.left top.cell top.right in
+    let f = total-fork calls_in top.left top.cell top.right in
     let room = c.requires in
     (search rules, omega arith)
 
@@ -22,7 +22,7 @@ list_turns-requires t c =
     let top = c.deref-top.result.now in
     let e = forked top c.cells.view_is c.in-Full.is c.deref-top.ensures in
     let m = ap total_calls e in
-    let f = total-fork top.left top.cell top.right in
+    let f = total-fork calls_in top.left top.cell top.right in
     let room = c.requires in
     let kept = c.list_open.ensures.room in
     let q = ap (λ (l : List ℕ). length l) c.list_open.ensures.calls in
@@ -35,7 +35,7 @@ list_open-requires-in-Full t c =
     let e = forked top c.cells.view_is c.in-Full.is c.deref-top.ensures in
     let s = right_shorter top e in
     let m = ap total_calls e in
-    let f = total-fork top.left top.cell top.right in
+    let f = total-fork calls_in top.left top.cell top.right in
     let room = c.requires in
     let kept = c.list_open.ensures.room in
     let more = c.list_turns.ensures.room in

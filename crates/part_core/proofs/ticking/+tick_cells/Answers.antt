@@ -1,11 +1,11 @@
-use Rattle.std.proofs.Common.{◌&&◌, ◌++◌, ◌∷◌, ℕ, List, length, refl, sym, ap, ◌∙◌, rules, arith, length-append}
+use Rattle.std.proofs.Common.{◌++◌, ◌∷◌, ℕ, List, length, refl, sym, ap, ◌∙◌, rules, arith, length-append}
 use Rattle.part_cells.specs.declared.actor_cell.ActorCell.{ActorCell}
-use Rattle.part_cells.specs.Cells.{total_calls}
+use Rattle.part_cells.specs.Cells.{calls_in, total_calls}
 use Rattle.part_core.specs.Actors.{no_actors, state_of}
 use Rattle.part_core.specs.Marks.{ended_calls}
 use Rattle.part_core.specs.Part.{CellStep, tick_cell, each_cell, ring_owner}
 use Rattle.part_core.proofs.EachCell.{ended-append, total-fork, cells-fork, first-fork, listed, picked-fork, picked-short, append_nil, tick-short}
-use Rattle.part_core.proofs.Tops.{no_cells, forked, left_shorter, right_shorter, foreign-fork}
+use Rattle.part_core.proofs.Tops.{no_cells, forked, left_shorter, right_shorter}
 use Rattle.part_core.proofs.ticking.+tick_cells.Goals as goal
 use Rattle.part_core.proofs.ticking.+tick_cells.Goals.{in-Empty, in-Full}
 
@@ -15,7 +15,7 @@ tick_cells-left-requires t c =
     let e = forked top c.cells.view_is c.in-Full.is c.deref_mut-top.ensures.value in
     let s = left_shorter top e in
     let m = ap total_calls e in
-    let f = total-fork top.left top.cell top.right in
+    let f = total-fork calls_in top.left top.cell top.right in
     let few = c.requires.few in
     let room = c.requires.room in
     (search rules, (omega arith, omega arith))
@@ -26,7 +26,7 @@ tick_cell-here-requires t c =
     let e = forked top c.cells.view_is c.in-Full.is c.deref_mut-top.ensures.value in
     let p = state_of c.args.standing.now no_actors in
     let m = ap total_calls e in
-    let f = total-fork top.left top.cell top.right in
+    let f = total-fork calls_in top.left top.cell top.right in
     let room = c.requires.room in
     let kept = c.tick_cells-left.ensures.kept_room in
     let q = ap (λ (l : List ℕ). length l) c.tick_cells-left.ensures.calls in
@@ -40,7 +40,7 @@ tick_cells-right-requires t c =
     let p = state_of c.args.standing.now no_actors in
     let s = right_shorter top e in
     let m = ap total_calls e in
-    let f = total-fork top.left top.cell top.right in
+    let f = total-fork calls_in top.left top.cell top.right in
     let few = c.requires.few in
     let room = c.requires.room in
     let kept = c.tick_cells-left.ensures.kept_room in
@@ -89,20 +89,6 @@ returns-clause-ended t c =
           let a = w.tick_cells-left.ensures.ended in
           let b = w.tick_cell-here.ensures.ended in
           let d = w.tick_cells-right.ensures.ended in
-          let g = w.then.ensures.ended in
-          let h = w.then-in-Full.ensures.ended in
           rw (w.result-is, forked top c.cells.view_is w.in-Full.is w.deref_mut-top.ensures.value) (omega arith)
-          )
-    ]
-
-pub returns-clause-drained : goal.returns-clause-drained
-returns-clause-drained t c =
-    let p = state_of c.args.standing.now no_actors in
-    elim c.match-cells.branch [
-      | in-Empty w ↦ rw (w.result-is, no_cells c.cells.view_is w.in-Empty.is) refl
-      | in-Full w ↦ (
-          let top = w.deref_mut-top.result.now in
-          rw (w.result-is, forked top c.cells.view_is w.in-Full.is w.deref_mut-top.ensures.value, foreign-fork p top.left top.cell top.right)
-          (w.then-in-Full.ensures.drained ∙ (λ i. w.tick_cells-left.ensures.drained i && (w.then.ensures.drained ∙ (λ j. w.tick_cell-here.ensures.drained j && w.tick_cells-right.ensures.drained j)) i))
           )
     ]

@@ -16,7 +16,7 @@ pub returns-clause-calls : goal.returns-clause-calls
 returns-clause-calls c =
     let cell = c.args.cell.now in
     let p = state_of c.args.standing.now no_actors in
-    let busy : not (is_free cell.inner) ≡ true = not_from_false (is_free cell.inner) (ne_eqb (length cell.inner.turns) 0 (λ e. c.if-free-2.false (c.turns-free.ensures.count ∙ e))) in
+    let busy : not (is_free cell.inner) ≡ true = not_from_false (is_free cell.inner) (ne_eqb (length cell.inner.turns) 0 (λ e. c.if-turns-eq0.false (c.turns.ensures.count ∙ e))) in
     let foreign : is_foreign ring_owner p cell.key ≡ true = not_from_false (is_own ring_owner p cell.key) (sym c.is_own.ensures ∙ c.if-is_own.false) in
     let overdue : is_overdue ring_owner p c.args.now cell ≡ true = sym c.is_overdue.ensures ∙ c.if-not-is_overdue.false in
     let step = cond-true (not (is_free cell.inner) && (is_foreign ring_owner p cell.key && is_overdue ring_owner p c.args.now cell)) _ _ (and_from _ _ busy (and_from _ _ foreign overdue)) in

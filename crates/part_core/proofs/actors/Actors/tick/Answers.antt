@@ -3,7 +3,6 @@ use Rattle.part_cells.specs.Index.{key_of}
 use Rattle.part_core.specs.Actors.{no_actors, state_of}
 use Rattle.part_core.specs.Part.{tick_cell, each_cell, ring_owner}
 use Rattle.part_core.proofs.EachKept.{kept_each, ticking_keeps, reindexed}
-use Rattle.part_core.proofs.Tops.{same-foreign, tick-foreign}
 use Rattle.part_core.proofs.actors.Actors.tick.Goals as goal
 
 pub forget_calls-requires-clause-order : goal.forget_calls-requires-clause-order
@@ -13,7 +12,7 @@ forget_calls-requires-clause-order c =
     let look = key_of c.self.inside.calls.index in
     let kept = kept_each c.self.inside.calls.drawn c.self.inside.size c.self.inside.calls.count (vec_capacity c.self.inside.calls.recent) _ look (tick_cell ring_owner p c.args.now) c.self.inside.cells k
     (ticking_keeps c.self.inside.calls.drawn c.args.now look p) k.has_room in
-    rw c.tick_cells-ticking.ensures.cells kept.in_order
+    rw c.tick_cells-ended.ensures.cells kept.in_order
 
 pub forget_calls-requires-clause-indexed : goal.forget_calls-requires-clause-indexed
 forget_calls-requires-clause-indexed c =
@@ -22,7 +21,7 @@ forget_calls-requires-clause-indexed c =
     let look = key_of c.self.inside.calls.index in
     let kept = kept_each c.self.inside.calls.drawn c.self.inside.size c.self.inside.calls.count (vec_capacity c.self.inside.calls.recent) _ look (tick_cell ring_owner p c.args.now) c.self.inside.cells k
     (ticking_keeps c.self.inside.calls.drawn c.args.now look p) k.has_room in
-    rw c.tick_cells-ticking.ensures.cells kept.indexed
+    rw c.tick_cells-ended.ensures.cells kept.indexed
 
 pub invariant_of-self : goal.invariant_of-self
 invariant_of-self c =
@@ -30,12 +29,6 @@ invariant_of-self c =
     let p = state_of c.args.standing.now no_actors in
     let look = key_of c.self.inside.calls.index in
     let kept = kept_each c.self.inside.calls.drawn c.self.inside.size c.self.inside.calls.count (vec_capacity c.self.inside.calls.recent) _ look (tick_cell ring_owner p c.args.now) c.self.inside.cells k
-    (ticking_keeps c.self.inside.calls.drawn c.args.now look p) (let a = k.has_room in let b = c.tick_cells-ticking.ensures.kept_room in let d = c.clear.ensures.capacity in omega arith) in
-    rw c.tick_cells-ticking.ensures.cells
-    (reindexed c.self.inside.calls.drawn c.self.inside.size c.self.inside.calls.count (vec_capacity c.tick_cells-ticking.new.calls) look (key_of c.forget_calls.new.index) _ kept (rw c.tick_cells-ticking.ensures.cells at c.forget_calls.ensures))
-
-pub returns-clause-drained : goal.returns-clause-drained
-returns-clause-drained c =
-    let p = state_of c.args.standing.now no_actors in
-    rw c.tick_cells-ticking.ensures.cells
-    (c.tick_cells-ticking.ensures.drained ∙ sym (tick-foreign p c.args.now c.self.inside.cells) ∙ same-foreign c.args.standing.now no_actors (record { drawn = c.self.inside.calls.drawn; cells = (each_cell (tick_cell ring_owner p c.args.now) c.self.inside.cells).cells; recent = c.tick_cells-ticking.new.calls.items }) (each_cell (tick_cell ring_owner p c.args.now) c.self.inside.cells).cells)
+    (ticking_keeps c.self.inside.calls.drawn c.args.now look p) (let a = k.has_room in let b = c.tick_cells-ended.ensures.kept_room in let d = c.clear.ensures.capacity in omega arith) in
+    rw c.tick_cells-ended.ensures.cells
+    (reindexed c.self.inside.calls.drawn c.self.inside.size c.self.inside.calls.count (vec_capacity c.tick_cells-ended.new.calls) look (key_of c.forget_calls.new.index) _ kept (rw c.tick_cells-ended.ensures.cells at c.forget_calls.ensures))

@@ -1,5 +1,9 @@
-use Rattle.part_core.specs.declared.event.PartEvent.TheVariants as events
-use Rattle.part_core.proofs.Drained.{known_after}
+use Rattle.std.proofs.Common.{refl}
+use Rattle.part_cells.specs.Cells.{cell_at, cell_of_call}
+use Rattle.part_core.specs.Actors.{state_of}
+use Rattle.part_core.specs.Part.{ask_part, draw_part, poll_part, end_part, hold_part, release_part, take_closing, first_to_close, ring_owner}
+use Rattle.part_core.proofs.Foreigns.{asks_steady, draws_steady, polls_steady, ends_steady, holds_steady, releases_steady, takes_steady}
+use Rattle.part_core.proofs.Drained.{kept_by, kept_in_memory}
 use Rattle.part_core.proofs.shard.Shard.run.Goals as goal
 
 pub returns-in-Ask : goal.returns-in-Ask
@@ -11,44 +15,55 @@ returns-in-AskAt c = rw (c.in-AskAt.is, ← c.self-in-AskAt.view_is) c.ask-in-As
 pub invariant_of-self : goal.invariant_of-self
 invariant_of-self c =
     let s = c.self in
-    known_after s.inside.standing s.inside.actors c.ask.new.self s.invariant (rw (← s.view_is) at c.requires.sound) c.ask.result (events.Ask c.in-Ask.key c.in-Ask.chain c.in-Ask.now) c.ask.ensures
+    let p = state_of s.inside.standing s.inside.actors in
+    let h = rw (← s.view_is) at c.requires.sound in
+    kept_in_memory s.inside.standing s.inside.actors c.ask.new.self s.invariant (ask_part ring_owner p c.in-Ask.key c.in-Ask.chain 0) (λ up. asks_steady ring_owner p h up c.in-Ask.key c.in-Ask.chain 0) c.ask.result c.ask.ensures
 
 pub invariant_of-self-in-AskAt : goal.invariant_of-self-in-AskAt
 invariant_of-self-in-AskAt c =
     let s = c.self-in-AskAt in
-    known_after s.inside.standing s.inside.actors c.ask-in-AskAt.new.self s.invariant (rw (← s.view_is) at c.requires.sound) c.ask-in-AskAt.result (events.AskAt c.in-AskAt.key c.in-AskAt.chain c.in-AskAt.least c.in-AskAt.now) c.ask-in-AskAt.ensures
+    let p = state_of s.inside.standing s.inside.actors in
+    let h = rw (← s.view_is) at c.requires.sound in
+    kept_in_memory s.inside.standing s.inside.actors c.ask-in-AskAt.new.self s.invariant (ask_part ring_owner p c.in-AskAt.key c.in-AskAt.chain c.in-AskAt.least) (λ up. asks_steady ring_owner p h up c.in-AskAt.key c.in-AskAt.chain c.in-AskAt.least) c.ask-in-AskAt.result c.ask-in-AskAt.ensures
 
 pub invariant_of-self-in-Draw : goal.invariant_of-self-in-Draw
 invariant_of-self-in-Draw c =
     let s = c.self-in-Draw in
-    known_after s.inside.standing s.inside.actors c.draw.new.self s.invariant (rw (← s.view_is) at c.requires.sound) c.draw.result events.Draw (c.draw.ensures s.inside.standing)
+    let p = state_of s.inside.standing s.inside.actors in
+    let h = rw (← s.view_is) at c.requires.sound in
+    kept_by s.inside.standing s.inside.actors c.draw.new.self s.invariant (draw_part ring_owner p) (λ _. draws_steady ring_owner p h) c.draw.result (c.draw.ensures s.inside.standing)
 
 pub invariant_of-self-in-Poll : goal.invariant_of-self-in-Poll
 invariant_of-self-in-Poll c =
     let s = c.self-in-Poll in
-    known_after s.inside.standing s.inside.actors c.poll.new.self s.invariant (rw (← s.view_is) at c.requires.sound) c.poll.result (events.Poll c.in-Poll.call) c.poll.ensures
+    let p = state_of s.inside.standing s.inside.actors in
+    let h = rw (← s.view_is) at c.requires.sound in
+    kept_in_memory s.inside.standing s.inside.actors c.poll.new.self s.invariant (poll_part ring_owner p c.in-Poll.call) (λ _. polls_steady ring_owner p h c.in-Poll.call (cell_of_call p.cells c.in-Poll.call) refl) c.poll.result c.poll.ensures
 
 pub invariant_of-self-in-End : goal.invariant_of-self-in-End
 invariant_of-self-in-End c =
     let s = c.self-in-End in
-    known_after s.inside.standing s.inside.actors c.end.new.self s.invariant (rw (← s.view_is) at c.requires.sound) c.end.result (events.End c.in-End.call c.in-End.now) c.end.ensures
+    let p = state_of s.inside.standing s.inside.actors in
+    let h = rw (← s.view_is) at c.requires.sound in
+    kept_by s.inside.standing s.inside.actors c.end.new.self s.invariant (end_part ring_owner p c.in-End.call c.in-End.now) (λ _. ends_steady ring_owner p h c.in-End.call c.in-End.now (cell_of_call p.cells c.in-End.call) refl) c.end.result c.end.ensures
 
 pub invariant_of-self-in-Hold : goal.invariant_of-self-in-Hold
 invariant_of-self-in-Hold c =
     let s = c.self-in-Hold in
-    known_after s.inside.standing s.inside.actors c.hold.new.self s.invariant (rw (← s.view_is) at c.requires.sound) c.hold.result (events.Hold c.in-Hold.key) c.hold.ensures
+    let p = state_of s.inside.standing s.inside.actors in
+    let h = rw (← s.view_is) at c.requires.sound in
+    kept_by s.inside.standing s.inside.actors c.hold.new.self s.invariant (hold_part ring_owner p c.in-Hold.key) (λ _. holds_steady ring_owner p h c.in-Hold.key (cell_at p.cells c.in-Hold.key) refl) c.hold.result c.hold.ensures
 
 pub invariant_of-self-in-Release : goal.invariant_of-self-in-Release
 invariant_of-self-in-Release c =
     let s = c.self-in-Release in
-    known_after s.inside.standing s.inside.actors c.release.new.self s.invariant (rw (← s.view_is) at c.requires.sound) c.release.result (events.Release c.in-Release.key c.in-Release.now) c.release.ensures
+    let p = state_of s.inside.standing s.inside.actors in
+    let h = rw (← s.view_is) at c.requires.sound in
+    kept_by s.inside.standing s.inside.actors c.release.new.self s.invariant (release_part ring_owner p c.in-Release.key c.in-Release.now) (λ _. releases_steady ring_owner p h c.in-Release.key c.in-Release.now (cell_at p.cells c.in-Release.key) refl) c.release.result c.release.ensures
 
 pub invariant_of-self-in-TakeClosing : goal.invariant_of-self-in-TakeClosing
 invariant_of-self-in-TakeClosing c =
     let s = c.self-in-TakeClosing in
-    known_after s.inside.standing s.inside.actors c.take_closing.new.self s.invariant (rw (← s.view_is) at c.requires.sound) c.take_closing.result (events.TakeClosing c.in-TakeClosing.now) c.take_closing.ensures
-
-pub invariant_of-self-in-Closed : goal.invariant_of-self-in-Closed
-invariant_of-self-in-Closed c =
-    let s = c.self-in-Closed in
-    known_after s.inside.standing s.inside.actors c.closed.new.self s.invariant (rw (← s.view_is) at c.requires.sound) c.closed.result (events.Closed c.in-Closed.key) c.closed.ensures
+    let p = state_of s.inside.standing s.inside.actors in
+    let h = rw (← s.view_is) at c.requires.sound in
+    kept_in_memory s.inside.standing s.inside.actors c.take_closing.new.self s.invariant (take_closing ring_owner p c.in-TakeClosing.now) (λ _. takes_steady ring_owner p h c.in-TakeClosing.now (first_to_close ring_owner p c.in-TakeClosing.now p.cells) refl) c.take_closing.result c.take_closing.ensures
