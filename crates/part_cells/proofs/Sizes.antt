@@ -27,18 +27,9 @@ length-insert_cell (c ∷ cs) x =
 pub length-taken : (cs : List ActorCell) (key : ActorKey) (c : ActorCell) → cell_at cs key ≡ Some c → AreInOrder cs → length (drop_cell cs key) + 1 ≡ length cs
 length-taken cs key c e o = let n = length-insert_cell (drop_cell cs key) c in let same = ap (λ (l : List ActorCell). length l) (insert-taken cs key c e o) in omega arith
 
-pub length-put_cell : (cs : List ActorCell) (x : ActorCell) → length (put_cell cs x) ≤ length cs + 1
-length-put_cell cs x = let n = length-insert_cell (drop_cell cs x.key) x in let d = length-drop_cell cs x.key in omega arith
-
 -- as many as before, where there was a cell of its key
 pub length-put-found : (cs : List ActorCell) (x c : ActorCell) → cell_at cs x.key ≡ Some c → AreInOrder cs → length (put_cell cs x) ≡ length cs
 length-put-found cs x c e o = let n = length-insert_cell (drop_cell cs x.key) x in let d = length-taken cs x.key c e o in omega arith
-
-pub length-keep_cell : (cs : List ActorCell) (x : ActorCell) → length (keep_cell cs x) ≤ length cs + 1
-length-keep_cell cs x =
-    let p = length-put_cell cs x in
-    let d = length-drop_cell cs x.key in
-    cond_both (is_kept x) _ _ (λ r. length r ≤ length cs + 1) (λ _. p) (λ _. omega arith)
 
 pub length-keep-found : (cs : List ActorCell) (x c : ActorCell) → cell_at cs x.key ≡ Some c → AreInOrder cs → length (keep_cell cs x) ≤ length cs
 length-keep-found cs x c e o =

@@ -135,8 +135,7 @@ impl Shard {
         }
     }
 
-    /// The deactivation of an actor is over. In an updated part there is one active actor of another owner less, where
-    /// it was one.
+    /// The deactivation of an actor is over. An updated part counts one less where it belongs to another owner.
     fn closed(&mut self, key: &ActorKey) -> PartReply
         requires { IsPartSound ring_owner self.old.state }
         ensures { Gives (closed_part ring_owner self.old.state key.now) result self.new }

@@ -1,7 +1,7 @@
-use Rattle.std.proofs.Common.{sym, ◌∙◌, arith, vec_capacity}
+use Rattle.std.proofs.Common.{arith, vec_capacity}
 use Rattle.part_cells.specs.Index.{key_of}
 use Rattle.part_core.specs.Actors.{no_actors, state_of}
-use Rattle.part_core.specs.Part.{tick_cell, each_cell, ring_owner}
+use Rattle.part_core.specs.Part.{tick_cell, ring_owner}
 use Rattle.part_core.proofs.EachKept.{kept_each, ticking_keeps, reindexed}
 use Rattle.part_core.proofs.actors.Actors.tick.Goals as goal
 

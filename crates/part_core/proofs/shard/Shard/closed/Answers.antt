@@ -1,4 +1,4 @@
-use Rattle.std.proofs.Common.{◌≡◌, false, ◌&&◌, sym, ap, ◌∙◌}
+use Rattle.std.proofs.Common.{◌&&◌, sym, ◌∙◌}
 use Rattle.part_core.specs.Actors.{state_of}
 use Rattle.part_core.specs.Part.{is_foreign, ring_owner}
 use Rattle.part_core.proofs.Drained.{counts_one, kept_less, kept_closed}
