@@ -10,6 +10,7 @@ use Rattle.actors_top.specs.Lines.{lines_of}
 use Rattle.actors_top.specs.Replay.{ReplayRun, replay_of, limit_run, run_lines, new_script, most_bytes, most_lines}
 use Rattle.actors_top.specs.ReplayTold.{IsFront, Prints, Writes, WritesFrontOf, WritesAs, PieceEnds, RunEnds, EndsAs, ReadsAll, AreAllOf, IsAtEnd, Replays}
 use Rattle.actors_top.proofs.NeverMix.{replay_never_mixes}
+use Rattle.actors_top.proofs.TurnsTold.{replay_told}
 use Rattle.actors_top.proofs.RunLemmas.{front_of, then_front}
 
 -- a front of a front is a front
@@ -124,6 +125,7 @@ replays_run left rest bytes before after ended reads ends =
       at_end = at_end left rest bytes before after ended reads ends;
       ends = subst (λ (r : ReplayRun). EndsAs r ended before after) (sym (read_whole left rest bytes reads)) (ends_as (replay_of bytes) before after ended ends);
       never_mix = replay_never_mixes (whole_of left bytes);
+      tells = replay_told (whole_of left bytes);
     }
 
 source_at_end : (left rest : Option (List ℕ)) → IsAtEnd left rest status.SourceFault
@@ -133,7 +135,7 @@ source_at_end (Some left) rest = tt
 -- the source failed
 pub replays_fault : (left rest before : Option (List ℕ)) → Replays left rest status.SourceFault before before
 replays_fault left rest before =
-    record { bytes = whole_of left []; all = whole_all left []; at_end = source_at_end left rest; ends = refl; never_mix = replay_never_mixes (whole_of left []) }
+    record { bytes = whole_of left []; all = whole_all left []; at_end = source_at_end left rest; ends = refl; never_mix = replay_never_mixes (whole_of left []); tells = replay_told (whole_of left []) }
 
 memory_at_end : (left rest : Option (List ℕ)) → IsAtEnd left rest status.OutOfMemory
 memory_at_end None rest = tt
@@ -152,6 +154,7 @@ replays_no_memory left rest before =
       at_end = memory_at_end left rest;
       ends = nothing_written before (replay_of (whole_of left [])).text;
       never_mix = replay_never_mixes (whole_of left []);
+      tells = replay_told (whole_of left []);
     }
 
 -- no run of bytes ends by a fault of the source

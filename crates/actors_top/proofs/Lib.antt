@@ -12,6 +12,7 @@ pub mod RunLemmas
 pub mod EndLemmas
 pub mod ActorMarks
 pub mod NeverMix
+pub mod TurnsTold
 pub mod Rows
 pub mod Moments
 pub mod ScheduleRows

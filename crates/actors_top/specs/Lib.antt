@@ -3,6 +3,7 @@ pub mod Reading
 pub mod World
 pub mod Outcomes
 pub mod Replay
+pub mod TurnsTold
 pub mod Told
 pub mod Roster
 pub mod TypesTold

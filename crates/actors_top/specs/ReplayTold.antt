@@ -1,6 +1,7 @@
 -- What the program's replay tells against the defined one: a line, all lines, and the whole command.
 use Rattle.std.specs.Prelude.{◌≡◌, ◌≤◌, ◌++◌, ℕ, List, [], length, take, Option, None, Some, Result, Ok, Err}
 use Rattle.actors_top.specs.Replay.{ScriptState, LineStep, Goes, Stops, ReplayRun, replay_of, TurnsNeverMix, most_bytes}
+use Rattle.actors_top.specs.TurnsTold.{TellsTurns, replay_log}
 use Rattle.actors_top.specs.declared.script.LineEnd.{LineEnd}
 use Rattle.actors_top.specs.declared.script.LineEnd.TheVariants as ending
 use Rattle.actors_top.specs.declared.status.Status.{Status}
@@ -79,14 +80,15 @@ IsAtEnd (Some left) rest status.SinkFault = Unit {0}
 IsAtEnd (Some left) rest status.OutOfMemory = Unit {0}
 IsAtEnd (Some left) rest status.Usage = Unit {0}
 
--- A replay: there are bytes, all that the source has, whose replay is what was written, and whose turns
--- never mix.
+-- A replay: there are bytes, all that the source has, whose replay is what was written. Its turns never mix, and the
+-- printed lines tell them.
 pub record Replays (left rest : Option (List ℕ)) (ended : Status) (before after : Option (List ℕ)) : Type 0 where
   pub bytes : List ℕ
   pub all : AreAllOf left bytes
   pub at_end : IsAtEnd left rest ended
   pub ends : EndsAs (replay_of bytes) ended before after
   pub never_mix : TurnsNeverMix (replay_of bytes)
+  pub tells : TellsTurns (replay_log bytes) (replay_of bytes)
 
 -- A front of the source was read: all of it, or one byte more than the limit; with an error nothing is said.
 abbrev pub ReadsAll : {X E : Type 0} → Option (List ℕ) → Option (List ℕ) → List ℕ → Result X E → Type 0

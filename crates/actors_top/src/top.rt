@@ -37,7 +37,8 @@ pub fn run<I: Source, W: Sink>(alloc: Global, words: &[String], out: &mut Outsid
         → (result ≡ 2) ⊎ ((result ≡ 8) × (is_command (codes "schedule") (map string_bytes words.now) ≡ true)) }
     ensures untouched { reading (map string_bytes words.now) ≡ None → out.new ≡ out.old }
 
-    // The status is that of a replay of the source's bytes, and what was written is what that replay prints.
+    // The status is that of a replay of the source's bytes, and what was written is what that replay prints. Its turns
+    // never mix, and its lines tell them.
     ensures replayed { map string_bytes words.now ≡ codes "replay" ∷ [] → (ended : Status) × (result ≡ code_of ended)
         × Replays (I.remaining out.old.input) (I.remaining out.new.input) ended (W.contents out.old.output) (W.contents out.new.output) }
 
