@@ -1,13 +1,13 @@
 -- One line more of a run.
 use Rattle.std.proofs.Common.{◌≡◌, ◌+◌, ◌<◌, ℕ, List, [], ◌∷◌, ◌++◌, length, take, drop, Option, None, Some, Ok, Err, refl, sym, ap, subst, ◌∙◌, arith}
-use Rattle.std.proofs.lemmas.List.{take_at, take_all, drop_all, take-append-drop, append_assoc, append-nil}
+use Rattle.std.proofs.lemmas.List.{take_at, take_all, drop_all, take-append-drop, append_assoc}
 use Rattle.std.proofs.Math.Seq.{take-append-add}
 use Rattle.actor_ports.specs.Port.{TakesFront, WritesAll}
 use Rattle.actor_ports.specs.declared.port.PortError.{PortError}
 use Rattle.actors_top.specs.World.{SoloWorld}
 use Rattle.actors_top.specs.Outcomes.{bad_line_text}
 use Rattle.actors_top.specs.Replay.{ScriptState, LineStep, Goes, Stops, ReplayRun, line_step, after_line, run_lines, most_bytes}
-use Rattle.actors_top.specs.ReplayTold.{GoesTo, GivesLine, IsFront, Prints, RefusesLine, EndsLines, HasRead, ReadsAll, Writes, WritesFrontOf, WritesAs, PieceEnds}
+use Rattle.actors_top.specs.ReplayTold.{GoesTo, GivesLine, IsFront, Prints, RefusesLine, EndsLines, HasRead, ReadsAll, Writes, WritesFrontOf, WritesAs}
 use Rattle.actors_top.specs.declared.script.LineEnd.{LineEnd}
 use Rattle.actors_top.specs.declared.script.LineEnd.TheVariants as ending
 use Rattle.actors_top.specs.declared.status.Status.{Status}
@@ -24,14 +24,14 @@ after_step number w (Stops column) rest new before after goes = absurd goes
 after_step number w (Goes script text marks) rest new before after goes =
     record { text = rw (goes.0, goes.1) (append_assoc before text (rest script).text); status = rw goes.0 }
 
-pub goes_on : (number : ℕ) (s new : ScriptState) (line : List ℕ) (lines : List (List ℕ)) (before after : List ℕ) → GoesTo (line_step s line) new before after
+goes_on : (number : ℕ) (s new : ScriptState) (line : List ℕ) (lines : List (List ℕ)) (before after : List ℕ) → GoesTo (line_step s line) new before after
     → GoesOn before after (run_lines number s (line ∷ lines)) (run_lines (number + 1) new lines)
 goes_on number s new line lines before after goes = after_step number s.world (line_step s line) (λ next. run_lines (number + 1) next lines) new before after goes
 
-pub stops_text : (number column : ℕ) (s : ScriptState) (line : List ℕ) (lines : List (List ℕ)) → line_step s line ≡ Stops column → (run_lines number s (line ∷ lines)).text ≡ bad_line_text number column
+stops_text : (number column : ℕ) (s : ScriptState) (line : List ℕ) (lines : List (List ℕ)) → line_step s line ≡ Stops column → (run_lines number s (line ∷ lines)).text ≡ bad_line_text number column
 stops_text number column s line lines h = ap (λ step. (after_line number s.world step (λ next. run_lines (number + 1) next lines)).text) h
 
-pub stops_status : (number column : ℕ) (s : ScriptState) (line : List ℕ) (lines : List (List ℕ)) → line_step s line ≡ Stops column → (run_lines number s (line ∷ lines)).status ≡ 3
+stops_status : (number column : ℕ) (s : ScriptState) (line : List ℕ) (lines : List (List ℕ)) → line_step s line ≡ Stops column → (run_lines number s (line ∷ lines)).status ≡ 3
 stops_status number column s line lines h = ap (λ step. (after_line number s.world step (λ next. run_lines (number + 1) next lines)).status) h
 
 -- what was printed so far is a front of all
@@ -39,7 +39,7 @@ pub front_of : (front rest all : List ℕ) → front ++ rest ≡ all → IsFront
 front_of front rest all h = (length front, rw (← h) (sym (take_at front rest (length front) refl)))
 
 -- the line of a refused line ends a run
-pub refused_prints : (number column : ℕ) (before after : List ℕ) (run rest : ReplayRun) (ended : Status) → before ++ rest.text ≡ run.text → rest.status ≡ run.status
+refused_prints : (number column : ℕ) (before after : List ℕ) (run rest : ReplayRun) (ended : Status) → before ++ rest.text ≡ run.text → rest.status ≡ run.status
     → rest.text ≡ bad_line_text number column → rest.status ≡ 3 → RefusesLine number column before after ended → Prints run ended after
 refused_prints number column before after run rest status.Refused text same bad three h = (sym three ∙ same, h ∙ ap (λ t. before ++ t) (sym bad) ∙ text)
 refused_prints number column before after run rest status.OutOfMemory text same bad three h = rw h (front_of before rest.text run.text text)
@@ -136,11 +136,6 @@ written_as before after text status.SourceFault written = (refl, all_written bef
 
 -- ---- writing it in pieces
 
--- nothing was written yet
-pub none_written : (before : Option (List ℕ)) → Writes before before []
-none_written None = tt
-none_written (Some held) = ap (λ (r : List ℕ). Some r) (sym (append-nil held))
-
 -- a text was written, and then another
 pub then_written : (before mid after : Option (List ℕ)) (written text : List ℕ) → Writes before mid written → Writes mid after text → Writes before after (written ++ text)
 then_written None mid after written text first second = tt
@@ -166,13 +161,3 @@ then_as before mid after written text ended status.Refused first as_ = (as_.0, t
 then_as before mid after written text ended status.Limit first as_ = (as_.0, then_written before mid after written text first as_.1)
 then_as before mid after written text ended status.Usage first as_ = (as_.0, then_written before mid after written text first as_.1)
 then_as before mid after written text ended status.SourceFault first as_ = (as_.0, then_written before mid after written text first as_.1)
-
--- all that waited was written, and nothing waits
-pub piece_whole : (before after : Option (List ℕ)) (text rest : List ℕ) (result : Status) → WritesAs before after text status.Done result → rest ≡ [] → PieceEnds before after text rest result
-piece_whole before after text rest status.Done as_ none = (text, as_.1, ap (λ (r : List ℕ). text ++ r) none ∙ append-nil text)
-piece_whole before after text rest status.SinkFault as_ none = as_
-piece_whole before after text rest status.OutOfMemory as_ none = as_
-piece_whole before after text rest status.Refused as_ none = absurd (let e = as_.0 in cc)
-piece_whole before after text rest status.Limit as_ none = absurd (let e = as_.0 in cc)
-piece_whole before after text rest status.Usage as_ none = absurd (let e = as_.0 in cc)
-piece_whole before after text rest status.SourceFault as_ none = absurd (let e = as_.0 in cc)
