@@ -21,13 +21,13 @@ use Rattle.part_core.proofs.PartTables.{new_part_sound, part_stepped}
 
 -- ---- versions
 
-tied_open : (s : Stage) (p : PartState) → s ≡ Open → AreTiedAt s p → (p.table.version ≡ p.seen) × (p.opened ≡ p.seen)
+pub tied_open : (s : Stage) (p : PartState) → s ≡ Open → AreTiedAt s p → (p.table.version ≡ p.seen) × (p.opened ≡ p.seen)
 tied_open Open p e t = t
 tied_open Locked p e t = absurd (cc)
 tied_open Updated p e t = absurd (cc)
 tied_open Stopped p e t = absurd (cc)
 
-tied_updated : (s : Stage) (p : PartState) → s ≡ Updated → AreTiedAt s p → p.table.version ≡ p.seen
+pub tied_updated : (s : Stage) (p : PartState) → s ≡ Updated → AreTiedAt s p → p.table.version ≡ p.seen
 tied_updated Updated p e t = t
 tied_updated Locked p e t = absurd (cc)
 tied_updated Open p e t = absurd (cc)
@@ -43,7 +43,7 @@ version_of : (t u : PlacementTable) → t ≡ u → t.version ≡ u.version
 version_of t u e = ap (λ (z : PlacementTable). z.version) e
 
 module _ (owner : PlacementTable → ActorKey → Option HostInfo) where
-  moves_tied : (p : PartState) (e : PartEvent) (q : PartState) → Moves owner p e q → AreVersionsTied p → AreVersionsTied q
+  pub moves_tied : (p : PartState) (e : PartEvent) (q : PartState) → Moves owner p e q → AreVersionsTied p → AreVersionsTied q
   moves_tied p e q (keeps stage seen opened table) t =
       let v = version_of q.table p.table table in
       record {

@@ -1,9 +1,9 @@
-mod Durable
+pub mod Durable
 mod Giving
-mod Hosts
-mod Memory
-mod Openings
-mod Reached
+pub mod Hosts
+pub mod Memory
+pub mod Openings
+pub mod Reached
 mod Replays
 mod Rows
-mod Versions
+pub mod Versions

@@ -26,7 +26,7 @@ new_boot node m rest n same higher =
     (λ e. let h = higher ((bytes_eq-Decides node m.node).0 e) in omega arith)
     (λ _. omega arith)
 
-boots_rise : (ks : List Known) (m : Member) (node : List ℕ) → greatest_boot ks m.node < m.boot → greatest_boot ks node ≤ greatest_boot (put_boot ks m) node
+pub boots_rise : (ks : List Known) (m : Member) (node : List ℕ) → greatest_boot ks m.node < m.boot → greatest_boot ks node ≤ greatest_boot (put_boot ks m) node
 boots_rise [] m node h = omega arith
 boots_rise (k ∷ ks) m node h =
     cond_both (bytes_eq m.node k.node) (record { node = m.node; greatest = m.boot } ∷ ks) (cond (is_before m.node k.node) (record { node = m.node; greatest = m.boot } ∷ k ∷ ks) (k ∷ put_boot ks m)) (λ (bs : List Known). greatest_boot (k ∷ ks) node ≤ greatest_boot bs node)
