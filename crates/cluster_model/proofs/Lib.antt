@@ -1,0 +1,19 @@
+mod Rows
+pub mod Basics
+pub mod PartKeeps
+pub mod Joins
+pub mod Rounds
+pub mod Places
+pub mod Messages
+pub mod Boots
+pub mod Named
+pub mod Lines
+pub mod Worlds
+pub mod Histories
+pub mod Openings
+pub mod Runs
+pub mod Isolation
+pub mod Clusters
+pub mod Memories
+pub mod Bootings
+pub mod Growths

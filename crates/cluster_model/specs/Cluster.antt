@@ -1,0 +1,160 @@
+-- The cluster invariant, sentence by sentence, of a world. Own.
+use Rattle.std.specs.Prelude.{◌≡◌, ◌⊎◌, ℕ, ◌<◌, ◌≤◌, true, false, List, ◌∷◌, ◌++◌, length, Option, IsSome}
+use Rattle.actor_names.specs.declared.member.Member.{Member}
+use Rattle.actor_names.specs.declared.actor_key.ActorKey.{ActorKey}
+use Rattle.place_table.specs.declared.host.HostInfo.{HostInfo}
+use Rattle.place_table.specs.declared.ack_stage.AckStage.{AckStage}
+use Rattle.place_table.specs.declared.ack_stage.AckStage.TheVariants as stages
+use Rattle.place_table.specs.Hosts.{PlacementTable}
+use Rattle.turn_core.specs.declared.cell.Turn.{Turn}
+use Rattle.turn_core.specs.CellMarks.{most_turns}
+use Rattle.turn_core.specs.CellSound.{In}
+use Rattle.part_cells.specs.declared.actor_cell.ActorCell.{ActorCell}
+use Rattle.part_core.specs.Activity.{no_activity}
+use Rattle.part_core.specs.Marks.{TurnBegan, TurnEnded, BecameActive, BecameInactive}
+use Rattle.part_core.specs.declared.stage.Stage.TheVariants.{Stopped}
+use Rattle.part_core.specs.Part.{PartState}
+use Rattle.part_core.specs.Sound.{NoIdleWaiter}
+use Rattle.round_core.specs.declared.phase.RoundPhase.TheVariants.{Running}
+use Rattle.round_core.specs.Placement.{new_placement, last_version}
+use Rattle.round_core.specs.Runs.{HasMember}
+use Rattle.member_roster.specs.Members.{Joined, greatest_boot, hosts_of}
+use Rattle.member_core.specs.Progress.{MemberReached}
+use Rattle.cluster_model.specs.Messages.{Register, Ack, Leave, LockAt, UpdateTo, UnlockAt, Message, Asks, Tells, table_of, asker_of}
+use Rattle.cluster_model.specs.World.{ClusterState, TraceMark, depth_in}
+use Rattle.cluster_model.specs.Invariant.{IsBooted, WasTold, IsUnlocked, AllStopped, Gives, IsOwnedAtOpening}
+use Rattle.cluster_model.specs.History.{history, AreGiven, DoVersionsRise}
+
+abbrev pub IsMember : ClusterState → Member → Type 0
+IsMember w m = HasMember (hosts_of w.placement.members) m
+
+-- the version of the running round, or the last one used
+abbrev pub last_of : ClusterState → ℕ
+last_of w = last_version w.placement
+
+-- Every version is below the next one, and each version that a part has now came by a message. A round's version is
+-- the next one less one; those left are targets, and who was told its version and is a member is one.
+pub record VersionsBelowNext (w : ClusterState) : Type 0 where
+  pub messages : (m : Member) (v : ℕ) → WasTold w.messages m v → v < w.placement.next_version
+  pub seen : (p : PartState) → In p w.parts → p.seen < w.placement.next_version
+  pub opened : (p : PartState) → In p w.parts → p.opened < w.placement.next_version
+  pub installed : (p : PartState) → In p w.parts → p.table.version < w.placement.next_version
+  pub round : (stage : AckStage) → w.placement.phase ≡ Running stage → 0 < last_of w
+  pub left : (stage : AckStage) (j : Joined) → w.placement.phase ≡ Running stage → In j w.placement.members → j.left ≡ true → j.target ≡ true
+  pub told : (stage : AckStage) (j : Joined) → w.placement.phase ≡ Running stage → In j w.placement.members → WasTold w.messages j.host.member (last_of w) → j.target ≡ true
+  pub lock_came : (p : PartState) → In p w.parts → 0 < p.seen → In (Tells p.member (LockAt p.seen)) w.messages
+  pub update_came : (p : PartState) → In p w.parts → 0 < p.table.version → In (Tells p.member (UpdateTo p.table)) w.messages
+  pub unlock_came : (p : PartState) → In p w.parts → 0 < p.opened → In (Tells p.member (UnlockAt p.opened)) w.messages
+
+-- The Update messages of a version carry one table, which is that of each part that installed the version, and of the
+-- round from its second stage on.
+pub record OneTablePerVersion (w : ClusterState) : Type 0 where
+  pub messages : (m n : Member) (t u : PlacementTable) → In (Tells m (UpdateTo t)) w.messages → In (Tells n (UpdateTo u)) w.messages → t.version ≡ u.version → t ≡ u
+  pub installed : (p : PartState) (m : Member) (t : PlacementTable) → In p w.parts → In (Tells m (UpdateTo t)) w.messages → t.version ≡ p.table.version → t ≡ p.table
+  pub locking_update : w.placement.phase ≡ Running stages.Lock → (m : Member) (t : PlacementTable) → In (Tells m (UpdateTo t)) w.messages → t.version ≡ last_of w → ⊥
+  pub locking_unlock : w.placement.phase ≡ Running stages.Lock → (m : Member) → In (Tells m (UnlockAt (last_of w))) w.messages → ⊥
+  pub updating : w.placement.phase ≡ Running stages.Update → (m : Member) → In (Tells m (UnlockAt (last_of w))) w.messages → ⊥
+  pub updating_table : w.placement.phase ≡ Running stages.Update → (m : Member) (t : PlacementTable) → In (Tells m (UpdateTo t)) w.messages → t.version ≡ last_of w → t ≡ table_of (last_of w) w.placement.table
+  pub unlocking_table : w.placement.phase ≡ Running stages.Unlock → (m : Member) (t : PlacementTable) → In (Tells m (UpdateTo t)) w.messages → t.version ≡ last_of w → t ≡ table_of (last_of w) w.placement.table
+
+-- Who was told a version is a member, or its parts have all stopped; who asks to leave has stopped. Boots are known and
+-- drawn, a node has one member, and before the first round the placement is the opening one.
+pub record MembersOrStopped (w : ClusterState) : Type 0 where
+  pub told : (m : Member) (v : ℕ) → WasTold w.messages m v → IsMember w m ⊎ AllStopped w.parts m
+  pub leaves : (m : Member) → In (Asks (Leave m)) w.messages → AllStopped w.parts m
+  pub member_boot : (m : Member) → IsMember w m → m.boot ≤ greatest_boot w.placement.boots m.node
+  pub told_boot : (m : Member) (v : ℕ) → WasTold w.messages m v → m.boot ≤ greatest_boot w.placement.boots m.node
+  pub nodes : (m n : Member) → IsMember w m → IsMember w n → m.node ≡ n.node → m ≡ n
+  pub opening : w.placement.next_version ≡ 1 → w.placement ≡ new_placement
+  pub member_booted : (m : Member) → IsMember w m → m.boot ≤ w.boots
+  pub told_booted : (m : Member) (v : ℕ) → WasTold w.messages m v → m.boot ≤ w.boots
+  pub ack_booted : (m : Member) (stage : AckStage) (v : ℕ) → In (Asks (Ack m stage v)) w.messages → m.boot ≤ w.boots
+  pub leave_booted : (m : Member) → In (Asks (Leave m)) w.messages → m.boot ≤ w.boots
+  pub host_booted : (h : HostInfo) → In (Asks (Register h)) w.messages → h.member.boot ≤ w.boots
+  pub part_booted : (p : PartState) → In p w.parts → p.member.boot ≤ w.boots
+
+-- while a round runs, each member that was ever told a version is a target of it
+pub record InformedAreTargets (w : ClusterState) : Type 0 where
+  pub targets : (stage : AckStage) (j : Joined) (v : ℕ) → w.placement.phase ≡ Running stage → In j w.placement.members → WasTold w.messages j.host.member v → j.target ≡ true
+
+-- the version that a part has seen, the table that it has and the version at which it opened came by messages
+pub record HasCome (ms : List Message) (p : PartState) : Type 0 where
+  pub lock : 0 < p.seen → In (Tells p.member (LockAt p.seen)) ms
+  pub update : 0 < p.table.version → In (Tells p.member (UpdateTo p.table)) ms
+  pub unlock : 0 < p.opened → In (Tells p.member (UnlockAt p.opened)) ms
+
+-- the member that a message names
+abbrev pub named_in : Message → Member
+named_in (Asks request) = asker_of request
+named_in (Tells m answer) = m
+
+-- each member that a message names, and each member of the placement, was booted
+pub record NamedWereBooted (w : ClusterState) : Type 0 where
+  pub messages : (x : Message) → In x w.messages → IsBooted w.parts (named_in x)
+  pub members : (m : Member) → IsMember w m → IsBooted w.parts m
+
+-- ---- the history
+
+-- Between an Active of an actor on a member and the next Inactive of both no other member has an Active of it.
+abbrev pub SingleActivation : ClusterState → Type 0
+SingleActivation w =
+    (before middle after : List TraceMark) (m n : Member) (k : ActorKey) (u v : ℕ) →
+    w.marks ≡ before ++ record { member = m; what = BecameActive k u } ∷ (middle ++ record { member = n; what = BecameActive k v } ∷ after) →
+    (In (record { member = m; what = BecameInactive k }) middle → ⊥) → m ≡ n
+
+-- Two turns of one actor that overlap, the first not having ended before the second begins, are on one member, under one
+-- identifier, and the type has reentrancy on. At most the depth of turns of an actor are open on a member at any moment,
+-- with reentrancy off one; and turns of it are open on one member at most.
+pub record TurnsIsolated (w : ClusterState) : Type 0 where
+  pub one_chain : (before middle after : List TraceMark) (m n : Member) (k : ActorKey) (a b : ℕ) (x y : Option (List ℕ)) →
+      w.marks ≡ before ++ record { member = m; what = TurnBegan k a x } ∷ (middle ++ record { member = n; what = TurnBegan k b y } ∷ after) →
+      (In (record { member = m; what = TurnEnded k a }) middle → ⊥) → (m ≡ n) × (x ≡ y) × IsSome x × (0 < depth_in w.settings k.kind)
+  pub within : (before after : List TraceMark) (m : Member) (k : ActorKey) → w.marks ≡ before ++ after → length (history before m k no_activity).turns ≤ most_turns (depth_in w.settings k.kind)
+  pub one_member : (before after : List TraceMark) (m n : Member) (k : ActorKey) (t u : Turn) → w.marks ≡ before ++ after →
+      In t (history before m k no_activity).turns → In u (history before n k no_activity).turns → m ≡ n
+
+module _ (owner : PlacementTable → ActorKey → Option HostInfo) (part_of : ActorKey → ℕ → ℕ) where
+  -- An acknowledged stage is reached by its member; from the second stage on the targets have reached the one before, and
+  -- a target that isn't left has reached the stage itself.
+  pub record AcksAreReached (w : ClusterState) : Type 0 where
+    pub acks : (m : Member) (stage : AckStage) (v : ℕ) → In (Asks (Ack m stage v)) w.messages → MemberReached owner w.parts m stage v
+    pub updating : w.placement.phase ≡ Running stages.Update → (j : Joined) → In j w.placement.members → j.target ≡ true → MemberReached owner w.parts j.host.member stages.Lock (last_of w)
+    pub unlocking : w.placement.phase ≡ Running stages.Unlock → (j : Joined) → In j w.placement.members → j.target ≡ true → MemberReached owner w.parts j.host.member stages.Update (last_of w)
+    pub not_left : (stage : AckStage) (j : Joined) → w.placement.phase ≡ Running stage → In j w.placement.members → j.target ≡ true → j.left ≡ false → MemberReached owner w.parts j.host.member stage (last_of w)
+
+  -- An active cell is owned in the table at which its part opened last. Where at any place of the marks a member had an
+  -- actor active while its part had opened last at a version, an Update and an Unlock of it went to the member and that
+  -- table gives it the actor; a later Active elsewhere has a greater version.
+  pub record ActiveMeansOwned (w : ClusterState) : Type 0 where
+    pub owned : (p : PartState) (c : ActorCell) → In p w.parts → In c p.cells → c.active ≡ true → IsOwnedAtOpening owner w.messages p c
+    pub given : AreGiven owner part_of w.settings.parts w.messages w.marks
+    pub rise : DoVersionsRise owner part_of w.settings.parts w.marks
+
+  -- Once an Unlock of a version exists, each running part of a member that was told a version of at most it has seen it,
+  -- and so has each running part that has seen any; an active cell of a part that opened before is owned in its table.
+  pub record NobodyBehindUnlock (w : ClusterState) : Type 0 where
+    pub told : (v u : ℕ) (p : PartState) → IsUnlocked w.messages u → In p w.parts → WasTold w.messages p.member v → v ≤ u → (p.stage ≡ Stopped) ⊎ (u ≤ p.seen)
+    pub seen : (u : ℕ) (p : PartState) → IsUnlocked w.messages u → In p w.parts → 0 < p.seen → (p.stage ≡ Stopped) ⊎ (u ≤ p.seen)
+    pub owned : (u : ℕ) (p : PartState) (c : ActorCell) → IsUnlocked w.messages u → In p w.parts → In c p.cells → c.active ≡ true → p.opened < u →
+        (m : Member) (t : PlacementTable) → In (Tells m (UpdateTo t)) w.messages → t.version ≡ u → Gives owner t c.key p.member
+
+  -- A cell with an open turn is active; its turns carry one chain and are within the depth; an open part leaves no call
+  -- waiting that could run.
+  pub record TurnsUnderOneChain (w : ClusterState) : Type 0 where
+    pub active : (p : PartState) (c : ActorCell) (t : Turn) → In p w.parts → In c p.cells → In t c.inner.turns → c.active ≡ true
+    pub one_chain : (p : PartState) (c : ActorCell) (t u : Turn) → In p w.parts → In c p.cells → In t c.inner.turns → In u c.inner.turns → t.chain ≡ u.chain
+    pub within : (p : PartState) (c : ActorCell) → In p w.parts → In c p.cells → length c.inner.turns ≤ most_turns (depth_in w.settings c.key.kind)
+    pub no_idle_waiter : (p : PartState) → In p w.parts → NoIdleWaiter owner p
+
+  -- the cluster invariant, with the first part of the headline
+  pub record ClusterInvariant (w : ClusterState) : Type 0 where
+    pub versions : VersionsBelowNext w
+    pub tables : OneTablePerVersion w
+    pub members : MembersOrStopped w
+    pub acks : AcksAreReached w
+    pub informed : InformedAreTargets w
+    pub owned : ActiveMeansOwned w
+    pub unlocked : NobodyBehindUnlock w
+    pub turns : TurnsUnderOneChain w
+    pub single : SingleActivation w
+    pub isolated : TurnsIsolated w

@@ -1,0 +1,31 @@
+// What holds of a cluster over every list of events.
+ghost use Rattle.std.specs.Prelude.{◌<◌, List, Option, ℕ};
+ghost use Rattle.actor_names.specs.declared.actor_key.ActorKey.{ActorKey};
+ghost use Rattle.place_table.specs.declared.host.HostInfo.{HostInfo};
+ghost use Rattle.place_table.specs.Hosts.{PlacementTable};
+ghost use Rattle.turn_core.specs.CellSound.{In};
+ghost use Rattle.part_core.specs.Part.{PartState};
+ghost use Rattle.round_core.specs.Runs.{ForgetsNothing};
+ghost use Rattle.world_events.specs.declared.event.WorldEvent.{WorldEvent};
+ghost use Rattle.world_events.specs.declared.settings.WorldSettings.{WorldSettings};
+ghost use Rattle.cluster_model.specs.World.{opening_cluster, cluster_run, cluster_step};
+ghost use Rattle.cluster_model.specs.Invariant.{IsActiveOnce};
+ghost use Rattle.cluster_model.specs.Cluster.{ClusterInvariant, HasCome, NamedWereBooted};
+
+/// Whatever the owners of actors and their parts are: after every list of events, with any deliveries, losses,
+/// repeats, joins, leaves and restarts, the cluster invariant holds, and no actor is active on two members. What a part has seen,
+/// installed and opened at any moment came by messages that are among those of every later moment. Where members
+/// have a part at all, each one that a message or the placement names was booted. No event lowers a greatest boot,
+/// and who is a member after it and wasn't before has a boot above the greatest one of its node. An event that breaks the fail-stop premise is refused and changes nothing.
+pub fn cluster_law()
+    ensures invariant { (owner : PlacementTable → ActorKey → Option HostInfo) (part_of : ActorKey → ℕ → ℕ) (settings : WorldSettings) (events : List WorldEvent) →
+        ClusterInvariant owner part_of (cluster_run owner part_of (opening_cluster settings) events) }
+    ensures once { (owner : PlacementTable → ActorKey → Option HostInfo) (part_of : ActorKey → ℕ → ℕ) (settings : WorldSettings) (events : List WorldEvent) →
+        IsActiveOnce (cluster_run owner part_of (opening_cluster settings) events).parts }
+    ensures came { (owner : PlacementTable → ActorKey → Option HostInfo) (part_of : ActorKey → ℕ → ℕ) (settings : WorldSettings) (earlier later : List WorldEvent) (p : PartState) →
+        In p (cluster_run owner part_of (opening_cluster settings) earlier).parts → HasCome (cluster_run owner part_of (cluster_run owner part_of (opening_cluster settings) earlier) later).messages p }
+    ensures booted { (owner : PlacementTable → ActorKey → Option HostInfo) (part_of : ActorKey → ℕ → ℕ) (settings : WorldSettings) (events : List WorldEvent) → 0 < settings.parts →
+        NamedWereBooted (cluster_run owner part_of (opening_cluster settings) events) }
+    ensures memory { (owner : PlacementTable → ActorKey → Option HostInfo) (part_of : ActorKey → ℕ → ℕ) (settings : WorldSettings) (events : List WorldEvent) (event : WorldEvent) →
+        ForgetsNothing (cluster_run owner part_of (opening_cluster settings) events).placement (cluster_step owner part_of (cluster_run owner part_of (opening_cluster settings) events) event).world.placement }
+{}

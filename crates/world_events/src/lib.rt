@@ -1,0 +1,16 @@
+// What happens in the world of a script, what comes of it, and why an event is refused.
+//
+// Types alone, which the worlds, the reader of scripts and the printer of outcomes share. A solo script's events lend
+// their keys and chains from the script; those of a cluster own theirs. Stands on `round_core`, `part_core` and those
+// below them for what placements and parts say.
+#![tactic(auto)]
+
+mod error;
+mod event;
+mod outcome;
+mod settings;
+
+pub use error::WorldError;
+pub use event::{SoloEvent, WorldEvent};
+pub use outcome::{Outcome, TurnOutcome};
+pub use settings::WorldSettings;
