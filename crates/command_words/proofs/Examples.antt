@@ -1,7 +1,7 @@
 -- Worked examples of the reading.
 use Rattle.std.proofs.Common.{◌≡◌, [], ◌∷◌, None, Some, codes, refl}
 use Rattle.command_words.specs.Options.{Text, read_from}
-use Rattle.command_words.specs.Reading.{Said, Replay, Schedule, reading}
+use Rattle.command_words.specs.Reading.{Said, Replay, Schedule, Drill, reading}
 
 abbrev asks : Text → Text → Said
 asks now period = Schedule (record { now = now; due = []; period = period; ttl = []; count = 10 })
@@ -15,7 +15,7 @@ replay_alone = refl
 replay_takes_no_option : reading (codes "replay" ∷ codes "--now=1" ∷ []) ≡ None
 replay_takes_no_option = refl
 
-unknown_command : reading (codes "drill" ∷ []) ≡ None
+unknown_command : reading (codes "placement" ∷ []) ≡ None
 unknown_command = refl
 
 value_behind_name : reading (codes "schedule" ∷ codes "--now" ∷ codes "x" ∷ codes "--period=1s" ∷ []) ≡ Some (asks (codes "x") (codes "1s"))
@@ -77,3 +77,23 @@ count_to_1000 = refl
 count_is_not_empty : reading (codes "schedule" ∷ codes "--now=" ∷ codes "--count=" ∷ []) ≡ None
 unfolding read_from
 count_is_not_empty = refl
+
+both_options_of_drill : reading (codes "drill" ∷ codes "--steps" ∷ codes "0020" ∷ codes "--seed=0" ∷ []) ≡ Some (Drill (record { seed = 0; steps = 20 }))
+unfolding read_from
+both_options_of_drill = refl
+
+drill_needs_its_seed : reading (codes "drill" ∷ codes "--steps=1" ∷ []) ≡ None
+unfolding read_from
+drill_needs_its_seed = refl
+
+steps_to_200000 : reading (codes "drill" ∷ codes "--seed=1" ∷ codes "--steps=200001" ∷ []) ≡ None
+unfolding read_from
+steps_to_200000 = refl
+
+seed_below_2_to_the_64 : reading (codes "drill" ∷ codes "--seed=18446744073709551616" ∷ codes "--steps=1" ∷ []) ≡ None
+unfolding read_from
+seed_below_2_to_the_64 = refl
+
+seed_is_not_empty : reading (codes "drill" ∷ codes "--seed=" ∷ codes "--steps=1" ∷ []) ≡ None
+unfolding read_from
+seed_is_not_empty = refl

@@ -1,4 +1,4 @@
--- Counts in the words: decimal digits without a sign, where leading zeros are allowed. Own.
+-- Numbers in the words: decimal digits without a sign, where leading zeros are allowed. Own.
 use Rattle.std.specs.Prelude.{◌≢◌, ℕ, nat_le, if◌then◌else◌, List, [], ◌∷◌, Option, None, Some, option_and_then}
 use Rattle.actor_names.specs.Decimals.{digits_number}
 
@@ -8,6 +8,11 @@ from_one n = if nat_le 1 n then Some n else None
 -- the count from 1 to 1,000 that the digits stand for
 abbrev pub count_of : List ℕ → Option ℕ
 count_of text = option_and_then from_one (digits_number 1000 text)
+
+-- the number up to the greatest one that the digits stand for, of which there is one at least
+abbrev pub number_up_to : ℕ → List ℕ → Option ℕ
+number_up_to most [] = None
+number_up_to most (b ∷ bs) = digits_number most (b ∷ bs)
 
 -- no zero stands first
 abbrev pub IsUnpadded : List ℕ → Type 0

@@ -1,8 +1,8 @@
 -- What the words after the program's name say. Own: docs/commands.md has the table of the commands.
-use Rattle.std.specs.Prelude.{ℕ, Bool, true, false, if◌then◌else◌, List, [], ◌∷◌, codes, Option, None, Some, option_map, option_and_then, unwrap_or, find}
+use Rattle.std.specs.Prelude.{ℕ, Bool, true, false, ◌||◌, if◌then◌else◌, List, [], ◌∷◌, codes, Option, None, Some, option_map, option_and_then, unwrap_or, find}
 use Rattle.std.specs.Str.{bytes_eq}
 use Rattle.command_words.specs.Options.{Text, Options, Given, options_given}
-use Rattle.command_words.specs.Counts.{count_of}
+use Rattle.command_words.specs.Counts.{count_of, number_up_to}
 
 -- the words of `schedule`: an absent text is the empty one, an absent count is 10
 pub record Asking : Type 0 where
@@ -12,10 +12,16 @@ pub record Asking : Type 0 where
   pub ttl : Text
   pub count : ℕ
 
+-- the words of `drill`
+pub record Drilling : Type 0 where
+  pub seed : ℕ
+  pub steps : ℕ
+
 -- a command with what its words say
 pub data Said : Type 0 where
   Replay : Said
   Schedule : Asking → Said
+  Drill : Drilling → Said
 
 -- only the moment is needed
 abbrev pub schedule_options : Options
@@ -46,6 +52,25 @@ asking given count = record {
 abbrev pub schedule_said : Given → Option Said
 schedule_said given = option_map (λ count. Schedule (asking given count)) (count_or_ten (value_of (codes "count") given))
 
+abbrev pub greatest_seed : ℕ
+greatest_seed = 18446744073709551615
+
+abbrev pub most_steps : ℕ
+most_steps = 200000
+
+-- both options of `drill` are needed
+abbrev pub drill_options : Options
+drill_options = (codes "seed", true) ∷ (codes "steps", true) ∷ []
+
+abbrev pub drilling : ℕ → ℕ → Said
+drilling seed steps = Drill (record { seed = seed; steps = steps })
+
+-- the words behind `drill`
+abbrev pub drill_said : Given → Option Said
+drill_said given =
+    option_and_then (λ seed. option_map (drilling seed) (number_up_to most_steps (text_of (codes "steps") given)))
+    (number_up_to greatest_seed (text_of (codes "seed") given))
+
 -- `replay` takes no option
 abbrev pub replay_said : List Text → Option Said
 replay_said [] = Some Replay
@@ -54,12 +79,17 @@ replay_said (word ∷ rest) = None
 abbrev pub said_by : Text → List Text → Option Said
 said_by command rest =
     if bytes_eq command (codes "replay") then replay_said rest else (
-    if bytes_eq command (codes "schedule") then option_and_then schedule_said (options_given schedule_options rest) else None)
+    if bytes_eq command (codes "schedule") then option_and_then schedule_said (options_given schedule_options rest) else (
+    if bytes_eq command (codes "drill") then option_and_then drill_said (options_given drill_options rest) else None))
 
 -- the first word is this one
 abbrev pub is_command : Text → List Text → Bool
 is_command name [] = false
 is_command name (command ∷ rest) = bytes_eq command name
+
+-- the words are those of a command with options, whose reading takes memory
+abbrev pub has_options : List Text → Bool
+has_options words = is_command (codes "schedule") words || is_command (codes "drill") words
 
 -- The first word is the command; words that say nothing have no reading.
 abbrev pub reading : List Text → Option Said

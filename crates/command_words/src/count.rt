@@ -1,7 +1,7 @@
-// Counts in the words.
-ghost use Rattle.std.specs.Prelude.{◌≡◌};
+// Numbers in the words.
+ghost use Rattle.std.specs.Prelude.{◌≡◌, ℕ};
 ghost use Rattle.actor_names.specs.Decimals.{digits_number};
-ghost use Rattle.command_words.specs.Counts.{count_of, IsUnpadded};
+ghost use Rattle.command_words.specs.Counts.{count_of, number_up_to, IsUnpadded};
 
 use actor_names::read_decimal;
 
@@ -10,7 +10,7 @@ const MOST_COUNT: u64 = 1000;
 
 /// The digits without the zeros before them.
 fn without_zeros(text: &[u8]) -> &[u8]
-    ensures same { digits_number 1000 result.now ≡ digits_number 1000 text.now }
+    ensures same { (most : ℕ) → digits_number most result.now ≡ digits_number most text.now }
     ensures plain { IsUnpadded result.now }
 {
     let mut rest = text;
@@ -29,5 +29,20 @@ pub(crate) fn read_count(text: &[u8]) -> Option<u32>
         None
     } else {
         Some(number as u32)
+    }
+}
+
+/// The number up to `most` that the digits stand for; leading zeros are allowed.
+pub(crate) fn read_number(text: &[u8], most: u64) -> Option<u64>
+    ensures { result ≡ number_up_to most text.now }
+{
+    if text.is_empty() {
+        return None;
+    }
+    let digits = without_zeros(text);
+    if digits.is_empty() {
+        Some(0)
+    } else {
+        read_decimal(digits, most)
     }
 }

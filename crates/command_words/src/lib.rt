@@ -13,7 +13,7 @@ mod options;
 mod reading;
 
 pub use error::WordsError;
-pub use reading::{CommandWords, ScheduleWords, read_words};
+pub use reading::{CommandWords, DrillWords, ScheduleWords, read_words};
 
 #[cfg(test)]
 mod tests;

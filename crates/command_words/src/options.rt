@@ -1,5 +1,5 @@
 // The options of a command.
-ghost use Rattle.std.specs.Prelude.{◌≡◌, map};
+ghost use Rattle.std.specs.Prelude.{◌≡◌, true, false, map};
 ghost use Rattle.command_words.specs.Options.{is_known, is_among, has_needed};
 ghost use Rattle.command_words.specs.Told.{told_option};
 
@@ -10,6 +10,26 @@ pub(crate) struct CommandOption<'a> {
     pub(crate) name: &'a str,
     /// Whether the command needs it.
     pub(crate) is_needed: bool,
+}
+
+/// An option that the command needs.
+pub(crate) fn needed(name: &str) -> CommandOption<'_>
+    ensures { told_option result ≡ (name.entry.now, true) }
+{
+    CommandOption {
+        name,
+        is_needed: true,
+    }
+}
+
+/// An option that may be given.
+pub(crate) fn optional(name: &str) -> CommandOption<'_>
+    ensures { told_option result ≡ (name.entry.now, false) }
+{
+    CommandOption {
+        name,
+        is_needed: false,
+    }
 }
 
 /// Whether an option of this name is there.

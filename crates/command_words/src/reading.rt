@@ -1,20 +1,23 @@
 // The words of the command line.
-ghost use Rattle.std.specs.Prelude.{◌≡◌, true, codes, None, Some, [], IfOk, IfErr, MatchResult, map, option_map, option_and_then, string_bytes, unwrap_or};
+ghost use Rattle.std.specs.Prelude.{◌≡◌, true, None, Some, [], IfOk, IfErr, MatchResult, map, option_map, option_and_then, string_bytes, unwrap_or};
 ghost use Rattle.clap.specs.Matches.{found_of, first_value};
 ghost use Rattle.command_words.specs.declared.error.WordsError.TheVariants.{Usage, OutOfMemory};
-ghost use Rattle.command_words.specs.Options.{options_given};
-ghost use Rattle.command_words.specs.Reading.{reading, is_command, replay_said, schedule_said, schedule_options, count_or_ten};
+ghost use Rattle.command_words.specs.Options.{Text, Given, options_given};
+ghost use Rattle.command_words.specs.Reading.{reading, has_options, value_of, replay_said, schedule_said, schedule_options, count_or_ten, drill_said, drill_options};
 ghost use Rattle.command_words.specs.Told.{told, told_option};
 
-use crate::count::read_count;
+use crate::count::{read_count, read_number};
 use crate::error::WordsError;
 use crate::matches::read_options;
-use crate::options::CommandOption;
+use crate::options::{CommandOption, needed, optional};
 use clap::ArgMatches;
 use std::alloc::Global;
 
 /// How many moments are asked for where the words don't say it.
 const USUAL_COUNT: u32 = 10;
+
+/// The greatest number of steps of a drill.
+const MOST_STEPS: u64 = 200_000;
 
 /// What the words of `schedule` say. A text that isn't given is empty.
 #[derive(Clone, Copy, Debug)]
@@ -31,6 +34,15 @@ pub struct ScheduleWords<'a> {
     pub count: u32,
 }
 
+/// What the words of `drill` say.
+#[derive(Clone, Copy, Debug)]
+pub struct DrillWords {
+    /// Where the generator begins.
+    pub seed: u64,
+    /// How many steps are taken, up to 200,000.
+    pub steps: u32,
+}
+
 /// A command with what its words say.
 #[derive(Clone, Copy, Debug)]
 pub enum CommandWords<'a> {
@@ -38,6 +50,8 @@ pub enum CommandWords<'a> {
     Replay,
     /// `schedule`: print the moments of a schedule.
     Schedule(ScheduleWords<'a>),
+    /// `drill`: run a random list of events of a cluster.
+    Drill(DrillWords),
 }
 
 /// The options of `schedule`.
@@ -45,26 +59,11 @@ fn schedule_options() -> [CommandOption<'static>; 5]
     ensures { map told_option result ≡ schedule_options }
 {
     [
-        CommandOption {
-            name: "now",
-            is_needed: true,
-        },
-        CommandOption {
-            name: "due",
-            is_needed: false,
-        },
-        CommandOption {
-            name: "period",
-            is_needed: false,
-        },
-        CommandOption {
-            name: "ttl",
-            is_needed: false,
-        },
-        CommandOption {
-            name: "count",
-            is_needed: false,
-        },
+        needed("now"),
+        optional("due"),
+        optional("period"),
+        optional("ttl"),
+        optional("count"),
     ]
 }
 
@@ -108,6 +107,39 @@ fn schedule_words<'a>(alloc: Global, words: &'a [String]) -> Result<CommandWords
     }
 }
 
+/// The options of `drill`.
+fn drill_options() -> [CommandOption<'static>; 2]
+    ensures { map told_option result ≡ drill_options }
+{
+    [needed("seed"), needed("steps")]
+}
+
+/// What the options of `drill` say.
+fn drill_of<'a>(matches: &ArgMatches<'a>) -> Option<CommandWords<'a>>
+    ensures { (given : Given) → ((name : Text) → first_value (found_of matches.now) name ≡ value_of name given) → option_map told result ≡ drill_said given }
+{
+    let seed = read_number(text_of(matches, "seed").as_bytes(), u64::MAX)?;
+    let steps = read_number(text_of(matches, "steps").as_bytes(), MOST_STEPS)?;
+    Some(CommandWords::Drill(DrillWords {
+        seed,
+        steps: steps as u32,
+    }))
+}
+
+/// The words behind `drill`.
+fn drill_words<'a>(alloc: Global, words: &'a [String]) -> Result<CommandWords<'a>, WordsError>
+    ensures { MatchResult result
+        (λ c. option_and_then drill_said (options_given drill_options (map string_bytes words.entry.now)) ≡ Some (told c))
+        (λ e. e ≡ Usage → option_and_then drill_said (options_given drill_options (map string_bytes words.entry.now)) ≡ None) }
+{
+    let options = drill_options();
+    let matches = read_options(alloc, "drill", options.as_slice(), words)?;
+    match drill_of(&matches) {
+        None => Err(WordsError::Usage),
+        Some(words) => Ok(words),
+    }
+}
+
 /// The words behind `replay`: none.
 fn replay_words<'a>(words: &'a [String]) -> Result<CommandWords<'a>, WordsError>
     ensures { MatchResult result
@@ -120,16 +152,16 @@ fn replay_words<'a>(words: &'a [String]) -> Result<CommandWords<'a>, WordsError>
     }
 }
 
-/// Reads the words after the program's name: the first is the command, `replay` without options or `schedule`
+/// Reads the words after the program's name: the first is the command, `replay` without options, `schedule`
 /// with `--now M` and perhaps `--due T`, `--period T`, `--ttl T` and `--count N`, N from 1 to 1,000 and 10 where
-/// it isn't given. Options are written `--name value` or `--name=value`, in any order, each at most once; a value
+/// it isn't given, or `drill` with `--seed N`, below 2^64, and `--steps N`, up to 200,000. Options are written `--name value` or `--name=value`, in any order, each at most once; a value
 /// that is a word of its own doesn't begin with `-`. Help and version words have no reading. Own.
 pub fn read_words<'a>(alloc: Global, words: &'a [String]) -> Result<CommandWords<'a>, WordsError>
     // The command is the words' reading.
     ensures read { IfOk result (λ c. reading (map string_bytes words.entry.now) ≡ Some (told c)) }
-    // Only words without a reading are refused, and only those of `schedule` take memory.
+    // Only words without a reading are refused, and only those of `schedule` and `drill` take memory.
     ensures usage { IfErr result (λ e. e ≡ Usage → reading (map string_bytes words.entry.now) ≡ None) }
-    ensures memory { IfErr result (λ e. e ≡ OutOfMemory → is_command (codes "schedule") (map string_bytes words.entry.now) ≡ true) }
+    ensures memory { IfErr result (λ e. e ≡ OutOfMemory → has_options (map string_bytes words.entry.now) ≡ true) }
 {
     match words {
         [] => Err(WordsError::Usage),
@@ -139,6 +171,9 @@ pub fn read_words<'a>(alloc: Global, words: &'a [String]) -> Result<CommandWords
             }
             if command.as_str() == "schedule" {
                 return schedule_words(alloc, rest);
+            }
+            if command.as_str() == "drill" {
+                return drill_words(alloc, rest);
             }
             Err(WordsError::Usage)
         }

@@ -13,7 +13,8 @@ fn words_of(alloc: Global, line: &str) -> Result<Vec<String>, Fail> {
     Ok(words)
 }
 
-/// What a line says: the texts of `schedule` with its count, each in brackets, or `replay` or `usage`.
+/// What a line says: the texts of `schedule` with its count, each in brackets, `drill` with its numbers, or `replay`
+/// or `usage`.
 fn said(alloc: Global, line: &str) -> Result<String, Fail> {
     let words = words_of(alloc, line)?;
     let text = match read_words(alloc, words.as_slice()) {
@@ -25,6 +26,11 @@ fn said(alloc: Global, line: &str) -> Result<String, Fail> {
             let ttl = s.ttl;
             let count = s.count;
             format!(in alloc; "[{now}] [{due}] [{period}] [{ttl}] {count}")?
+        }
+        Ok(CommandWords::Drill(d)) => {
+            let seed = d.seed;
+            let steps = d.steps;
+            format!(in alloc; "drill {seed} {steps}")?
         }
         Err(WordsError::Usage) => String::from_str(alloc, "usage")?,
         Err(WordsError::OutOfMemory) => String::from_str(alloc, "memory")?,
@@ -38,7 +44,7 @@ fn expect(rt: &impl Abort, said: &String, wanted: &str, line: &str) {
 
 #[test]
 fn words_with_a_reading(rt: HostRuntime) -> Result<(), Fail> {
-    let table: [(&str, &str); 18] = [
+    let table: [(&str, &str); 22] = [
         ("replay", "replay"),
         ("schedule --now x", "[x] [] [] [] 10"),
         ("schedule --now=x", "[x] [] [] [] 10"),
@@ -66,6 +72,13 @@ fn words_with_a_reading(rt: HostRuntime) -> Result<(), Fail> {
         ("schedule --now replay", "[replay] [] [] [] 10"),
         ("schedule --now=µs", "[µs] [] [] [] 10"),
         ("schedule --due= --now=x", "[x] [] [] [] 10"),
+        ("drill --seed 1 --steps 0", "drill 1 0"),
+        ("drill --steps=200000 --seed=0", "drill 0 200000"),
+        (
+            "drill --seed=0018446744073709551615 --steps=007",
+            "drill 18446744073709551615 7",
+        ),
+        ("drill --seed=000 --steps 1", "drill 0 1"),
     ];
     let alloc = rt.alloc();
     for (line, wanted) in table {
@@ -76,7 +89,7 @@ fn words_with_a_reading(rt: HostRuntime) -> Result<(), Fail> {
 
 #[test]
 fn words_without_a_reading(rt: HostRuntime) -> Result<(), Fail> {
-    let table: [&str; 41] = [
+    let table: [&str; 50] = [
         "",
         "Replay",
         "replays",
@@ -118,6 +131,15 @@ fn words_without_a_reading(rt: HostRuntime) -> Result<(), Fail> {
         "schedule --now=x --count=1001",
         "schedule --now=x --count=+5",
         "schedule --now=x --count=18446744073709551616",
+        "drill --seed=1",
+        "drill --steps=1",
+        "drill --seed= --steps=1",
+        "drill --seed=1 --steps=",
+        "drill --seed=1 --steps=200001",
+        "drill --seed=18446744073709551616 --steps=1",
+        "drill --seed=-1 --steps=1",
+        "drill --seed=1 --steps=1x",
+        "drill --seed=1 --steps=1 --seed=1",
     ];
     let alloc = rt.alloc();
     for line in table {
