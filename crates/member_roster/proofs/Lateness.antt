@@ -1,10 +1,18 @@
 -- Members dropped one after another.
-use Rattle.std.proofs.Common.{◌≡◌, ℕ, suc, zero, ◌<◌, ◌≤◌, true, false, List, [], ◌∷◌, ◌++◌, length, get_or, take, drop, refl, ap, arith}
-use Rattle.std.specs.List.{remove}
+use Rattle.std.proofs.Common.{◌≡◌, ℕ, suc, zero, ◌<◌, ◌≤◌, true, false, List, [], ◌∷◌, ◌++◌, length, get_or, take, drop, refl, ap, ◌∙◌, arith}
+use Rattle.std.specs.Prelude.{◌-◌, nat_le, Some}
+use Rattle.std.specs.List.{remove, slice_get}
 use Rattle.place_table.specs.declared.host.HostInfo.{HostInfo}
 use Rattle.member_roster.specs.declared.marks.Mark.{Mark}
-use Rattle.member_roster.specs.Members.{is_late, heard_of, late_of}
+use Rattle.member_roster.specs.Members.{Joined, is_late, heard_of, late_of}
 use Rattle.member_roster.specs.Roster.{joined_of, joined_all}
+
+-- the mark at a place tells of the member there
+pub late_at : (hs : List HostInfo) (ms : List Mark) (i now : ℕ) (k : Mark) (j : Joined) → k ≡ get_or ms i k → slice_get (joined_all hs ms) i ≡ Some j → nat_le 10000 (now - k.heard) ≡ is_late now j
+late_at [] ms i now k j r e = absurd (cc)
+late_at (h ∷ hs) [] i now k j r e = absurd (cc)
+late_at (h ∷ hs) (m ∷ ms) zero now k j r e = let same : joined_of h m ≡ j = cc in ap (λ (x : Mark). is_late now (joined_of h x)) r ∙ ap (is_late now) same
+late_at (h ∷ hs) (m ∷ ms) (suc i) now k j r e = late_at hs ms i now k j r e
 
 pub take_remove : {X : Type 0} (xs : List X) (i : ℕ) → take i (remove xs i) ≡ take i xs
 take_remove [] zero = refl

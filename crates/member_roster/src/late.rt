@@ -13,7 +13,7 @@ use place_table::HostInfo;
 const SILENCE: u64 = 10_000;
 
 /// Whether a member was not heard in time.
-fn is_mark_late(mark: Mark, now: u64) -> bool
+pub(crate) fn is_mark_late(mark: Mark, now: u64) -> bool
     ensures { result ≡ nat_le 10000 (now - mark.heard) }
 {
     now.saturating_sub(mark.heard) >= SILENCE

@@ -1,12 +1,13 @@
 // The members and the table that was fixed last.
 ghost use Rattle.std.specs.Prelude.{◌≡◌, ◌==◌, ◌+◌, ◌<◌, ◌≤◌, ◌↔◌, [], ◌∷◌, ◌++◌, None, false, length, map, IfOk, OnOk, OnErr, IsTrue, IsFalse, Some, max, option_map};
-ghost use Rattle.member_roster.specs.Members.{heard_at, acked_at, restarted_at, new_joined, boot_of, hosts_of, of_node, is_here, is_left, with_node, without_node, put_joined, late_of, heard_of, any_left, entered, targeted, target_hosts, removes_all};
+ghost use Rattle.member_roster.specs.Members.{heard_at, acked_at, restarted_at, new_joined, boot_of, hosts_of, of_node, is_here, is_left, with_node, without_node, put_joined, Joined, is_late, late_of, heard_of, any_left, entered, targeted, target_hosts, removes_all};
+ghost use Rattle.std.specs.List.{slice_get};
 ghost use Rattle.member_roster.specs.Places.{Ascends, host_node};
 ghost use Rattle.member_roster.specs.Roster.{RosterState, SameButRoom};
 
 use crate::copies::{fix_table, give_back_all};
 use crate::copying::{copy_hosts, copy_marks, copy_spares};
-use crate::late::drop_late;
+use crate::late::{drop_late, is_mark_late};
 use crate::list::MemberList;
 use crate::marks::{Mark, count_left, enter_marks, restart_marks, target_marks, weigh_mark};
 use crate::room::insert_in_room;
@@ -269,6 +270,15 @@ impl Roster {
         target_marks(&mut self.marks);
         let left = self.marks.len();
         self.left = left;
+    }
+
+    /// Whether the member at this place, from 0 in byte order of node, was not heard for 10,000 milliseconds or more.
+    /// These are the members that `drop_late` drops.
+    pub fn is_late(&self, at: usize, now: u64) -> bool
+        requires { at < length self.now.members }
+        ensures { (j : Joined) → slice_get self.now.members at ≡ Some j → result ≡ is_late now j }
+    {
+        is_mark_late(self.marks[at], now)
     }
 
     /// Drops each member that was not heard for 10,000 milliseconds, and lists it.

@@ -14,9 +14,10 @@ use crate::hash::key_hash;
 use crate::host::HostInfo;
 use crate::slots::{owner_slot, ring_slots};
 use crate::sort::sorted_hosts;
-use actor_names::{ActorKey, ActorType};
+use actor_names::{ActorKey, ActorType, OutOfMemory};
 use std::alloc::Global;
 use std::marker::Model;
+use std::sync::Arc;
 
 /// A point in 16 bytes: its place, and the number of its host in the table.
 #[derive(Clone, Copy)]
@@ -32,12 +33,19 @@ pub(crate) struct TypeRing {
     pub(crate) slots: Vec<Slot>,
 }
 
-/// The hosts of a cluster in byte order of node, at one version.
+// What the copies of a table share: its hosts, and the points of each type.
+#[derive(Drop)]
+pub(crate) struct Kept {
+    hosts: Vec<HostInfo>,
+    rings: Vec<TypeRing>,
+}
+
+/// The hosts of a cluster in byte order of node, at one version. Its copies share the hosts and their points, also
+/// in other threads.
 #[derive(Drop)]
 pub struct Table {
     version: u64,
-    hosts: Vec<HostInfo>,
-    rings: Vec<TypeRing>,
+    kept: Arc<Kept, Global>,
 }
 
 impl Model for Table {
@@ -46,9 +54,9 @@ impl Model for Table {
 
     ghost Value = { PlacementTable };
 
-    ghost view = { λ a. record { version = a.version; hosts = a.hosts.items } };
+    ghost view = { λ a. record { version = a.version; hosts = a.kept.value.hosts.items } };
 
-    ghost invariant = { λ a. IsTableKept a.hosts.items a.rings.items };
+    ghost invariant = { λ a. IsTableKept a.kept.value.hosts.items a.kept.value.rings.items };
 }
 
 impl Table {
@@ -64,7 +72,8 @@ impl Table {
         ensures hosts { result.now ≡ self.now.hosts }
         ensures order { IsNodeSorted self.now.hosts }
     {
-        self.hosts.as_slice()
+        let kept: &Kept = &self.kept;
+        kept.hosts.as_slice()
     }
 
     /// The host that owns the actor; None where no host serves the type. The actor's id is hashed once, only the
@@ -76,7 +85,20 @@ impl Table {
         ensures among { IfSome result (λ h. Contains self.now.hosts h.now) }
         ensures none { IsNone result ↔ (list_any (λ h. serves h key.now.kind) self.now.hosts ≡ false) }
     {
-        owner_host(self.hosts.as_slice(), self.rings.as_slice(), key)
+        let kept: &Kept = &self.kept;
+        owner_host(kept.hosts.as_slice(), kept.rings.as_slice(), key)
+    }
+
+    /// An equal table: it shares hosts and points with the table; no bytes are copied. It asks for no memory, and
+    /// gives up only where the count of those that share them is full, at 2^63 - 1.
+    pub fn copy(&self) -> Result<Table, OutOfMemory>
+        ensures { IfOk result (λ t. t ≡ self.now) }
+    {
+        let kept = Arc::try_clone(&self.kept)?;
+        Ok(Table {
+            version: self.version,
+            kept,
+        })
     }
 }
 
@@ -94,11 +116,8 @@ fn make_table(alloc: Global, version: u64, hosts: &[HostInfo]) -> Result<Table, 
             let hosts = sorted_hosts(alloc, hosts)?;
             let rows = all_places(alloc, hosts.as_slice())?;
             let rings = all_rings(alloc, hosts.as_slice(), rows.as_slice())?;
-            Ok(Table {
-                version,
-                hosts,
-                rings,
-            })
+            let kept = Arc::new(alloc, Kept { hosts, rings })?;
+            Ok(Table { version, kept })
         }
     }
 }

@@ -146,3 +146,28 @@ fn copies_have_the_types(rt: HostRuntime) -> Result<(), Fail> {
     assert_eq!(rt; fault.to_string(alloc)?.as_str(), "257 members");
     Ok(())
 }
+
+// Takes what can be moved between threads.
+fn moved_table<T: Send>(table: T) -> T {
+    table
+}
+
+#[test]
+fn copied_table_has_the_owners(rt: HostRuntime) -> Result<(), Fail> {
+    let alloc = rt.alloc();
+    let table = build_table(alloc, 3, some_hosts(alloc)?.as_slice())?;
+    let copy = moved_table(table.copy()?);
+    let key = read_key(alloc, b"counter/abc")?;
+    assert_eq!(rt; copy.version(), table.version());
+    assert_eq!(rt; owner_node(&copy, &key), owner_node(&table, &key));
+    drop(table);
+    assert_eq!(rt; copy.version(), 3);
+    let mut nodes = Vec::new(alloc);
+    for host in copy.hosts() {
+        nodes.extend_from_slice(host.member.node.as_slice())?;
+        nodes.push(b' ')?;
+    }
+    assert_eq!(rt; nodes.as_slice(), b"a b c node-3 ".as_slice());
+    assert_eq!(rt; owner_node(&copy, &key), b"node-3".as_slice());
+    Ok(())
+}

@@ -2,7 +2,8 @@
 ghost use Rattle.std.specs.Prelude.{◌≡◌, ◌↔◌, ◌==◌, ◌||◌, ◌+◌, ◌<◌, ◌≤◌, List, not, nat_lt, is_some, false, [], Some, None, map, IfOk, IfErr, OnOk, OnErr, ℕ, length, option_map};
 ghost use Rattle.std.specs.Option.{option_copied};
 ghost use Rattle.std.specs.declared.result.Result.TheVariants.{Ok};
-ghost use Rattle.member_roster.specs.Members.{hosts_of, of_node};
+ghost use Rattle.std.specs.List.{slice_get};
+ghost use Rattle.member_roster.specs.Members.{hosts_of, of_node, Joined, is_late};
 ghost use Rattle.round_core.specs.Placement.{placement_restarted, new_placement, last_version, settle_round, is_full, with_joined, SameDurableState};
 ghost use Rattle.member_roster.specs.Places.{Ascends, host_node};
 ghost use Rattle.round_core.specs.Records.{record_of, restart_record, placement_restored, restored_record, IsBadAt};
@@ -169,6 +170,15 @@ impl Placement {
         ensures order { Ascends host_node result.now }
     {
         self.rounds.members()
+    }
+
+    /// Whether the member at this place of `members` was not heard for 10,000 milliseconds or more at the moment `now`.
+    /// These are the members that a Tick at that moment drops.
+    pub fn is_late(&self, at: usize, now: u64) -> bool
+        requires { at < length self.now.state.members }
+        ensures { (j : Joined) → slice_get self.now.state.members at ≡ Some j → result ≡ is_late now j }
+    {
+        self.rounds.is_late(at, now)
     }
 
     /// The last version used, 0 before the first round.

@@ -1,6 +1,7 @@
 // The members, their greatest boots, and the rounds that spread each table.
 ghost use Rattle.std.specs.Prelude.{◌≡◌, ◌==◌, ◌&&◌, true, ◌+◌, ◌<◌, ◌≤◌, ◌^◌, ◌++◌, length, IfOk, OnOk, OnErr, Some, None, false, max, option_map, IsTrue, IsFalse};
-ghost use Rattle.member_roster.specs.Members.{is_here, is_left, with_node, without_node, heard_at, hosts_of, boot_of, of_node, greatest_boot, late_of, removes_all};
+ghost use Rattle.std.specs.List.{slice_get};
+ghost use Rattle.member_roster.specs.Members.{is_here, is_left, with_node, without_node, heard_at, hosts_of, boot_of, of_node, greatest_boot, Joined, is_late, late_of, removes_all};
 ghost use Rattle.round_core.specs.Placement.{placement_restarted, new_placement, advance_round, start_round, settle_round, advance_fully, may_start, is_in_stage, is_full, with_joined, drop_late, reply_for, last_version, ack_change};
 ghost use Rattle.member_roster.specs.Places.{Ascends, host_node};
 ghost use Rattle.round_core.specs.Records.{may_join};
@@ -323,6 +324,14 @@ impl Rounds {
         self.roster.join(host, spare, now);
         self.dirty = true;
         Ok(())
+    }
+
+    /// Whether the member at this place was not heard for 10,000 milliseconds or more.
+    pub(crate) fn is_late(&self, at: usize, now: u64) -> bool
+        requires { at < length self.now.state.members }
+        ensures { (j : Joined) → slice_get self.now.state.members at ≡ Some j → result ≡ is_late now j }
+    {
+        self.roster.is_late(at, now)
     }
 
     /// Drops each member that was not heard for 10,000 milliseconds, lists it, and counts them.

@@ -4,7 +4,7 @@ use Rattle.place_table.specs.Hosts.{owner_of}
 use Rattle.place_table.proofs.Moves.{owner_permuted, taken_by_new, moves_same}
 use Rattle.place_table.proofs.moved.moved_law.Goals as goal
 
-differ : (c : goal.After-drop-before-inside-3) → IsTrue c.has_moved.result ↔ (owner_of (c.args.hosts.now ++ c.args.more.now ∷ []) c.args.key.now ≢ owner_of c.args.hosts.now c.args.key.now)
+differ : (c : goal.After-drop-before-inside-2) → IsTrue c.has_moved.result ↔ (owner_of (c.args.hosts.now ++ c.args.more.now ∷ []) c.args.key.now ≢ owner_of c.args.hosts.now c.args.key.now)
 differ c =
     let both : c.as_slice.result.now ≡ c.args.hosts.now ++ c.args.more.now ∷ [] = c.as_slice.ensures.value ∙ c.in_ok-both.ensures in
     let larger : IsPermutation (c.args.hosts.now ++ c.args.more.now ∷ []) c.in_ok-after.after.hosts = subst (λ (hs : List HostInfo). IsPermutation hs c.in_ok-after.after.hosts) both c.in_ok-after.ensures.hosts in
