@@ -9,3 +9,4 @@ pub mod Actors
 pub mod PartMoves
 pub mod Activity
 pub mod PartRuns
+pub mod Machine

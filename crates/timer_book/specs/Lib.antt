@@ -3,3 +3,4 @@ pub mod Book
 pub mod Soonest
 pub mod Changes
 pub mod Tree
+pub mod Machine

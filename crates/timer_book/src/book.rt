@@ -17,7 +17,7 @@ use std::marker::Model;
 pub const MOST_TIMERS: usize = 1024;
 
 // The last registration number.
-const LAST_NUMBER: u64 = 1 << 62;
+pub(crate) const LAST_NUMBER: u64 = 1 << 62;
 
 /// The timers of actors. Each registration has a number of its own, from 1. A timer fires at a moment, its callback
 /// runs, and its next moment counts from the end of that callback. Own; timers follow the Actors API of Dapr.

@@ -1,7 +1,8 @@
 // Timers of actors: which are registered, which is due next, and when each fires again.
 //
 // Promise: a book is a count of the numbers drawn and a list of timers in order of key and name, and each call
-// is the change of it that `specs/Book` says. Stands on `actor_names` and `schedule_text`.
+// is the change of it that `specs/Book` says. As a machine (`specs/Machine`) it can stand behind a gate. Stands on
+// `state_machine`, `actor_names` and `schedule_text`.
 #![tactic(auto)]
 
 mod balance;
@@ -9,7 +10,9 @@ mod book;
 mod change;
 mod entry;
 mod error;
+mod event;
 mod law;
+mod machine;
 mod order;
 mod shelf;
 mod soonest;
@@ -20,6 +23,7 @@ mod tree;
 pub use book::{MOST_TIMERS, TimerBook};
 pub use entry::{DueTimer, TimerEntry};
 pub use error::TimerError;
+pub use event::{TimerEvent, TimerReply};
 pub use law::timer_law;
 pub use text::TimerText;
 pub use timer::Timer;

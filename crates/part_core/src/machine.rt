@@ -1,0 +1,41 @@
+// A part as a machine: its step, and which waiting calls hear of a reply.
+use crate::event::{PartEvent, PartReply};
+use crate::part::Part;
+use state_machine::{Machine, News};
+
+impl Machine for Part {
+    ghost use Rattle.part_core.specs.Rooms.{IsInRange};
+    ghost use Rattle.part_core.specs.Machine.{PartAllows};
+
+    type Event = PartEvent;
+
+    type Reply = PartReply;
+
+    ghost takes = { IsInRange };
+
+    ghost moves = { PartAllows };
+
+    fn step(&mut self, event: PartEvent) -> PartReply {
+        Part::step(self, event)
+    }
+
+    // A call that waits polls by its number.
+    fn topic(event: &PartEvent) -> u64 {
+        match event {
+            PartEvent::Poll { call } => *call,
+            _ => 0,
+        }
+    }
+
+    // An end, or the end of a deactivation, hands the turn to one call. An Unlock begins and moves many, and a part
+    // that stops answers all; nothing else changes what a poll answers.
+    fn news(reply: &PartReply) -> News {
+        match reply {
+            PartReply::Ended { next: Some(next) } | PartReply::ClosedDone { next: Some(next) } => {
+                News::Topic(*next)
+            }
+            PartReply::Opened { .. } | PartReply::StoppedNow { .. } => News::Everybody,
+            _ => News::Nobody,
+        }
+    }
+}

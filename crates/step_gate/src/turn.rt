@@ -1,0 +1,111 @@
+// The turn: taking it, and the ways to give it up.
+ghost use Rattle.std.specs.Prelude.{◌≡◌, ℕ, ◌+◌, ◌*◌, ◌%◌, ◌^◌, ◌<◌, true, [], ◌∷◌, Some};
+ghost use Rattle.step_gate.specs.declared.view.Turn.TheVariants.{Has, Shut};
+ghost use Rattle.step_gate.specs.Kept.{Extends, Sees, holding};
+ghost use Rattle.step_gate.specs.Turns.{Takes};
+ghost use Rattle.step_gate.specs.Gates.{gate_id, IsSeatOf};
+
+use crate::gate::{Gate, Seat};
+use crate::plays::{Add, Close, GiveUp, Said, Take};
+use state_machine::Machine;
+use std::snapshot::Snapshot;
+use std::sync::Wait;
+use std::sync::atomic::Ordering;
+use std::thread;
+use std::time::Duration;
+
+/// The word after 2^62 entries.
+pub(crate) const LAST: u64 = 1 << 63;
+
+/// How often a call that waits for the turn yields before it sleeps.
+const YIELDS: u32 = 64;
+
+/// How often the longest sleep doubles, from one millisecond.
+const DOUBLINGS: u32 = 4;
+
+impl<M: Machine> Gate<M> {
+    // Lets other threads run. After some tries it sleeps while the word stays, until the turn is free, for a time
+    // that grows to 16 milliseconds at most.
+    fn pause<R: Wait>(&self, rt: &R, tries: u32, word: u64) {
+        if tries < YIELDS {
+            thread::yield_now();
+            return;
+        }
+        let low = (word % (1 << 32)) as u32;
+        let longest = Duration::from_millis(1 << (tries - YIELDS).min(DOUBLINGS));
+        self.bells.asleep.fetch_add(1, Ordering::SeqCst);
+        self.table.shared.park_timeout(rt, 0, low, longest);
+        self.bells.asleep.fetch_sub(1, Ordering::SeqCst);
+    }
+
+    // The turn is free: wakes one of those that sleep until then.
+    fn hand_on(&self) {
+        if self.bells.asleep.load(Ordering::SeqCst) > 0 {
+            self.table.shared.wake_one(0);
+        }
+    }
+
+    // Waits for the turn, and returns the word, which is odd from then on.
+    pub(crate) fn take<R: Wait>(&self, rt: &R, seat: &mut Seat<M>) -> u64
+        requires { IsSeatOf M.moves self.now seat.old }
+        ensures { Takes (gate_id self.now) result seat.old.me.0 seat.new }
+    {
+        let mut tries = 0u32;
+        for _ in rt.forever() {
+            let word = self.table.shared.peek(0);
+            if word % 2 == 0 && word <= LAST {
+                let found = self
+                    .table
+                    .shared
+                    .compare_exchange::<Take>(seat, 0, word, word + 1);
+                if found == word {
+                    return word + 1;
+                }
+            }
+            self.pause(rt, tries, word);
+            tries = tries.saturating_add(1);
+        }
+        unreachable!()
+    }
+
+    // The value goes home, and the step comes to the history.
+    pub(crate) fn release<W: Said<M::Event, M::Reply>>(
+        &self,
+        seat: &mut Seat<M>,
+        at: u64,
+        _event: &Snapshot<M::Event>,
+        _reply: &M::Reply,
+    )
+        requires said { W.said ≡ Some (_event.now.value, _reply.now) }
+        requires seat { (seat.old.table_id ≡ gate_id self.now) × (seat.old.me.0.live ≡ true) × (seat.old.me.0.named ≡ true) }
+        requires turn { (x : M) × (y : M) × (seat.old.me.0.turn ≡ Has at x) × (seat.old.me.1 ≡ (0, y) ∷ []) × M.moves x _event.now.value _reply.now y }
+        requires at { (at % 2 ≡ 1) × (at < 2 ^ 63) }
+        ensures seat { (seat.new.table_id ≡ seat.old.table_id) × (seat.new.me.1 ≡ []) }
+        ensures added { Extends M.moves _event.now.value _reply.now seat.old.me.0 seat.new.me.0 }
+    {
+        self.table.shared.store::<Add<W>>(seat, 0, at + 1);
+        self.hand_on();
+    }
+
+    // The value goes home, and the history stays.
+    pub(crate) fn give_up(&self, seat: &mut Seat<M>, at: u64)
+        requires seat { (seat.old.table_id ≡ gate_id self.now) × (seat.old.me.0.live ≡ true) × (seat.old.me.0.named ≡ true) }
+        requires turn { (x : M) × (seat.old.me.0.turn ≡ Has at x) × (seat.old.me.1 ≡ (0, x) ∷ []) }
+        requires at { at % 2 ≡ 1 }
+        ensures seat { (seat.new.table_id ≡ seat.old.table_id) × (seat.new.me.1 ≡ []) }
+        ensures sees { (n : ℕ) × (at ≡ 2 * n + 1) × Sees M.moves n seat.old.me.0 seat.new.me.0 }
+    {
+        self.table.shared.store::<GiveUp>(seat, 0, at - 1);
+        self.hand_on();
+    }
+
+    // The value goes home, and the turn is kept for good.
+    pub(crate) fn shut(&self, seat: &mut Seat<M>, at: u64)
+        requires seat { (seat.old.table_id ≡ gate_id self.now) × (seat.old.me.0.live ≡ true) }
+        requires turn { (x : M) × (seat.old.me.0.turn ≡ Has at x) × (seat.old.me.1 ≡ (0, x) ∷ []) }
+        requires at { at % 2 ≡ 1 }
+        ensures { (seat.new.table_id ≡ seat.old.table_id) × (seat.new.me.0 ≡ holding Shut seat.old.me.0) }
+    {
+        self.table.shared.store::<Close>(seat, 0, at);
+    }
+}
