@@ -27,7 +27,7 @@ pub struct Outside<I, W> {
 /// failed, 5 the sink failed, 8 want of memory, 10 the script is above its limit of 67,108,864 bytes or 1,000,000
 /// lines.
 /// `replay`, without options: the whole source is read first, then each line of the script runs in order and what
-/// comes of it is written. `schedule`, with `--now M` and perhaps `--due T`, `--period T`, `--ttl T` and
+/// comes of it is written; a script that begins with `cluster P` drives a placement and the parts of members. `schedule`, with `--now M` and perhaps `--due T`, `--period T`, `--ttl T` and
 /// `--count N`: the moments of that schedule are written, up to N of them, or the first fault of a text. Own.
 pub fn run<I: Source, W: Sink>(alloc: Global, words: &[String], out: &mut Outside<I, W>) -> u8
     // Exactly words without a reading are usage; those of `schedule` may also end for want of memory. Nothing is
@@ -37,8 +37,9 @@ pub fn run<I: Source, W: Sink>(alloc: Global, words: &[String], out: &mut Outsid
         → (result ≡ 2) ⊎ ((result ≡ 8) × (is_command (codes "schedule") (map string_bytes words.now) ≡ true)) }
     ensures untouched { reading (map string_bytes words.now) ≡ None → out.new ≡ out.old }
 
-    // The status is that of a replay of the source's bytes, and what was written is what that replay prints. Its turns
-    // never mix, and its lines tell them.
+    // The status is that of a replay of the source's bytes, and what was written is what that replay prints: the
+    // outcomes of the events that the script's lines name. Of these the headline holds: no actor is active on two
+    // members, and the turns of one actor never mix.
     ensures replayed { map string_bytes words.now ≡ codes "replay" ∷ [] → (ended : Status) × (result ≡ code_of ended)
         × Replays (I.remaining out.old.input) (I.remaining out.new.input) ended (W.contents out.old.output) (W.contents out.new.output) }
 

@@ -1,5 +1,5 @@
 use Rattle.std.proofs.Common.{arith}
-use Rattle.actors_top.proofs.RunLemmas.{read_past, read_to_end}
+use Rattle.actors_top.proofs.RunLemmas.{read_past, read_to_end, read_no_memory}
 use Rattle.actors_top.proofs.replay.read_all.Goals as goal
 
 pub returns-then-count-eq0-clause-read : goal.returns-then-count-eq0-clause-read
