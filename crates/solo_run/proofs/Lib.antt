@@ -6,3 +6,11 @@ pub mod WorldLemmas
 pub mod CellWithin
 pub mod CallLemmas
 pub mod ActorMarks
+pub mod StepMarks
+pub mod StepTurns
+pub mod LogLemmas
+pub mod Actors
+pub mod CellFollows
+pub mod RunFollows
+pub mod RunTurns
+pub mod Laws

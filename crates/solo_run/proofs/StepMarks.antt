@@ -1,6 +1,6 @@
 -- Each event of a run keeps, of every actor, that its marks so far are those of turns that entered beside turns of their
 -- own chain, below the depth of its type.
-use Rattle.std.proofs.Common.{◌≡◌, ℕ, ◌+◌, ◌-◌, ◌<◌, List, [], ◌∷◌, ◌++◌, Option, None, Some, IsSome, refl, subst, sym, arith, append_assoc, append-nil}
+use Rattle.std.proofs.Common.{◌≡◌, ℕ, ◌+◌, ◌-◌, ◌<◌, true, List, [], ◌∷◌, ◌++◌, Option, None, Some, IsSome, refl, subst, sym, arith, append_assoc, append-nil}
 use Rattle.std.specs.Prelude.{◌==◌, unwrap_or}
 use Rattle.std.proofs.lemmas.Bool.{cond_both, eqb-true}
 use Rattle.actor_names.specs.Names.{before_slash}

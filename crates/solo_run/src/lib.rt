@@ -7,8 +7,10 @@
 
 mod calling;
 mod interner;
+mod law;
 mod turns;
 mod types;
 mod world;
 
+pub use law::solo_law;
 pub use world::SoloWorld;
