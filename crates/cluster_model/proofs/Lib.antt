@@ -17,3 +17,4 @@ pub mod Clusters
 pub mod Memories
 pub mod Bootings
 pub mod Growths
+pub mod Counts
