@@ -18,3 +18,7 @@ pub mod Memories
 pub mod Bootings
 pub mod Growths
 pub mod Counts
+pub mod PartCalls
+pub mod Askings
+pub mod AskedRuns
+pub mod Endings
