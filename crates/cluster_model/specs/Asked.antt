@@ -58,22 +58,22 @@ module _ (part_of : ActorKey → ℕ → ℕ) where
     pub of_key : part.number ≡ part_of k number_of_parts
     pub under : chain ≡ chain_under part k call named
 
-  abbrev pub IsAsked : ClusterState → List AskedCall → Member → ActorKey → ℕ → Option (List ℕ) → Type 0
-  IsAsked w asked m k call chain = WasAsked w.settings.parts w.parts w.calls asked m k call chain
+  abbrev pub IsOfItsLine : ClusterState → List AskedCall → Member → ActorKey → ℕ → Option (List ℕ) → Type 0
+  IsOfItsLine w asked m k call chain = WasAsked w.settings.parts w.parts w.calls asked m k call chain
 
   -- Each turn that ever began, each that is open and each call that waits was asked by a line of the script, of that actor
   -- at that member, and has the chain under which the line asked. A number has one line, and was taken by a part once.
   pub record TurnsAreAsked (w : ClusterState) (asked : List AskedCall) : Type 0 where
-    pub began : (m : Member) (k : ActorKey) (call : ℕ) (chain : Option (List ℕ)) → In (record { member = m; what = TurnBegan k call chain }) w.marks → IsAsked w asked m k call chain
-    pub open_turns : (p : PartState) (c : ActorCell) (t : Turn) → In p w.parts → In c p.cells → In t c.inner.turns → IsAsked w asked p.member c.key t.call t.chain
-    pub waiting : (p : PartState) (c : ActorCell) (v : Waiter) → In p w.parts → In c p.cells → In v c.inner.line → IsAsked w asked p.member c.key v.call v.chain
+    pub began : (m : Member) (k : ActorKey) (call : ℕ) (chain : Option (List ℕ)) → In (record { member = m; what = TurnBegan k call chain }) w.marks → IsOfItsLine w asked m k call chain
+    pub open_turns : (p : PartState) (c : ActorCell) (t : Turn) → In p w.parts → In c p.cells → In t c.inner.turns → IsOfItsLine w asked p.member c.key t.call t.chain
+    pub waiting : (p : PartState) (c : ActorCell) (v : Waiter) → In p w.parts → In c p.cells → In v c.inner.line → IsOfItsLine w asked p.member c.key v.call v.chain
     pub one_line : (a b : AskedCall) → In a asked → In b asked → a.number ≡ b.number → a ≡ b
     pub one_number : (i j : ℕ) (c : CallPlace) → call_at w.calls i ≡ Some c → call_at w.calls j ≡ Some c → i ≡ j
 
   -- Two turns that overlap, as their lines name them: one actor at one member, and one chain where both lines name one.
   pub record AreNamedAlike (w : ClusterState) (asked : List AskedCall) (m n : Member) (k : ActorKey) (a b : ℕ) (x y : Option (List ℕ)) : Type 0 where
-    pub first : IsAsked w asked m k a x
-    pub second : IsAsked w asked n k b y
+    pub first : IsOfItsLine w asked m k a x
+    pub second : IsOfItsLine w asked n k b y
     pub one_member : m ≡ n
     pub alike : (c d : List ℕ) → first.named ≡ Some c → second.named ≡ Some d → c ≡ d
 
