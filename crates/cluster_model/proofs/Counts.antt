@@ -77,23 +77,23 @@ ended_calls-append (BecameActive key version ∷ xs) ys a b = ended_calls-append
 ended_calls-append (BecameInactive key ∷ xs) ys a b = ended_calls-append xs ys a b
 ended_calls-append (PartOpened number version ∷ xs) ys a b = ended_calls-append xs ys a b
 
-begin_ends_none : (a : Bool) (key : ActorKey) (v call : ℕ) (chain : Option (List ℕ)) → ended_calls (marks_of_begin a key v call chain) ≡ []
+pub begin_ends_none : (a : Bool) (key : ActorKey) (v call : ℕ) (chain : Option (List ℕ)) → ended_calls (marks_of_begin a key v call chain) ≡ []
 begin_ends_none true key v call chain = refl
 begin_ends_none false key v call chain = refl
 
-next_ends_none : (a : Bool) (key : ActorKey) (v : ℕ) (next : Option Waiter) → ended_calls (marks_of_next a key v next) ≡ []
+pub next_ends_none : (a : Bool) (key : ActorKey) (v : ℕ) (next : Option Waiter) → ended_calls (marks_of_next a key v next) ≡ []
 next_ends_none a key v None = refl
 next_ends_none a key v (Some w) = begin_ends_none a key v w.call w.chain
 
-ends_begin_none : (key : ActorKey) (ts : List Turn) → begun_calls (marks_of_ends key ts) ≡ []
+pub ends_begin_none : (key : ActorKey) (ts : List Turn) → begun_calls (marks_of_ends key ts) ≡ []
 ends_begin_none key [] = refl
 ends_begin_none key (t ∷ ts) = ends_begin_none key ts
 
-inactive_begins_none : (a : Bool) (key : ActorKey) → begun_calls (marks_of_inactive a key) ≡ []
+pub inactive_begins_none : (a : Bool) (key : ActorKey) → begun_calls (marks_of_inactive a key) ≡ []
 inactive_begins_none true key = refl
 inactive_begins_none false key = refl
 
-stop_begins_none : (cs : List ActorCell) → begun_calls (marks_of_stop cs) ≡ []
+pub stop_begins_none : (cs : List ActorCell) → begun_calls (marks_of_stop cs) ≡ []
 stop_begins_none [] = refl
 stop_begins_none (c ∷ cs) =
     begun_calls-append (marks_of_ends c.key c.inner.turns ++ marks_of_inactive c.active c.key) (marks_of_stop cs)

@@ -22,3 +22,4 @@ pub mod PartCalls
 pub mod Askings
 pub mod AskedRuns
 pub mod Endings
+pub mod Balances

@@ -1,11 +1,14 @@
 -- How many turns began, and how many are open, by the marks; and what one step of a part adds. Own.
-use Rattle.std.specs.Prelude.{ℕ, ◌+◌, ◌-◌, List, [], ◌∷◌, length}
+use Rattle.std.specs.Prelude.{◌≡◌, ◌≤◌, ℕ, ◌+◌, ◌-◌, List, [], ◌∷◌, length}
+use Rattle.part_cells.specs.declared.actor_cell.ActorCell.{ActorCell}
+use Rattle.part_cells.specs.Cells.{total}
 use Rattle.part_core.specs.declared.event.PartEvent.{PartEvent}
 use Rattle.part_core.specs.declared.event.PartEvent.TheVariants as events
 use Rattle.part_core.specs.declared.event.PartReply.{PartReply}
 use Rattle.part_core.specs.declared.event.PartReply.TheVariants as replies
 use Rattle.part_core.specs.Marks.{PartMark, TurnBegan, TurnEnded}
-use Rattle.cluster_model.specs.World.{TraceMark}
+use Rattle.part_core.specs.Part.{PartState}
+use Rattle.cluster_model.specs.World.{ClusterState, TraceMark}
 
 -- one for the begin of a turn, and one for its end
 abbrev pub begins : PartMark → ℕ
@@ -29,6 +32,19 @@ over_turns (x ∷ xs) = ends x.what + over_turns xs
 -- how many began and haven't ended
 abbrev pub open_turns : List TraceMark → ℕ
 open_turns marks = begun_turns marks - over_turns marks
+
+-- the turns that are open in a part's cells, and in those of all parts
+abbrev pub turns_in : ActorCell → ℕ
+turns_in c = length c.inner.turns
+
+abbrev pub open_in : List PartState → ℕ
+open_in [] = 0
+open_in (p ∷ ps) = total turns_in p.cells + open_in ps
+
+-- No more turns have ended than began, and as many as began and haven't ended are open in the parts.
+pub record TurnsAreCounted (w : ClusterState) : Type 0 where
+  pub enough : over_turns w.marks ≤ begun_turns w.marks
+  pub same : open_turns w.marks ≡ open_in w.parts
 
 -- ---- one step of a part, by its event, its reply and the calls that the part lends after it
 

@@ -9,6 +9,7 @@ ghost use Rattle.round_core.specs.Runs.{ForgetsNothing};
 ghost use Rattle.world_events.specs.declared.event.WorldEvent.{WorldEvent};
 ghost use Rattle.world_events.specs.declared.settings.WorldSettings.{WorldSettings};
 ghost use Rattle.cluster_model.specs.World.{opening_cluster, cluster_run, cluster_step, outcomes};
+ghost use Rattle.cluster_model.specs.Counts.{TurnsAreCounted};
 ghost use Rattle.cluster_model.specs.Asked.{asked_calls, TurnsAreAsked, OverlapsAreNamedAlike, EndedHadBegun, PartsHaveSettings};
 ghost use Rattle.cluster_model.specs.Invariant.{IsActiveOnce};
 ghost use Rattle.cluster_model.specs.Cluster.{ClusterInvariant, HasCome, NamedWereBooted};
@@ -21,7 +22,8 @@ ghost use Rattle.cluster_model.specs.Cluster.{ClusterInvariant, HasCome, NamedWe
 /// that could run. `once`: no actor is active on two members. `asked`: each turn that began, each that is open and each
 /// call that waits is of a `call` line of the script that begins or waits, and has the actor, the member and the chain of
 /// that line. `named`: so two turns of one actor that overlap are of lines that name one chain, where both name one.
-/// `ended`: each turn that ended had begun. `settings`: each part has the settings of its member's boot line.
+/// `ended`: each turn that ended had begun. `counted`: as many turns are open in the parts as began and haven't ended.
+/// `settings`: each part has the settings of its member's boot line.
 /// `came`: what a part has seen, installed and opened at any moment came by messages that are among those of every later
 /// moment. `booted`: where members have a part at all, each one that a message or the placement names was booted.
 /// `memory`: no event lowers a greatest boot, and who is a member after it and wasn't before has a boot above the greatest
@@ -37,6 +39,8 @@ pub fn cluster_law()
         OverlapsAreNamedAlike part_of (cluster_run owner part_of (opening_cluster settings) events) (asked_calls events (outcomes owner part_of (opening_cluster settings) events)) }
     ensures ended { (owner : PlacementTable → ActorKey → Option HostInfo) (part_of : ActorKey → ℕ → ℕ) (settings : WorldSettings) (events : List WorldEvent) →
         EndedHadBegun (cluster_run owner part_of (opening_cluster settings) events).marks }
+    ensures counted { (owner : PlacementTable → ActorKey → Option HostInfo) (part_of : ActorKey → ℕ → ℕ) (settings : WorldSettings) (events : List WorldEvent) →
+        TurnsAreCounted (cluster_run owner part_of (opening_cluster settings) events) }
     ensures settings { (owner : PlacementTable → ActorKey → Option HostInfo) (part_of : ActorKey → ℕ → ℕ) (settings : WorldSettings) (events : List WorldEvent) →
         PartsHaveSettings (cluster_run owner part_of (opening_cluster settings) events) }
     ensures came { (owner : PlacementTable → ActorKey → Option HostInfo) (part_of : ActorKey → ℕ → ℕ) (settings : WorldSettings) (earlier later : List WorldEvent) (p : PartState) →
