@@ -19,6 +19,7 @@ pub mod Bootings
 pub mod Growths
 pub mod Counts
 pub mod PartCalls
+pub mod AskedLines
 pub mod Askings
 pub mod AskedRuns
 pub mod Endings
