@@ -1,19 +1,19 @@
 -- What a run's log says of one actor's cell: each waiting call was asked of this actor, with its chain, and none waits
 -- where nothing is open.
-use Rattle.std.proofs.Common.{◌≡◌, inl, inr, ℕ, ◌+◌, ◌<◌, ◌&&◌, Bool, true, false, if◌then◌else◌, List, [], ◌∷◌, ◌++◌, length, Option, None, Some, refl, sym, ap, subst, ◌∙◌, arith}
+use Rattle.std.proofs.Common.{◌≡◌, inl, inr, ℕ, ◌&&◌, Bool, true, false, if◌then◌else◌, List, [], ◌∷◌, ◌++◌, length, Option, None, Some, refl, sym, ap, subst, ◌∙◌, arith}
 use Rattle.std.specs.Prelude.{◌==◌, unwrap_or}
 use Rattle.std.proofs.lemmas.Bool.{and_parts, cond_both, false≢true}
 use Rattle.std.proofs.lemmas.List.{length_push}
 use Rattle.actor_names.specs.Names.{before_slash}
 use Rattle.turn_core.specs.declared.cell.Turn.{Turn}
 use Rattle.turn_core.specs.declared.cell.Waiter.{Waiter}
-use Rattle.turn_core.specs.Cell.{CellState, AskStep, EndStep, PollStep, new_cell, is_free, is_open_chain, is_first_chain, kept_chain, has_turn, waiter_of, first_unmoved, without_waiter, with_turn, with_waiter, admit_call, begun_next, next_call, without_call, cell_end, poll_waiter, cell_poll}
+use Rattle.turn_core.specs.Cell.{CellState, AskStep, EndStep, PollStep, new_cell, is_free, is_open_chain, is_first_chain, kept_chain, has_turn, waiter_of, first_unmoved, without_waiter, admit_call, begun_next, next_call, without_call, cell_end, poll_waiter, cell_poll}
 use Rattle.turn_core.specs.CellSound.{In}
 use Rattle.turn_core.proofs.Elements.{In-push, In-without_waiter, In-without_first}
-use Rattle.turn_core.proofs.CellSteps.{ask_cases, free_turns, In-first_unmoved}
+use Rattle.turn_core.proofs.CellSteps.{ask_cases, In-first_unmoved}
 use Rattle.solo_run.specs.World.{TypeDepth, depth_of, chain_for, made_chain, ask_at}
 use Rattle.solo_run.specs.Runs.{Said}
-use Rattle.solo_run.specs.TurnsTold.{AskedCall, asked_call}
+use Rattle.solo_run.specs.TurnsTold.{asked_call}
 use Rattle.solo_run.proofs.LogLemmas.{asked-found}
 
 -- a waiting call: it was asked of this actor, and its chain is the one that it brought, or made for it
@@ -42,9 +42,9 @@ kept-chain_for c n chain = by (c.depth == 0)
 
 -- ---- no call waits where nothing is open
 
-free_begins : (depth holds n : ℕ) (line : List Waiter) (chain : Option (List ℕ)) → (admit_call (record { depth = depth; turns = []; line = line; holds = holds }) n chain true).cell.turns ≡ [] → ⊥
-free_begins depth holds n line chain =
-    let c : CellState = record { depth = depth; turns = []; line = line; holds = holds } in
+free_begins : (depth holds n : ℕ) (queue : List Waiter) (chain : Option (List ℕ)) → (admit_call (record { depth = depth; turns = []; line = queue; holds = holds }) n chain true).cell.turns ≡ [] → ⊥
+free_begins depth holds n queue chain =
+    let c : CellState = record { depth = depth; turns = []; line = queue; holds = holds } in
     cond_both (is_open_chain c (kept_chain c chain)) _ _ (λ (s : AskStep). s.cell.turns ≡ [] → ⊥)
     (λ o _. false≢true (and_parts _ (is_first_chain [] (kept_chain c chain)) o).1)
     (λ _ e. absurd (cc))

@@ -8,10 +8,10 @@ use Rattle.turn_core.proofs.CellSteps.{ask_cases}
 use Rattle.solo_run.specs.WorldTold.{IsCellWithin}
 use Rattle.solo_run.specs.World.{ask_at, chain_for}
 
--- a call is neither open nor in the line
-record IsAbsent (call : ℕ) (turns : List Turn) (line : List Waiter) : Type 0 where
+-- a call is neither open nor in the queue
+record IsAbsent (call : ℕ) (turns : List Turn) (queue : List Waiter) : Type 0 where
   no_turn : has_turn call turns ≡ false
-  no_waiter : is_some (waiter_of call line) ≡ false
+  no_waiter : is_some (waiter_of call queue) ≡ false
 
 absent : (call : ℕ) (c : CellState) → is_in_cell call c ≡ false → IsAbsent call c.turns c.line
 absent call c h = let p = or_parts (has_turn call c.turns) (is_some (waiter_of call c.line)) h in record { no_turn = p.0; no_waiter = p.1 }
@@ -35,7 +35,7 @@ turn_less call gone (t ∷ ts) h =
     (λ e. p.1)
     (λ e. rw (p.0, turn_less call gone ts p.1))
 
--- ---- the line
+-- ---- the queue
 
 waiter_here : (call : ℕ) (w : Waiter) (ws : List Waiter) → is_some (waiter_of call (w ∷ ws)) ≡ false → (eqb call w.call ≡ false) × (is_some (waiter_of call ws) ≡ false)
 waiter_here call w ws h = by (eqb call w.call) refl

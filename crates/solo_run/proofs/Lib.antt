@@ -14,3 +14,4 @@ pub mod CellFollows
 pub mod RunFollows
 pub mod RunTurns
 pub mod Laws
+pub mod Rows

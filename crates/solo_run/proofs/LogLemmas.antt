@@ -1,8 +1,7 @@
 -- The calls that a log asks, where one log stands behind another.
-use Rattle.std.proofs.Common.{◌≡◌, ◌≢◌, ◌⊎◌, inl, inr, ◌<◌, ◌+◌, ◌-◌, ◌==◌, eqb, ℕ, zero, suc, Bool, true, false, List, [], ◌∷◌, ◌++◌, length, slice_get, Option, None, Some, refl, sym, ap, ◌∙◌, arith, append_assoc, append-nil}
-use Rattle.std.specs.Option.{option_and_then}
+use Rattle.std.proofs.Common.{◌≡◌, ◌≢◌, ◌⊎◌, inl, inr, ◌<◌, ◌+◌, ◌-◌, eqb, ℕ, zero, suc, Bool, true, false, List, [], ◌∷◌, ◌++◌, length, slice_get, Option, None, Some, refl, sym, ap, ◌∙◌, arith, append_assoc, append-nil}
 use Rattle.std.proofs.lemmas.Bool.{ne_eqb, eq-eqb}
-use Rattle.world_events.specs.Solo.{SoloEvent, Call}
+use Rattle.world_events.specs.Solo.{Call}
 use Rattle.solo_run.specs.World.{key_of_call}
 use Rattle.solo_run.specs.Runs.{Said}
 use Rattle.solo_run.specs.TurnsTold.{AskedCall, call_in, asked_call, number_in, numbers_of, CountsFromOne}

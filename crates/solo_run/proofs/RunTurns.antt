@@ -10,13 +10,11 @@ use Rattle.turn_core.specs.declared.answer.CellError.TheVariants as refusing
 use Rattle.turn_core.specs.declared.cell.Waiter.{Waiter}
 use Rattle.turn_core.specs.Cell.{CellState, new_cell, kept_chain, has_turn, waiter_of, without_call, next_call, call_of, not_open}
 use Rattle.turn_core.specs.CellMarks.{Began, Ended, asked_marks, next_marks}
-use Rattle.turn_core.specs.CellSound.{In}
 use Rattle.world_events.specs.Solo.{SoloEvent, Call, End, Poll, Hold, Release}
-use Rattle.world_events.specs.declared.outcome.TurnOutcome.{TurnOutcome}
 use Rattle.world_events.specs.declared.outcome.TurnOutcome.TheVariants as out
 use Rattle.world_events.specs.declared.error.WorldError.{WorldError}
-use Rattle.solo_run.specs.World.{SoloState, WorldStep, ActorMark, TypeDepth, cell_at, cell_for, key_of_call, chain_for, depth_of, marks_at, ask_at, ask_outcome, end_outcome, call_step, unchanged, end_at, poll_at, at_call, hold_step, release_step, solo_step, refusal_of}
-use Rattle.solo_run.specs.Runs.{Said, said_of, after_event, marks_by, run_from, log_from, marks_from, state_with, solo_log, solo_marks}
+use Rattle.solo_run.specs.World.{SoloState, WorldStep, ActorMark, TypeDepth, cell_at, cell_for, key_of_call, chain_for, depth_of, marks_at, ask_at, ask_outcome, end_outcome, call_step, end_at, poll_at, hold_step, release_step, solo_step, refusal_of}
+use Rattle.solo_run.specs.Runs.{Said, said_of, after_event, marks_by, log_from, marks_from, state_with, solo_log, solo_marks}
 use Rattle.solo_run.specs.TurnsTold.{CallTurn, Begins, Ends, told_turns, turns_of_log, asked_call, turn_call, turn_at, turns_told, actor_turns}
 use Rattle.solo_run.proofs.LogLemmas.{asked-found}
 use Rattle.solo_run.proofs.Actors.{each_at, each_for}
@@ -119,7 +117,7 @@ RunTold depths log w events = marks_from w events ≡ turns_told depths (log ++ 
 one_told : (depths : List TypeDepth) (log : List Said) (w : SoloState) (event : SoloEvent) (events : List SoloEvent) (refusal : Option WorldError) → refusal_of w event ≡ refusal → Follows depths log w
     → ((l : List Said) (v : SoloState) → Follows depths l v → RunTold depths l v events)
     → marks_by w event refusal ++ marks_from (after_event w event refusal) events
-        ≡ turns_told depths (log ++ (said_of w event refusal ++ log_from (after_event w event refusal) events)) (turns_of_log (said_of w event refusal ++ log_from (after_event w event refusal) events))
+    ≡ turns_told depths (log ++ (said_of w event refusal ++ log_from (after_event w event refusal) events)) (turns_of_log (said_of w event refusal ++ log_from (after_event w event refusal) events))
 one_told depths log w event events None allowed f rest =
     let step = solo_step w event in
     let said : Said = record { event = event; outcome = step.outcome } in

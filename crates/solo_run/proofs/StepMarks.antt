@@ -1,20 +1,19 @@
 -- Each event of a run keeps, of every actor, that its marks so far are those of turns that entered beside turns of their
 -- own chain, below the depth of its type.
-use Rattle.std.proofs.Common.{◌≡◌, ℕ, ◌+◌, ◌-◌, ◌<◌, true, List, [], ◌∷◌, ◌++◌, Option, None, Some, IsSome, refl, subst, sym, arith, append_assoc, append-nil}
+use Rattle.std.proofs.Common.{◌≡◌, ℕ, ◌+◌, ◌-◌, ◌<◌, true, List, [], ◌∷◌, ◌++◌, Option, None, Some, IsSome, refl, subst, sym, arith, append_assoc}
 use Rattle.std.specs.Prelude.{◌==◌, unwrap_or}
 use Rattle.std.proofs.lemmas.Bool.{cond_both, eqb-true}
-use Rattle.actor_names.specs.Names.{before_slash}
 use Rattle.turn_core.specs.Cell.{CellState, cell_end, cell_poll, with_hold, without_hold}
-use Rattle.turn_core.specs.CellMarks.{TurnMark, TurnsIsolated, end_marks, open_after}
+use Rattle.turn_core.specs.CellMarks.{TurnMark, end_marks, open_after}
 use Rattle.turn_core.proofs.CellKeeps.{ask_keeps, end_keeps, poll_keeps, holds_keep}
 use Rattle.world_events.specs.Solo.{SoloEvent, Call, End, Poll, Hold, Release}
 use Rattle.world_events.specs.declared.outcome.TurnOutcome.{TurnOutcome}
 use Rattle.world_events.specs.declared.outcome.TurnOutcome.TheVariants as out
 use Rattle.world_events.specs.declared.error.WorldError.{WorldError}
-use Rattle.solo_run.specs.World.{SoloState, WorldStep, ActorMark, TypeDepth, depth_of, cell_at, cell_for, key_of_call, made_chain, chain_for, ask_at, ask_marks_at, call_step, unchanged, end_at, poll_at, at_cell, at_key, at_call, hold_step, release_step, solo_step, refusal_of, marks_of}
+use Rattle.solo_run.specs.World.{SoloState, WorldStep, ActorMark, TypeDepth, cell_at, cell_for, key_of_call, made_chain, chain_for, ask_at, ask_marks_at, call_step, unchanged, end_at, poll_at, at_cell, at_key, at_call, hold_step, release_step, solo_step, refusal_of}
 use Rattle.solo_run.specs.Runs.{after_event, marks_by, run_from, marks_from, state_with, solo_run, solo_marks}
-use Rattle.solo_run.specs.TurnsTold.{open_turns, turns_in}
-use Rattle.solo_run.proofs.ActorMarks.{CellTold, ActorsTold, told_for, told_at, told-put, told-same, told_isolated}
+use Rattle.solo_run.specs.TurnsTold.{turns_in}
+use Rattle.solo_run.proofs.ActorMarks.{CellTold, ActorsTold, told_for, told_at, told-put, told-same}
 
 abbrev pub StateTold : SoloState → List ActorMark → Type 0
 StateTold w marks = ActorsTold w.depths w.actors marks

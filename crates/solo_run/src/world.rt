@@ -69,12 +69,7 @@ impl SoloWorld {
     }
 
     /// Turns reentrancy on for a type, with a depth of 1 to 1,024.
-    pub fn set_depth(
-        &mut self,
-        alloc: Global,
-        kind: &[u8],
-        depth: u32,
-    ) -> Result<(), OutOfMemory>
+    pub fn set_depth(&mut self, alloc: Global, kind: &[u8], depth: u32) -> Result<(), OutOfMemory>
         requires fresh { has_depth kind.now self.old.depths ≡ false }
         requires shallow { depth ≤ greatest_depth }
         ensures set { OnOk result (self.new ≡ record self.old { depths = self.old.depths ++ record { kind = kind.now; depth = depth } ∷ [] }) }

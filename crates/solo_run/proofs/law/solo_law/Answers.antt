@@ -1,9 +1,3 @@
-use Rattle.std.proofs.Common.{List, [], ◌≡◌, sym, ap, subst, ◌∙◌}
-use Rattle.actor_names.specs.Names.{before_slash}
-use Rattle.turn_core.specs.CellMarks.{TurnsIsolated, open_after}
-use Rattle.solo_run.specs.World.{ActorMark, depth_of, cell_at, marks_of}
-use Rattle.solo_run.specs.Runs.{solo_run, solo_log, solo_marks}
-use Rattle.solo_run.specs.TurnsTold.{call_turns, open_turns}
 use Rattle.solo_run.proofs.Laws.{turns_isolated, turns_open, turns_each}
 use Rattle.solo_run.proofs.RunFollows.{solo_follows, solo_busy}
 use Rattle.solo_run.proofs.RunTurns.{solo_turns}
