@@ -1,3 +1,5 @@
+pub mod LineLemmas
+pub mod SetupLemmas
 pub mod RunLemmas
 pub mod EndLemmas
 pub mod RunTold

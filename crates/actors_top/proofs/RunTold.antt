@@ -83,7 +83,7 @@ quiet t = sym (append-nil t)
 
 solo_sets : (depths : List TypeDepth) (setting : Setting) (next : ScriptLog) (text : List ℕ) → solo_setting depths [] setting ≡ Goes next text
     → Follows (SoloLog depths []) (solo_with depths [] (Ok (solo.Sets setting))) next text
-solo_sets depths (Reentrant column kind depth) next text = go (has_depth kind depths)
+solo_sets depths (Reentrant column kind depth) next text e = go (has_depth kind depths) e
   where
     go : (b : Bool) → (if b then Stops column else Goes (solo_with depths [] (Ok (solo.Sets (Reentrant column kind depth)))) []) ≡ Goes next text
         → Follows (SoloLog depths []) (solo_with depths [] (Ok (solo.Sets (Reentrant column kind depth)))) next text
@@ -98,7 +98,7 @@ solo_goes depths events line (Err column) is next text e = stops_not column next
 solo_goes depths events line (Ok solo.Blank) is next text e = follows (SoloLog depths events) _ next [] text e (quiet (log_text (SoloLog depths events)))
 solo_goes depths [] line (Ok (solo.Sets setting)) is next text e = solo_sets depths setting next text e
 solo_goes depths (x ∷ xs) line (Ok (solo.Sets setting)) is next text e = absurd (late_solo_sets_nothing line setting is)
-solo_goes depths events line (Ok (solo.Does column event)) is next text = go (refusal_of (solo_run depths events) event) refl
+solo_goes depths events line (Ok (solo.Does column event)) is next text e = go (refusal_of (solo_run depths events) event) refl e
   where
     go : (o : Option WorldError) → refusal_of (solo_run depths events) event ≡ o → solo_event depths events column event o ≡ Goes next text → Follows (SoloLog depths events) (SoloLog depths (events ++ event ∷ [])) next text
     go (Some error) h e = stops_not _ next text e
@@ -106,7 +106,7 @@ solo_goes depths events line (Ok (solo.Does column event)) is next text = go (re
 
 cluster_sets : (s : Setup) (setting : Setting) (next : ScriptLog) (text : List ℕ) → cluster_setting s [] setting ≡ Goes next text
     → Follows (ClusterLog s []) (ClusterLog (setup_with s setting) []) next text
-cluster_sets s (Reentrant column kind depth) next text = go (has_depth kind s.depths)
+cluster_sets s (Reentrant column kind depth) next text e = go (has_depth kind s.depths) e
   where
     go : (b : Bool) → (if b then Stops column else Goes (ClusterLog (setup_with s (Reentrant column kind depth)) []) []) ≡ Goes next text
         → Follows (ClusterLog s []) (ClusterLog (setup_with s (Reentrant column kind depth)) []) next text
@@ -161,37 +161,40 @@ record TellsFrom (number : ℕ) (log : ScriptLog) (lines : List (List ℕ)) (run
   pub refused : run.status ≡ 3 → (column : ℕ) × (last ≡ bad_line_text (number + count) column)
   pub unlimited : run.status ≡ 10 → ⊥
 
+-- one line, and what the next ones tell
+line_more : (number : ℕ) (log : ScriptLog) (line : List ℕ) (lines : List (List ℕ)) (step : LineStep) → line_step log line ≡ step
+    → ((next : ScriptLog) → TellsFrom (number + 1) next lines (run_lines (number + 1) next lines))
+    → TellsFrom number log (line ∷ lines) (after_line number log step (λ next. run_lines (number + 1) next lines))
+line_more number log line lines (Stops column) is others =
+    record {
+      count = 0;
+      within = omega arith;
+      named = refl;
+      last = bad_line_text number column;
+      text = refl;
+      done = λ e. absurd (omega (arith, e));
+      refused = λ _. (column, ap (λ (n : ℕ). bad_line_text n column) (omega arith));
+      unlimited = λ e. omega (arith, e);
+    }
+line_more number log line lines (Goes next text) is others =
+    let one = line_follows log line next text is in
+    let rest = others next in
+    let run = run_lines (number + 1) next lines in
+    record {
+      count = suc rest.count;
+      within = (let w = rest.within in omega arith);
+      named = rest.named ∙ ap (λ (l : ScriptLog). fold with_line l (take rest.count lines)) one.names;
+      last = rest.last;
+      text = sym (append_assoc (log_text log) text run.text) ∙ ap (λ (t : List ℕ). t ++ run.text) (sym one.prints) ∙ rest.text;
+      done = λ e. (let d = rest.done e in (d.0, omega (arith, d.1)));
+      refused = λ e. (let r = rest.refused e in (r.0, r.1 ∙ ap (λ (n : ℕ). bad_line_text n r.0) (omega arith)));
+      unlimited = rest.unlimited;
+    }
+
 tells_from : (number : ℕ) (log : ScriptLog) (lines : List (List ℕ)) → TellsFrom number log lines (run_lines number log lines)
 tells_from number log [] =
     record { count = 0; within = omega arith; named = refl; last = []; text = refl; done = λ _. (refl, refl); refused = λ e. absurd (omega (arith, e)); unlimited = λ e. omega (arith, e) }
-tells_from number log (line ∷ lines) = go (line_step log line) refl
-  where
-    go : (step : LineStep) → line_step log line ≡ step → TellsFrom number log (line ∷ lines) (after_line number log step (λ next. run_lines (number + 1) next lines))
-    go (Stops column) is =
-        record {
-          count = 0;
-          within = omega arith;
-          named = refl;
-          last = bad_line_text number column;
-          text = refl;
-          done = λ e. absurd (omega (arith, e));
-          refused = λ _. (column, ap (λ (n : ℕ). bad_line_text n column) (omega arith));
-          unlimited = λ e. omega (arith, e);
-        }
-    go (Goes next text) is =
-        let one = line_follows log line next text is in
-        let rest = tells_from (number + 1) next lines in
-        let run = run_lines (number + 1) next lines in
-        record {
-          count = suc rest.count;
-          within = (let w = rest.within in omega arith);
-          named = rest.named ∙ ap (λ (l : ScriptLog). fold with_line l (take rest.count lines)) one.names;
-          last = rest.last;
-          text = sym (append_assoc (log_text log) text run.text) ∙ ap (λ (t : List ℕ). t ++ run.text) (sym one.prints) ∙ rest.text;
-          done = λ e. (let d = rest.done e in (d.0, omega (arith, d.1)));
-          refused = λ e. (let r = rest.refused e in (r.0, r.1 ∙ ap (λ (n : ℕ). bad_line_text n r.0) (omega arith)));
-          unlimited = rest.unlimited;
-        }
+tells_from number log (line ∷ lines) = line_more number log line lines (line_step log line) refl (λ next. tells_from (number + 1) next lines)
 
 lines_told : (lines : List (List ℕ)) → TellsRun lines (run_lines 1 Unread lines)
 lines_told lines =

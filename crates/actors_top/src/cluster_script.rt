@@ -17,7 +17,7 @@ use world_run::World;
 
 /// Whether the event sets a moment below the present one.
 fn is_falling(world: &World, event: &WorldEvent) -> bool
-    ensures { (w : ClusterState) → world.now ≡ view_of w → result ≡ is_falling w event.now }
+    ensures { (w : ClusterState) → world.entry.now ≡ view_of w → result ≡ is_falling w event.now }
 {
     match event {
         WorldEvent::At { moment } => *moment < world.now(),

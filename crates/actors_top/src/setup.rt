@@ -1,16 +1,15 @@
 // The settings of a cluster script, before its first event opens its world.
-ghost use Rattle.std.specs.Prelude.{◌≡◌, ◌≤◌, map};
-ghost use Rattle.part_core.specs.declared.settings.TypeSettings.{TypeSettings as Of};
+ghost use Rattle.std.specs.Prelude.{◌≡◌, ◌≤◌, [], map, OnOk};
 ghost use Rattle.cluster_model.specs.World.{opening_cluster};
 ghost use Rattle.world_run.specs.View.{view_of};
 ghost use Rattle.solo_run.specs.World.{has_depth};
 ghost use Rattle.script_text.specs.LinesTold.{setting_told};
-ghost use Rattle.actors_top.specs.Scripts.{usual_setup, settings_of};
+ghost use Rattle.actors_top.specs.Scripts.{usual_setup, settings_of, depth_set};
 ghost use Rattle.actors_top.specs.Replay.{cluster_setting};
 ghost use Rattle.actors_top.specs.SetupTold.{timed, type_depth, GivesSetting};
 
 use crate::line_end::LineEnd;
-use actor_names::{ActorType, NameError, read_actor_type};
+use actor_names::{NameError, read_actor_type};
 use part_core::{TypeList, TypeSettings};
 use script_text::Setting;
 use std::alloc::Global;
@@ -58,6 +57,18 @@ fn set_times(kinds: &mut Vec<TypeSettings>, idle_ms: u64, drain_ms: u64)
     }
 }
 
+/// Whether the type is among those.
+fn has_type(kinds: &[TypeSettings], kind: &[u8]) -> bool
+    ensures { result ≡ has_depth kind.now (map type_depth kinds.now) }
+{
+    for other in kinds {
+        if kind == other.kind.as_slice() {
+            return true;
+        }
+    }
+    false
+}
+
 impl Setup {
     /// A member has so many parts, from 1 to 16; nothing else is set.
     pub(crate) fn new(alloc: Global, parts: u8) -> Setup
@@ -71,18 +82,6 @@ impl Setup {
             idle_ms: USUAL_IDLE,
             drain_ms: USUAL_DRAIN,
         }
-    }
-
-    /// Whether a type has reentrancy on.
-    fn has(&self, kind: &[u8]) -> bool
-        ensures { result ≡ has_depth kind.now self.now.depths }
-    {
-        for other in &self.kinds {
-            if kind == other.kind.as_slice() {
-                return true;
-            }
-        }
-        false
     }
 
     /// Turns reentrancy on for a type.
@@ -115,7 +114,7 @@ impl Setup {
                 kind,
                 depth,
             } => {
-                if self.has(kind) {
+                if has_type(self.kinds.as_slice(), kind) {
                     return Err(LineEnd::Refused { column });
                 }
                 if self.add(alloc, kind, depth.value).is_err() {

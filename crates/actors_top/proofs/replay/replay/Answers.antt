@@ -18,4 +18,4 @@ returns-in-Err-Failed-clause-replays g c =
 
 pub returns-clause-replays : goal.returns-clause-replays
 returns-clause-replays g c =
-    replays_no_memory (g.I.Source.remaining c.args.input.now) (g.I.Source.remaining c.read_all.new.input) (g.W.Sink.contents c.args.output.now)
+    replays_no_memory (g.I.Source.remaining c.args.input.now) (g.I.Source.remaining c.read_all.new.input) (g.W.Sink.contents c.args.output.now) c.read_all.new.bytes.items c.in-Err-OutOfMemory.ensures.read
