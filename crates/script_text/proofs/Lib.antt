@@ -3,3 +3,4 @@ pub mod NumberLemmas
 pub mod CountLemmas
 pub mod PieceLemmas
 pub mod Late
+pub mod Rows

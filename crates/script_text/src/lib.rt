@@ -13,9 +13,13 @@ mod depth;
 mod error;
 mod first_line;
 mod line_buffer;
+#[cfg(test)]
+mod line_tests;
 mod lines;
 mod names;
 mod numbers;
+#[cfg(test)]
+mod outcome_tests;
 mod outcomes;
 mod setting;
 mod solo;
