@@ -1,6 +1,6 @@
 -- One line more of a run.
 use Rattle.std.proofs.Common.{◌≡◌, ◌+◌, ◌<◌, ◌≤◌, ℕ, List, [], ◌∷◌, ◌++◌, length, take, drop, Option, None, Some, Ok, Err, refl, sym, ap, subst, ◌∙◌, arith}
-use Rattle.std.proofs.lemmas.List.{take_at, take_all, drop_all, take-append-drop, append_assoc}
+use Rattle.std.proofs.lemmas.List.{take_at, take_all, drop_all, take-append-drop, append_assoc, append-nil}
 use Rattle.std.proofs.Math.Seq.{take-append-add}
 use Rattle.actor_ports.specs.Port.{TakesFront, WritesAll}
 use Rattle.actor_ports.specs.declared.port.PortError.TheVariants as port
@@ -150,6 +150,11 @@ written_as before after text status.Usage written = (refl, all_written before af
 written_as before after text status.SourceFault written = (refl, all_written before after text written)
 
 -- ---- writing it in pieces
+
+-- nothing was written so far
+pub nothing_yet : (before : Option (List ℕ)) → Writes before before []
+nothing_yet None = tt
+nothing_yet (Some held) = ap (λ (r : List ℕ). Some r) (sym (append-nil held))
 
 -- a text was written, and then another
 pub then_written : (before mid after : Option (List ℕ)) (written text : List ℕ) → Writes before mid written → Writes mid after text → Writes before after (written ++ text)

@@ -9,7 +9,7 @@ use Rattle.actors_top.specs.SetupTold.{timed, type_depth}
 -- other times change no depth
 pub timed_shallow : (idle drain : ℕ) (ts : List TypeSettings) → AreShallow ts → AreShallow (map (timed idle drain) ts)
 timed_shallow idle drain [] h k e l = absurd (omega arith)
-timed_shallow idle drain (t ∷ ts) h zero e l = h zero t l
+timed_shallow idle drain (t ∷ ts) h zero e l = h zero t (omega arith)
 timed_shallow idle drain (t ∷ ts) h (suc k) e l = timed_shallow idle drain ts (λ j d m. h (suc j) d (omega arith)) k e (omega arith)
 
 -- the types with the times of the settings are those of the world

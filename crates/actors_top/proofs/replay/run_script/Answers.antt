@@ -1,4 +1,4 @@
-use Rattle.std.proofs.Common.{◌++◌, ◌+◌, ℕ, List, length, sym, ap, ◌∙◌, arith}
+use Rattle.std.proofs.Common.{◌++◌, ◌+◌, ℕ, List, [], length, refl, sym, ap, ◌∙◌, arith}
 use Rattle.std.proofs.lemmas.Bool.{eqb-true}
 use Rattle.std.proofs.lemmas.List.{append_assoc, append-nil, nil_from_length}
 use Rattle.script_text.specs.Lines.{lines_of}
@@ -6,7 +6,7 @@ use Rattle.actors_top.specs.Scripts.{Unread}
 use Rattle.actors_top.specs.Replay.{ReplayRun, run_lines}
 use Rattle.actors_top.specs.ReplayTold.{WritesAs}
 use Rattle.actors_top.specs.declared.status.Status.TheVariants as status
-use Rattle.actors_top.proofs.RunLemmas.{goes_on_behind, ended_prints, then_written, then_as}
+use Rattle.actors_top.proofs.RunLemmas.{goes_on_behind, ended_prints, nothing_yet, then_written, then_as}
 use Rattle.actors_top.proofs.EndLemmas.{run_ends, piece_fault}
 use Rattle.actors_top.proofs.replay.run_script.Goals as goal
 
@@ -75,3 +75,16 @@ returns-clause-ends g c =
     let writes : WritesAs mid after waits status.Done c.write_all-2.result = rw c.as_slice-2.ensures at c.write_all-2.ensures.ends in
     run_ends all before after (written ++ waits) status.Done c.write_all-2.result (same, sym (append-nil (written ++ waits)) ∙ text)
     (then_as before mid after written waits status.Done c.write_all-2.result c.loop-rest.invariant.held writes)
+
+pub loop-rest-init : goal.loop-rest-init
+loop-rest-init g c =
+    record {
+      written = [];
+      log = Unread;
+      is_of = c.requires.opening;
+      held = nothing_yet (g.W.Sink.contents c.args.output.now);
+      text = ap (λ (t : List ℕ). t ++ (run_lines 1 Unread (lines_of c.args.script.now)).text) c.requires.empty;
+      status = refl;
+      within = omega arith;
+      faults = omega arith;
+    }
