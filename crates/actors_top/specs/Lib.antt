@@ -7,3 +7,4 @@ pub mod EndsTold
 pub mod SetupTold
 pub mod ReplayTold
 pub mod Schedule
+pub mod Drilled

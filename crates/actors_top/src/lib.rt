@@ -7,6 +7,7 @@
 #![tactic(auto)]
 
 mod cluster_script;
+mod drill;
 mod line_end;
 mod replay;
 mod schedule;
@@ -18,6 +19,7 @@ mod solo_script;
 mod status;
 #[cfg(test)]
 mod tests;
+mod text;
 mod top;
 
 pub use status::Status;
