@@ -9,7 +9,7 @@ use crate::text::{push_number, push_text};
 use actor_ports::{PortError, Sink};
 use command_words::DrillWords;
 use std::alloc::{AllocError, Global};
-use world_drill::{DrillCounts, drill_cluster};
+use world_drill::DrillCounts;
 
 /// Appends the lines of the counts.
 fn push_counts(text: &mut Vec<u8>, counts: &DrillCounts) -> Result<(), AllocError>
@@ -31,7 +31,7 @@ pub(crate) fn drill<W: Sink>(alloc: Global, words: &DrillWords, output: &mut W) 
     ensures honest { DrillsHonestly (told_drill words.now) }
     ensures cause { result ≡ Status.SinkFault → W.write_faults output.old < W.write_faults output.new }
 {
-    let Ok(counts) = drill_cluster(alloc, words.seed, words.steps) else {
+    let Ok(counts) = world_drill::drill(alloc, words.seed, words.steps) else {
         return Status::OutOfMemory;
     };
     let mut text = Vec::new(alloc);

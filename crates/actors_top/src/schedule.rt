@@ -1,5 +1,5 @@
 // The command that prints the moments of a schedule.
-ghost use Rattle.std.specs.Prelude.{◌≡◌, ◌≢◌, ◌<◌, ◌∷◌, ◌++◌, [], ℕ, suc, codes, decimal, string_bytes, OnOk, IfErr};
+ghost use Rattle.std.specs.Prelude.{◌≡◌, ◌≢◌, ◌<◌, ◌∷◌, ◌++◌, [], ℕ, suc, OnOk, IfErr};
 ghost use Rattle.schedule_text.specs.declared.error.ScheduleError.TheVariants as fault;
 ghost use Rattle.schedule_text.specs.Firing.{firings_from, firings_by, firing_list};
 ghost use Rattle.command_words.specs.Told.{told_schedule};
