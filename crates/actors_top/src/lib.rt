@@ -7,7 +7,11 @@
 #![tactic(auto)]
 
 mod cluster_script;
+#[cfg(test)]
+mod cluster_tests;
 mod drill;
+#[cfg(test)]
+mod drill_tests;
 mod line_end;
 mod replay;
 mod schedule;
