@@ -1,5 +1,5 @@
 -- Worked lines and outcomes, as tests of the definitions: each closes by computing.
-use Rattle.std.proofs.Common.{◌≡◌, List, [], ◌∷◌, None, Some, Ok, Err, true, false, refl}
+use Rattle.std.proofs.Common.{◌≡◌, [], ◌∷◌, None, Some, Ok, Err, true, false, refl}
 use Rattle.std.specs.Prelude.{codes}
 use Rattle.std.specs.Fmt.{digits}
 use Rattle.actor_names.specs.declared.actor_key.ActorKey.{ActorKey}

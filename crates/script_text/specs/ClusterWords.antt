@@ -7,7 +7,7 @@ use Rattle.actor_names.specs.Names.{node_fault, actor_type_fault, before_slash, 
 use Rattle.actor_names.specs.Numerals.{member_fault}
 use Rattle.actor_names.specs.Decimals.{number_of}
 use Rattle.script_text.specs.Lines.{Word}
-use Rattle.script_text.specs.Reading.{◌>>=◌, number_in, some_number, next_as}
+use Rattle.script_text.specs.Reading.{number_in, some_number, next_as}
 
 abbrev pub node_in : List ℕ → Option (List ℕ)
 node_in text = if is_none (node_fault text) then Some text else None

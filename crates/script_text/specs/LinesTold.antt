@@ -1,5 +1,6 @@
 -- What the lines that the program has read tell.
 use Rattle.std.specs.Prelude.{◌≡◌, ◌+◌, ℕ, List, [], length, true, Option, None, Some, Result, Ok, Err}
+use Rattle.actor_names.specs.Names.{actor_type_fault}
 use Rattle.world_events.specs.Solo.{event_told}
 use Rattle.script_text.specs.Reading.{Setting, Reentrant, Idle, Drain}
 use Rattle.script_text.specs.SoloLines as solo
@@ -43,10 +44,16 @@ Reads {X} (Ok x) reading = reading ≡ Ok x
 Reads {X} (Err (BadColumn column)) reading = reading ≡ Err column
 Reads {X} (Err OutOfMemory) reading = (x : X) × (reading ≡ Ok x)
 
--- an event is within the limits of a world
+-- the type of a setting is one
+abbrev pub SettingIsSound : SettingRead → Type 0
+SettingIsSound (setting.Reentrant column kind depth) = actor_type_fault kind.now ≡ None
+SettingIsSound (setting.Idle ms) = Unit {0}
+SettingIsSound (setting.Drain ms) = Unit {0}
+
+-- an event is within the limits of a world, and a setting names a type
 abbrev pub LineIsWithinLimits : ClusterRead → Type 0
 LineIsWithinLimits clusterread.Blank = Unit {0}
-LineIsWithinLimits (clusterread.Sets setting) = Unit {0}
+LineIsWithinLimits (clusterread.Sets setting) = SettingIsSound setting
 LineIsWithinLimits (clusterread.Does column event) = IsWithinLimits event
 
 -- the pieces that are left of a text

@@ -1,9 +1,9 @@
 // The lines that set what holds for a whole script, and what the lines of both kinds have in common.
 ghost use Rattle.std.specs.Prelude.{◌≡◌, None, IfOk, option_copied};
 ghost use Rattle.std.specs.Option.{ForSome};
-ghost use Rattle.actor_names.specs.Names.{key_fault, chain_id_fault};
+ghost use Rattle.actor_names.specs.Names.{actor_type_fault, key_fault, chain_id_fault};
 ghost use Rattle.script_text.specs.Told.{Gives, GivesValue, Ends, words_left};
-ghost use Rattle.script_text.specs.LinesTold.{setting_told};
+ghost use Rattle.script_text.specs.LinesTold.{setting_told, SettingIsSound};
 ghost use Rattle.script_text.specs.Reading.{next_as, next_column, only_as, number_in, depth_in, key_in, kind_in, chain_in, chain_clause, reentrant_line, setting_by, setting_unless};
 
 use crate::depth::Depth;
@@ -77,7 +77,8 @@ pub(crate) fn next_key<'a>(past: u64, words: Words<'a>) -> Result<(&'a [u8], Wor
 
 /// The next word as an actor type.
 fn next_kind<'a>(past: u64, words: Words<'a>) -> Result<(&'a [u8], Words<'a>), u64>
-    ensures { Gives (λ kind. kind.now) result (next_as kind_in past (words_left words.entry)) }
+    ensures sound { IfOk result (λ r. actor_type_fault r.0.now ≡ None) }
+    ensures reads { Gives (λ kind. kind.now) result (next_as kind_in past (words_left words.entry)) }
 {
     let (word, words) = words.next().ok_or(past)?;
     match actor_type_fault(word.text) {
@@ -139,7 +140,8 @@ pub(crate) fn only_number(past: u64, words: Words<'_>) -> Result<u64, u64>
 
 /// Behind `reentrant`: a type and a depth.
 fn reentrant_line<'a>(past: u64, words: Words<'a>) -> Result<Setting<'a>, u64>
-    ensures { GivesValue setting_told result (reentrant_line past (words_left words.entry)) }
+    ensures sound { IfOk result (λ setting. SettingIsSound setting) }
+    ensures reads { GivesValue setting_told result (reentrant_line past (words_left words.entry)) }
 {
     let column = next_column(past, words);
     let (kind, words) = next_kind(past, words)?;
@@ -154,7 +156,8 @@ fn reentrant_line<'a>(past: u64, words: Words<'a>) -> Result<Setting<'a>, u64>
 
 /// A setting, by its first word.
 fn setting_by<'a>(past: u64, first: &[u8], words: Words<'a>) -> Result<Setting<'a>, u64>
-    ensures { GivesValue setting_told result (setting_by past first.now (words_left words.entry)) }
+    ensures sound { IfOk result (λ setting. SettingIsSound setting) }
+    ensures reads { GivesValue setting_told result (setting_by past first.now (words_left words.entry)) }
 {
     if first == b"reentrant".as_slice() {
         return reentrant_line(past, words);
@@ -177,7 +180,8 @@ pub(crate) fn setting_unless<'a>(
     first: &[u8],
     words: Words<'a>,
 ) -> Result<Setting<'a>, u64>
-    ensures { GivesValue setting_told result (setting_unless late past first.now (words_left words.entry)) }
+    ensures sound { IfOk result (λ setting. SettingIsSound setting) }
+    ensures reads { GivesValue setting_told result (setting_unless late past first.now (words_left words.entry)) }
 {
     if late {
         return Err(1);

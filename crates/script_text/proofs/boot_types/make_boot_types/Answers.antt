@@ -1,7 +1,6 @@
 use Rattle.std.proofs.Common.{◌≡◌, append-nil, arith}
 use Rattle.std.proofs.lemmas.Grind.{common_steps}
 use Rattle.script_text.specs.ClusterWords.{pieces_of}
-use Rattle.script_text.specs.ClusterLines.{AreBootTypes}
 use Rattle.script_text.proofs.PieceLemmas.{boot_types_sound}
 use Rattle.script_text.proofs.boot_types.make_boot_types.Goals as goal
 
