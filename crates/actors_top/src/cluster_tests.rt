@@ -1,29 +1,6 @@
 // Worked cluster scripts: what each prints comes from another program.
-use crate::{Outside, run};
-use actor_ports::{MemSink, MemSource};
-use std::alloc::Global;
-use std::process::Abort;
+use crate::tests::prints;
 use std::test::Fail;
-
-/// The replay of the script ends with this status, and prints this.
-fn prints(
-    rt: &impl Abort,
-    alloc: Global,
-    script: &str,
-    status: u8,
-    output: &str,
-) -> Result<(), Fail> {
-    let mut out = Outside {
-        input: MemSource::new(alloc, script.as_bytes(), &[])?,
-        output: MemSink::new(alloc, &[])?,
-    };
-    let mut words = Vec::new(alloc);
-    words.push(String::from_str(alloc, "replay")?)?;
-    let ended = run(alloc, words.as_slice(), &mut out);
-    assert!(rt; ended == status, "{script}");
-    assert!(rt; out.output.bytes() == output.as_bytes(), "{script}");
-    Ok(())
-}
 
 #[test]
 fn one_member_goes_through_handshake(rt: HostRuntime) -> Result<(), Fail> {
