@@ -1,5 +1,5 @@
 -- What a line does to the program's script is what it does to the log of the lines so far.
-use Rattle.std.proofs.Common.{◌≡◌, ℕ, Bool, true, false, List, [], ◌∷◌, ◌++◌, Option, None, Some, Ok, Err, refl, sym, ap, subst, ◌∙◌}
+use Rattle.std.proofs.Common.{◌≡◌, ℕ, Bool, true, false, List, [], ◌∷◌, ◌++◌, Option, None, Some, Ok, Err, inl, inr, refl, sym, ap, subst, ◌∙◌}
 use Rattle.std.specs.Prelude.{Result}
 use Rattle.part_core.specs.Part.{ring_owner}
 use Rattle.world_events.specs.Solo.{SoloEvent}
@@ -7,19 +7,22 @@ use Rattle.world_events.specs.declared.event.WorldEvent.{WorldEvent}
 use Rattle.world_events.specs.declared.outcome.Outcome.{Outcome}
 use Rattle.world_events.specs.declared.outcome.TurnOutcome.{TurnOutcome}
 use Rattle.world_events.specs.declared.error.WorldError.{WorldError}
+use Rattle.world_events.specs.declared.error.WorldError.TheVariants.{Spent, Dishonest, WrongNumber, OutOfMemory}
 use Rattle.solo_run.specs.World.{SoloState, TypeDepth, solo_step, refusal_of}
 use Rattle.solo_run.specs.Runs.{after_event, run_from, solo_run}
 use Rattle.solo_run.specs.Steps.{GivesOutcome}
 use Rattle.cluster_model.specs.World.{ClusterState, opening_cluster, key_part, cluster_step, cluster_run}
-use Rattle.world_run.specs.View.{WorldView, view_of}
+use Rattle.world_run.specs.Worlds.{WorldView, view_of, GivesStep}
 use Rattle.script_text.specs.Outcomes.{turn_text, outcome_text}
 use Rattle.script_text.specs.Reading.{Setting}
 use Rattle.script_text.specs.SoloLines as solo
 use Rattle.script_text.proofs.Late.{late_solo_sets_nothing}
 use Rattle.actors_top.specs.Scripts.{Setup, SoloLog, ClusterLog, any_of, settings_of}
-use Rattle.actors_top.specs.Replay.{LineStep, solo_does, solo_setting, solo_event, cluster_after, cluster_event, cluster_event_step, is_falling}
+use Rattle.actors_top.specs.EndsTold.{EndsAt}
+use Rattle.actors_top.specs.Replay.{LineStep, Stops, refused_at, solo_does, solo_setting, solo_event, cluster_after, cluster_event, cluster_event_step, is_falling}
 use Rattle.actors_top.specs.ReplayTold.{GoesTo, GivesLine}
 use Rattle.actors_top.specs.declared.line_end.LineEnd.{LineEnd}
+use Rattle.actors_top.specs.declared.line_end.LineEnd.TheVariants as ending
 use Rattle.actors_top.specs.declared.script.Script.{Script}
 use Rattle.actors_top.specs.declared.script.Script.TheVariants as script
 
@@ -65,12 +68,48 @@ cluster_run-append : (w : ClusterState) (xs ys : List WorldEvent) → cluster_ru
 cluster_run-append w [] ys = refl
 cluster_run-append w (x ∷ xs) ys = cluster_run-append (cluster_step ring_owner key_part w x).world xs ys
 
+-- an event that is no falling moment happens
+happens : (s : Setup) (events : List WorldEvent) (column : ℕ) (event : WorldEvent) (result : Result Outcome WorldError) → is_falling (cluster_after s events) event ≡ false
+    → (cluster_step ring_owner key_part (cluster_after s events) event).outcome ≡ result → cluster_event_step s events column event ≡ cluster_event s events column event result
+happens s events column event result rising is = rw (rising, is) refl
+
 -- an event that is no falling moment, and isn't refused
-pub cluster_happened : (s : Setup) (events : List WorldEvent) (column : ℕ) (event : WorldEvent) (new : WorldView) (outcome : Outcome) (before after : List ℕ)
+cluster_done : (s : Setup) (events : List WorldEvent) (column : ℕ) (event : WorldEvent) (new : WorldView) (outcome : Outcome) (before after : List ℕ)
     → is_falling (cluster_after s events) event ≡ false → (cluster_step ring_owner key_part (cluster_after s events) event).outcome ≡ Ok outcome
     → new ≡ view_of (cluster_step ring_owner key_part (cluster_after s events) event).world → after ≡ before ++ outcome_text outcome
     → GoesTo (cluster_event_step s events column event) (script.Cluster new) before after
-cluster_happened s events column event new outcome before after rising happens world added =
+cluster_done s events column event new outcome before after rising is world added =
     let one = sym (cluster_run-append (opening_cluster (settings_of s)) events (event ∷ [])) in
     let goes : GoesTo (cluster_event s events column event (Ok outcome)) (script.Cluster new) before after = ((any_more events event, world ∙ ap view_of one), added) in
-    rw (rising, happens) goes
+    subst (λ (step : LineStep). GoesTo step (script.Cluster new) before after) (sym (happens s events column event (Ok outcome) rising is)) goes
+
+ok_same : (a b : Outcome) → ◌≡◌ {A = Result Outcome WorldError} (Ok a) (Ok b) → a ≡ b
+ok_same a b e = cc
+
+pub cluster_happened : (s : Setup) (events : List WorldEvent) (column : ℕ) (event : WorldEvent) (old new : WorldView) (result : Result Outcome WorldError) (outcome : Outcome) (before after : List ℕ)
+    → is_falling (cluster_after s events) event ≡ false → GivesStep result old (cluster_step ring_owner key_part (cluster_after s events) event) new → result ≡ Ok outcome → after ≡ before ++ outcome_text outcome
+    → GoesTo (cluster_event_step s events column event) (script.Cluster new) before after
+cluster_happened s events column event old new result outcome before after rising gives is added = elim gives [
+  | inl h ↦ absurd (let bad : ◌≡◌ {A = Result Outcome WorldError} (Ok outcome) (Err OutOfMemory) = sym is ∙ h.0 in cc)
+  | inr h ↦ cluster_done s events column event new outcome before after rising (sym h.0 ∙ is) h.1 added
+]
+
+-- a refused event
+refused : (s : Setup) (events : List WorldEvent) (column : ℕ) (event : WorldEvent) (old new : WorldView) (error : WorldError) → (error ≡ OutOfMemory → ⊥)
+    → is_falling (cluster_after s events) event ≡ false → GivesStep (Err error) old (cluster_step ring_owner key_part (cluster_after s events) event) new
+    → cluster_event_step s events column event ≡ Stops (refused_at column error)
+refused s events column event old new error not rising gives = elim gives [
+  | inl h ↦ absurd (not (let e = h.0 in cc))
+  | inr h ↦ happens s events column event (Err error) rising (sym h.0)
+]
+
+at_end : {X : Type 0} (step : LineStep) (column : ℕ) (end : LineEnd) (new : Script) (text : List ℕ) → step ≡ Stops column → end ≡ ending.Refused column → GivesLine {X = X} (Err end) step new text text
+at_end step column end new text stops is = subst (λ (e : LineEnd). GivesLine (Err e) step new text text) (sym is) (stops, refl)
+
+pub cluster_refused : {X : Type 0} (s : Setup) (events : List WorldEvent) (column : ℕ) (event : WorldEvent) (old new : WorldView) (error : WorldError) (end : LineEnd) (text : List ℕ)
+    → is_falling (cluster_after s events) event ≡ false → GivesStep (Err error) old (cluster_step ring_owner key_part (cluster_after s events) event) new → EndsAt error column end
+    → GivesLine {X = X} (Err end) (cluster_event_step s events column event) (script.Cluster new) text text
+cluster_refused s events column event old new OutOfMemory end text rising gives ends = subst (λ (e : LineEnd). GivesLine (Err e) (cluster_event_step s events column event) (script.Cluster new) text text) (sym ends) refl
+cluster_refused s events column event old new (Spent count) end text rising gives ends = at_end _ _ end _ text (refused s events column event old new (Spent count) (λ e. cc) rising gives) ends
+cluster_refused s events column event old new (Dishonest member) end text rising gives ends = at_end _ _ end _ text (refused s events column event old new (Dishonest member) (λ e. cc) rising gives) ends
+cluster_refused s events column event old new (WrongNumber next) end text rising gives ends = at_end _ _ end _ text (refused s events column event old new (WrongNumber next) (λ e. cc) rising gives) ends

@@ -3,7 +3,7 @@ use Rattle.std.specs.Prelude.{◌≡◌, ◌≤◌, ◌++◌, ℕ, List, [], len
 use Rattle.actor_ports.specs.declared.port.PortError.{PortError}
 use Rattle.actor_ports.specs.declared.port.PortError.TheVariants as port
 use Rattle.solo_run.specs.Runs.{solo_run}
-use Rattle.world_run.specs.View.{WorldView, view_of}
+use Rattle.world_run.specs.Worlds.{WorldView, view_of}
 use Rattle.script_text.specs.Lines.{lines_of}
 use Rattle.script_text.specs.Outcomes.{bad_line_text}
 use Rattle.actors_top.specs.Scripts.{Setup, ScriptLog, Unread, SoloLog, ClusterLog, any_of}

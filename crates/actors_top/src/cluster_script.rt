@@ -2,8 +2,7 @@
 ghost use Rattle.std.specs.Prelude.{◌≡◌, List};
 ghost use Rattle.world_events.specs.declared.event.WorldEvent.{WorldEvent as Event};
 ghost use Rattle.cluster_model.specs.World.{ClusterState};
-ghost use Rattle.world_run.specs.View.{view_of};
-ghost use Rattle.script_text.specs.ClusterLines.{IsWithinLimits};
+ghost use Rattle.world_run.specs.Worlds.{view_of};
 ghost use Rattle.actors_top.specs.Scripts.{Setup};
 ghost use Rattle.actors_top.specs.Replay.{cluster_after, cluster_event_step, is_falling};
 ghost use Rattle.actors_top.specs.ReplayTold.{GivesLine};
@@ -17,7 +16,7 @@ use world_run::World;
 
 /// Whether the event sets a moment below the present one.
 fn is_falling(world: &World, event: &WorldEvent) -> bool
-    ensures { (w : ClusterState) → world.entry.now ≡ view_of w → result ≡ is_falling w event.now }
+    ensures { (w : ClusterState) → world.now ≡ view_of w → result ≡ is_falling w event.now }
 {
     match event {
         WorldEvent::At { moment } => *moment < world.now(),
@@ -33,7 +32,6 @@ pub(crate) fn happen(
     event: WorldEvent,
     transcript: &mut Transcript,
 ) -> Result<(), LineEnd>
-    requires { IsWithinLimits event }
     ensures { (s : Setup) (events : List Event) → world.old ≡ view_of (cluster_after s events)
         → GivesLine result (cluster_event_step s events column event) (Cluster world.new) transcript.old transcript.new }
 {

@@ -1,7 +1,7 @@
 // The settings of a cluster script, before its first event opens its world.
 ghost use Rattle.std.specs.Prelude.{◌≡◌, ◌≤◌, [], map, OnOk};
 ghost use Rattle.cluster_model.specs.World.{opening_cluster};
-ghost use Rattle.world_run.specs.View.{view_of};
+ghost use Rattle.world_run.specs.Worlds.{view_of};
 ghost use Rattle.solo_run.specs.World.{has_depth};
 ghost use Rattle.script_text.specs.LinesTold.{setting_told};
 ghost use Rattle.actors_top.specs.Scripts.{usual_setup, settings_of, depth_set};

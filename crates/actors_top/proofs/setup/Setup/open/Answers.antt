@@ -2,7 +2,7 @@ use Rattle.std.proofs.Common.{◌≡◌, List, sym, ap, subst, ◌∙◌, map}
 use Rattle.part_core.specs.declared.settings.TypeSettings.{TypeSettings}
 use Rattle.part_core.specs.Settings.{AreShallow}
 use Rattle.cluster_model.specs.World.{opening_cluster}
-use Rattle.world_run.specs.View.{view_of}
+use Rattle.world_run.specs.Worlds.{view_of}
 use Rattle.actors_top.specs.Scripts.{Setup, settings_of}
 use Rattle.actors_top.specs.SetupTold.{timed, type_depth}
 use Rattle.actors_top.proofs.SetupLemmas.{timed_shallow, timed_types}
