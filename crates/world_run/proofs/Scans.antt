@@ -247,3 +247,16 @@ stopped_receipt_is p = go p.stage
         drained : (b : Bool) → is_stopped_stage (cond b seen.Drained seen.Draining) ≡ false
         drained true = refl
         drained false = refl
+
+-- ---- one part more of those that are looked at
+
+pub segment-next : (ps : List PartState) (at count : ℕ) (p : PartState) → slice_get ps at ≡ Some p → count ≢ 0 → segment ps at count ≡ p ∷ segment ps (at + 1) (count - 1)
+segment-next ps at zero p e some = absurd (some refl)
+segment-next ps at (suc n) p e some =
+    let next : suc at ≡ at + 1 = omega arith in
+    let less : n ≡ suc n - 1 = omega arith in
+    (λ i. with_found (e i) (segment ps (next i) (less i)))
+
+pub segment-none : (ps : List PartState) (at count : ℕ) → count ≡ 0 → segment ps at count ≡ []
+segment-none ps at zero e = refl
+segment-none ps at (suc n) e = absurd (omega arith)

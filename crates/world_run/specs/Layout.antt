@@ -5,6 +5,9 @@ use Rattle.turn_core.specs.CellSound.{In}
 use Rattle.part_core.specs.Keys.{same_member}
 use Rattle.part_core.specs.Part.{PartState, is_stopped, ring_owner}
 use Rattle.part_core.specs.Sound.{IsPartSound}
+use Rattle.part_core.specs.Receipts.{ReceiptState}
+use Rattle.member_core.specs.Acks.{other_place}
+use Rattle.cluster_model.specs.World.{key_part, was_booted, receipts_of}
 
 -- whose part it is, and its number
 pub record PartTag : Type 0 where
@@ -69,3 +72,10 @@ are_all_stopped (p ∷ ps) = is_stopped p.stage && are_all_stopped ps
 abbrev pub counted_from : ℕ → ℕ → List ℕ
 counted_from n zero = []
 counted_from n (suc k) = n ∷ counted_from (suc n) k
+
+-- the receipts of a member that was booted
+pub record AreReceipts (ps : List PartState) (m : Member) (rs : List ReceiptState) : Type 0 where
+  pub booted : was_booted ps m ≡ true
+  pub all : rs ≡ receipts_of ring_owner key_part ps m
+  pub own : other_place m 0 rs ≡ None
+  pub some : 0 < length rs
