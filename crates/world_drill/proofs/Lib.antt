@@ -1,0 +1,3 @@
+mod Rows
+pub mod Losses
+pub mod Honest
