@@ -1,3 +1,5 @@
 mod Rows
 pub mod Losses
 pub mod Honest
+pub mod Waits
+pub mod Begins
