@@ -1,5 +1,5 @@
--- Over every list of events no more turns have begun than calls were asked.
-use Rattle.std.proofs.Common.{◌≡◌, ℕ, ◌+◌, ◌≤◌, List, [], ◌∷◌, ◌++◌, length, set, Option, None, Some, refl, sym, ap, ◌∙◌, arith, length-append}
+-- Over every list of events no more turns begin than there are events: each asks one call at most, and a call begins once.
+use Rattle.std.proofs.Common.{◌≡◌, ℕ, ◌+◌, ◌≤◌, List, [], ◌∷◌, ◌++◌, length, set, Option, None, Some, refl, ap, arith}
 use Rattle.std.specs.Prelude.{zero, suc, nat_le, ◌==◌, slice_get}
 use Rattle.std.proofs.lemmas.Bool.{cond_both}
 use Rattle.actor_names.specs.declared.member.Member.{Member}
@@ -24,7 +24,7 @@ use Rattle.cluster_model.proofs.Histories.{some_same}
 use Rattle.cluster_model.proofs.Lines.{IsSafeWorld, AreQuietKept, quiet_line}
 use Rattle.cluster_model.proofs.Named.{ask_heard}
 use Rattle.cluster_model.proofs.Worlds.{step_safe, safe_kept, new_world_safe}
-use Rattle.world_drill.proofs.Waits.{begun, waits_in, asked_by, step_begins}
+use Rattle.world_drill.proofs.Waits.{waits_in, asked_by, step_begins}
 
 -- the calls that wait in all parts
 abbrev waiting_in : List PartState → ℕ
@@ -51,30 +51,31 @@ one_asked key zero chain now = refl
 one_asked key (suc least) chain now = refl
 
 module _ (owner : PlacementTable → ActorKey → Option HostInfo) (part_of : ActorKey → ℕ → ℕ) where
-  record BegunWereAsked (w : ClusterState) : Type 0 where
+  -- so many turns have begun at most, if those that wait are counted with them
+  record BeganAtMost (n : ℕ) (w : ClusterState) : Type 0 where
     safe : IsSafeWorld owner part_of w
-    few : begun_turns w.marks + waiting_in w.parts ≤ length w.calls
+    few : begun_turns w.marks + waiting_in w.parts ≤ n
 
-  few_step : (w : ClusterState) (n : ℕ) (p : PartState) (e : PartEvent) → BegunWereAsked w → slice_get w.parts n ≡ Some p
-      → begun_turns (w.marks ++ tagged p.member (part_step owner p e).marks) + waiting_in (set w.parts n (part_step owner p e).part) ≤ length w.calls + asked_by e
-  few_step w n p e t at =
+  few_step : (n : ℕ) (w : ClusterState) (at : ℕ) (p : PartState) (e : PartEvent) → BeganAtMost n w → slice_get w.parts at ≡ Some p
+      → begun_turns (w.marks ++ tagged p.member (part_step owner p e).marks) + waiting_in (set w.parts at (part_step owner p e).part) ≤ n + asked_by e
+  few_step n w at p e t found =
       let s = part_step owner p e in
-      let a = step_begins owner p e (t.safe.safe.parts p (In-slice_get w.parts n p at)).sound in
-      let b = waiting_in-set w.parts n p s.part at in
+      let a = step_begins owner p e (t.safe.safe.parts p (In-slice_get w.parts at p found)).sound in
+      let b = waiting_in-set w.parts at p s.part found in
       let c = begun_turns-append w.marks (tagged p.member s.marks) in
       let f = begun_turns-tagged p.member s.marks in
       let h = t.few in
       omega arith
 
-  few_kept : AreQuietKept owner part_of BegunWereAsked
-  few_kept =
+  few_kept : (n : ℕ) → AreQuietKept owner part_of (BeganAtMost n)
+  few_kept n =
       let kept = safe_kept owner part_of in
       record {
         safe = λ w t. t.safe;
         other = λ w now events t. record { safe = kept.other w now w.calls events t.safe; few = t.few };
-        step = λ w n p e t at heard quiet. record {
-          safe = step_safe owner part_of w n p e t.safe at heard;
-          few = (let a = few_step w n p e t at in let z = none_asked e quiet in omega arith);
+        step = λ w at p e t found heard quiet. record {
+          safe = step_safe owner part_of w at p e t.safe found heard;
+          few = (let a = few_step n w at p e t found in let z = none_asked e quiet in omega arith);
         };
         ask = λ w r t may booted. record { safe = kept.ask w r t.safe may booted; few = t.few };
         answer = λ w r t i. record { safe = kept.answer w r t.safe i; few = t.few };
@@ -86,43 +87,44 @@ module _ (owner : PlacementTable → ActorKey → Option HostInfo) (part_of : Ac
         };
       }
 
-  abbrev Ends : WorldStep → Type 0
-  Ends s = BegunWereAsked s.world
+  abbrev Ends : ℕ → WorldStep → Type 0
+  Ends n s = BeganAtMost n s.world
 
-  few_call : (w : ClusterState) (number : ℕ) (key : ActorKey) (least : ℕ) (chain : Option (List ℕ)) (o : Option ℕ) → BegunWereAsked w → Ends (world.call_at_place owner part_of w number (ask_of key least chain w.now) o)
-  few_call w number key least chain None t = t
-  few_call w number key least chain (Some n) t = go (slice_get w.parts n) refl
+  one_more : (n : ℕ) (w : ClusterState) → BeganAtMost n w → BeganAtMost (suc n) w
+  one_more n w t = record { safe = t.safe; few = (let h = t.few in omega arith) }
+
+  few_call : (n : ℕ) (w : ClusterState) (number : ℕ) (key : ActorKey) (least : ℕ) (chain : Option (List ℕ)) (o : Option ℕ) → BeganAtMost n w → Ends (suc n) (world.call_at_place owner part_of w number (ask_of key least chain w.now) o)
+  few_call n w number key least chain None t = one_more n w t
+  few_call n w number key least chain (Some at) t = go (slice_get w.parts at) refl
     where
-      go : (found : Option PartState) → slice_get w.parts n ≡ found → Ends (world.call_of_part owner part_of w number n (ask_of key least chain w.now) found)
-      go None at = t
-      go (Some p) at =
+      go : (found : Option PartState) → slice_get w.parts at ≡ found → Ends (suc n) (world.call_of_part owner part_of w number at (ask_of key least chain w.now) found)
+      go None is = one_more n w t
+      go (Some p) is =
           let e = ask_of key least chain w.now in
           record {
-            safe = (safe_kept owner part_of).other (world.with_step owner part_of w n p (part_step owner p e)) w.now _ w.events (step_safe owner part_of w n p e t.safe at (ask_heard w.messages p.member key least chain w.now));
-            few = (
-                let a = few_step w n p e t at in
-                let b = one_asked key least chain w.now in
-                let c = length-append w.calls (place_of_call n (part_step owner p e).reply ∷ []) in
-                omega arith);
+            safe = (safe_kept owner part_of).other (world.with_step owner part_of w at p (part_step owner p e)) w.now _ w.events (step_safe owner part_of w at p e t.safe is (ask_heard w.messages p.member key least chain w.now));
+            few = (let a = few_step n w at p e t is in let b = one_asked key least chain w.now in omega arith);
           }
 
-  few_line : (w : ClusterState) (e : WorldEvent) → BegunWereAsked w → Ends (world.happens owner part_of w e)
-  few_line w (lines.Call number m key least chain) t =
-      cond_both (number == suc (length w.calls)) _ _ Ends (λ _. few_call w number key least chain (world.key_place_of owner part_of w m key) t) (λ _. t)
-  few_line w e t = quiet_line owner part_of BegunWereAsked few_kept w e tt t
+  few_line : (n : ℕ) (w : ClusterState) (e : WorldEvent) → BeganAtMost n w → Ends (suc n) (world.happens owner part_of w e)
+  few_line n w (lines.Call number m key least chain) t =
+      cond_both (number == suc (length w.calls)) _ _ (Ends (suc n)) (λ _. few_call n w number key least chain (world.key_place_of owner part_of w m key) t) (λ _. one_more n w t)
+  few_line n w e t = one_more n _ (quiet_line owner part_of (BeganAtMost n) (few_kept n) w e tt t)
 
-  few_event : (w : ClusterState) (e : WorldEvent) → BegunWereAsked w → Ends (world.cluster_step owner part_of w e)
-  few_event w e t =
-      cond_both (nat_le most_events w.events) _ _ Ends (λ _. t)
-      (λ _. let s = world.happens owner part_of w e in few_kept.other s.world s.world.now (s.world.events + world.weight_of s.outcome) (few_line w e t))
+  few_event : (n : ℕ) (w : ClusterState) (e : WorldEvent) → BeganAtMost n w → Ends (suc n) (world.cluster_step owner part_of w e)
+  few_event n w e t =
+      cond_both (nat_le most_events w.events) _ _ (Ends (suc n)) (λ _. one_more n w t)
+      (λ _. let s = world.happens owner part_of w e in (few_kept (suc n)).other s.world s.world.now (s.world.events + world.weight_of s.outcome) (few_line n w e t))
 
-  few_run : (w : ClusterState) (es : List WorldEvent) → BegunWereAsked w → BegunWereAsked (world.cluster_run owner part_of w es)
-  few_run w [] t = t
-  few_run w (e ∷ es) t = few_run (world.cluster_step owner part_of w e).world es (few_event w e t)
+  few_run : (n : ℕ) (w : ClusterState) (es : List WorldEvent) → BeganAtMost n w → BeganAtMost (n + length es) (world.cluster_run owner part_of w es)
+  few_run n w [] t = record { safe = t.safe; few = (let h = t.few in omega arith) }
+  few_run n w (e ∷ es) t =
+      let more = few_run (suc n) (world.cluster_step owner part_of w e).world es (few_event n w e t) in
+      record { safe = more.safe; few = (let h = more.few in omega arith) }
 
   -- over every list of events
-  pub run_begun : (settings : WorldSettings) (es : List WorldEvent) → (let w = world.cluster_run owner part_of (world.opening_cluster settings) es in begun_turns w.marks ≤ length w.calls)
+  pub run_begun : (settings : WorldSettings) (es : List WorldEvent) → begun_turns (world.cluster_run owner part_of (world.opening_cluster settings) es).marks ≤ length es
   run_begun settings es =
-      let t = few_run (world.opening_cluster settings) es (record { safe = new_world_safe owner part_of settings; few = omega arith }) in
+      let t = few_run 0 (world.opening_cluster settings) es (record { safe = new_world_safe owner part_of settings; few = omega arith }) in
       let h = t.few in
       omega arith

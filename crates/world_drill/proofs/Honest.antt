@@ -1,10 +1,8 @@
 -- No event of a drill declares a member lost that runs: only `lost` can, and it stands behind the stops of both parts.
-use Rattle.std.proofs.Common.{◌≡◌, ◌⊎◌, ℕ, Bool, true, false, ◌+◌, ◌||◌, cond, List, [], ◌∷◌, ◌++◌, Option, None, Some, refl, sym, ap, ◌∙◌, subst, inl, inr}
-use Rattle.std.specs.Prelude.{zero, suc, nat_le, nat_lt, length, slice_get, ◌==◌, ◌%◌, ◌/◌, ◌*◌, ◌-◌, min, Result, Ok, Err, codes, decimal, if◌then◌else◌}
-use Rattle.std.specs.List.{list_any}
+use Rattle.std.proofs.Common.{◌≡◌, ◌⊎◌, ℕ, Bool, true, false, ◌+◌, ◌||◌, cond, List, [], ◌∷◌, ◌++◌, Option, None, Some, refl, ap, inl, inr}
+use Rattle.std.specs.Prelude.{zero, suc, nat_le, nat_lt, length, slice_get, ◌==◌, ◌%◌, ◌/◌, ◌-◌, min, Result, Ok, Err, codes, decimal, if◌then◌else◌}
 use Rattle.std.proofs.lemmas.Bool.{cond_both}
 use Rattle.actor_names.specs.declared.member.Member.{Member}
-use Rattle.place_table.specs.declared.host.HostInfo.{HostInfo}
 use Rattle.part_core.specs.declared.event.PartEvent.{PartEvent}
 use Rattle.part_core.specs.declared.event.PartEvent.TheVariants as events
 use Rattle.part_core.specs.declared.event.PartReply.{PartReply}
@@ -21,9 +19,10 @@ use Rattle.cluster_model.specs.Messages.{Message, Asks, Tells, told_event}
 use Rattle.cluster_model.specs.World as world
 use Rattle.cluster_model.specs.World.{ClusterState, CallPlace, key_part, cluster_step, cluster_run, outcomes, most_events}
 use Rattle.cluster_model.proofs.Lines.{run_kept, step_kept}
+use Rattle.world_run.specs.Looks.{request_at}
 use Rattle.world_drill.specs.Drill as drill
 use Rattle.world_drill.specs.Drill.{AreHonest, is_dishonest, drill_settings, drill_events, draw_of, first_of, second_of, third_of, events_from, step_events}
-use Rattle.world_drill.proofs.Losses.{HasTwoEach, two_kept, new_two, IsStopped, stop_stops, stop_keeps, both_stopped}
+use Rattle.world_drill.proofs.Losses.{HasTwoEach, two_kept, new_two, stop_stops, stop_keeps, both_stopped}
 
 -- ---- events that can't be dishonest
 
@@ -167,22 +166,28 @@ honest_boot : (w : ClusterState) (a : ℕ) → AreHonest w (drill.boot_of w a)
 honest_boot w a = cond_both (nat_lt w.boots 64) _ _ (AreHonest w) (λ _. honest_one w (lines.Boot (codes "n" ++ decimal (a % 4)) (drill.counter ∷ [])) tt) (λ _. refl)
 
 honest_member : (w : ClusterState) (n : ℕ) (events : Member → List WorldEvent) → ((m : Member) → AreHonest w (events m)) → AreHonest w (drill.at_member w n events)
-honest_member w n events h = cond_both (w.boots == 0) _ _ (AreHonest w) (λ _. refl) (λ _. at (slice_get w.parts (n % w.boots * 2)))
+honest_member w n events h = go (drill.member_numbered w n)
   where
-    at : (o : Option PartState) → AreHonest w (drill.events_at o events)
-    at None = refl
-    at (Some p) = h p.member
+    go : (o : Option Member) → AreHonest w (drill.events_of o events)
+    go None = refl
+    go (Some m) = h m
 
 honest_call : (w : ClusterState) (n : ℕ) (event : ℕ → WorldEvent) → ((k : ℕ) → IsQuiet (event k)) → AreHonest w (drill.at_call w n event)
-honest_call w n event q = cond_both (length w.calls == 0) _ _ (AreHonest w) (λ _. refl) (λ _. honest_one w (event (1 + n % length w.calls)) (q (1 + n % length w.calls)))
+honest_call w n event q = go (drill.call_numbered w n)
+  where
+    go : (o : Option ℕ) → AreHonest w (drill.event_of o event)
+    go None = refl
+    go (Some k) = honest_one w (event k) (q k)
 
-honest_delivered : (w : ClusterState) (k part : ℕ) (o : Option Message) → AreHonest w (drill.delivered k part o)
+honest_delivered : (w : ClusterState) (k part : ℕ) (o : Option Bool) → AreHonest w (drill.delivered k part o)
 honest_delivered w k part None = refl
-honest_delivered w k part (Some (Asks r)) = honest_one w (lines.To k) tt
-honest_delivered w k part (Some (Tells m a)) = honest_one w (lines.Part k part) tt
+honest_delivered w k part (Some true) = honest_one w (lines.To k) tt
+honest_delivered w k part (Some false) = honest_one w (lines.Part k part) tt
 
 honest_delivery : (w : ClusterState) (a b : ℕ) → AreHonest w (drill.delivery w a b)
-honest_delivery w a b = cond_both (length w.messages == 0) _ _ (AreHonest w) (λ _. refl) (λ _. (let k = length w.messages - a % min (length w.messages) 8 in honest_delivered w k (b % 2) (world.message_at w k)))
+honest_delivery w a b =
+    cond_both (length w.messages == 0) _ _ (AreHonest w) (λ _. refl)
+    (λ _. (let k = length w.messages - a % min (length w.messages) 8 in honest_delivered w k (b % 2) (request_at w.messages k)))
 
 quiet_closed : (m : Member) (r : Result Outcome WorldError) → AreQuiet (drill.closed_after m r)
 quiet_closed m (Ok (out.Closing key)) = (tt, tt)

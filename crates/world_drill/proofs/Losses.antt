@@ -1,7 +1,7 @@
 -- Where a member has two parts, it has stopped once both are told to: its parts are numbered below 2, and no two have one
 -- number.
 use Rattle.std.proofs.Common.{◌≡◌, ◌⊎◌, ℕ, Bool, true, false, not, ◌||◌, cond, ◌+◌, ◌<◌, List, [], ◌∷◌, set, Option, None, Some, refl, sym, ap, ◌∙◌, subst, inl, inr, arith}
-use Rattle.std.specs.Prelude.{zero, suc, nat_le, slice_get, ◌==◌, Result, Ok, Err}
+use Rattle.std.specs.Prelude.{zero, suc, nat_le, slice_get}
 use Rattle.std.proofs.lemmas.Bool.{cond_both, cases_Bool, and_from, eq-eqb, both_ways}
 use Rattle.actor_names.specs.declared.member.Member.{Member}
 use Rattle.actor_names.specs.declared.actor_key.ActorKey.{ActorKey}
@@ -14,17 +14,14 @@ use Rattle.part_core.specs.declared.stage.Stage.{Stage}
 use Rattle.part_core.specs.declared.stage.Stage.TheVariants.{Locked, Updated, Open, Stopped}
 use Rattle.part_core.specs.Keys.{same_member}
 use Rattle.part_core.specs.Part.{PartState, is_stopped, part_step, step_at}
-use Rattle.part_core.specs.PartMoves.{Stepped}
-use Rattle.part_core.proofs.PartWrites.{or-true}
 use Rattle.part_core.proofs.PartTables.{part_stepped}
 use Rattle.world_events.specs.declared.settings.WorldSettings.{WorldSettings}
-use Rattle.world_events.specs.declared.event.WorldEvent.{WorldEvent}
 use Rattle.world_events.specs.declared.event.WorldEvent.TheVariants as lines
 use Rattle.cluster_model.specs.World as world
 use Rattle.cluster_model.specs.World.{ClusterState, is_part, place_of_part, all_stopped, most_events, new_parts}
 use Rattle.cluster_model.proofs.Basics.{same_member-true, same_member-self, In-append, In-set, In-slice_get}
 use Rattle.cluster_model.proofs.Histories.{get-set, some_same}
-use Rattle.cluster_model.proofs.Lines.{AreKept, run_kept, step_kept}
+use Rattle.cluster_model.proofs.Lines.{AreKept}
 use Rattle.cluster_model.proofs.Named.{same_place}
 use Rattle.cluster_model.proofs.Runs.{IsToldWorld, told_kept, new_world_told}
 use Rattle.cluster_model.proofs.Worlds.{new_world_safe}
@@ -126,11 +123,17 @@ module _ (owner : PlacementTable → ActorKey → Option HostInfo) (part_of : Ac
   Halts w m i ps = (x : PartState) → In x ps → (p : PartState) × In p w.parts × (x.member ≡ p.member) × (x.number ≡ p.number) × (p.stage ≡ Stopped → x.stage ≡ Stopped) × (p.member ≡ m → p.number ≡ i → x.stage ≡ Stopped)
 
   halts_none : (w : ClusterState) (m : Member) (i : ℕ) → place_of_part w.parts m i ≡ None → Halts w m i w.parts
-  halts_none w m i none x j =
-      (x, j, refl, refl, λ s. s, λ a b.
-      (let h = place_found w.parts x j in
-      let e : place_of_part w.parts x.member x.number ≡ None = subst (λ (z : Member). place_of_part w.parts z x.number ≡ None) (sym a) (subst (λ (z : ℕ). place_of_part w.parts m z ≡ None) (sym b) none) in
-      let f = h.2 in absurd (cc)))
+  halts_none w m i none x j = (
+    x,
+    j,
+    refl,
+    refl,
+    λ s. s,
+    λ a b.
+        (let h = place_found w.parts x j in
+        let e : place_of_part w.parts x.member x.number ≡ None = subst (λ (z : Member). place_of_part w.parts z x.number ≡ None) (sym a) (subst (λ (z : ℕ). place_of_part w.parts m z ≡ None) (sym b) none) in
+        let f = h.2 in absurd (cc)),
+  )
 
   halts_at : (w : ClusterState) (m : Member) (i n : ℕ) (p : PartState) → HasTwoEach w → place_of_part w.parts m i ≡ Some n → slice_get w.parts n ≡ Some p → Halts w m i (set w.parts n (part_step owner p events.StopPart).part)
   halts_at w m i n p t is at x j =
@@ -142,8 +145,13 @@ module _ (owner : PlacementTable → ActorKey → Option HostInfo) (part_of : Ac
             let s : x.stage ≡ Stopped = ap (λ (z : PartState). z.stage) h.1 ∙ stop_at p p.stage refl in
             (p, In-slice_get w.parts n p at, ap (λ (z : PartState). z.member) h.1 ∙ st.member, ap (λ (z : PartState). z.number) h.1 ∙ st.number, λ _. s, λ _ _. s))
         | inr h ↦ (
-            x, In-slice_get w.parts k.0 x h.1, refl, refl, λ s. s,
-            λ a b. (let g = same_place w.parts m i n p is at in absurd (h.0 (t.told.told.fits.apart k.0 n x p h.1 at (a ∙ sym g.0) (b ∙ sym g.1)))))
+          x,
+          In-slice_get w.parts k.0 x h.1,
+          refl,
+          refl,
+          λ s. s,
+          λ a b. (let g = same_place w.parts m i n p is at in absurd (h.0 (t.told.told.fits.apart k.0 n x p h.1 at (a ∙ sym g.0) (b ∙ sym g.1)))),
+        )
       ]
 
   abbrev Ends : ClusterState → Member → ℕ → world.WorldStep → Type 0
@@ -156,11 +164,18 @@ module _ (owner : PlacementTable → ActorKey → Option HostInfo) (part_of : Ac
       go : (o : Option PartState) → slice_get w.parts n ≡ o → Ends w m i (world.step_of_part owner part_of w n events.StopPart world.stop_outcome o)
       go (Some p) at = halts_at w m i n p t is at
       go None at =
-          λ x j. (x, j, refl, refl, λ s. s, λ a b.
-          (let h = place_found w.parts x j in
-          let e : place_of_part w.parts x.member x.number ≡ Some n = subst (λ (z : Member). place_of_part w.parts z x.number ≡ Some n) (sym a) (subst (λ (z : ℕ). place_of_part w.parts m z ≡ Some n) (sym b) is) in
-          let same : h.0 ≡ n = some_same h.0 n (sym h.2 ∙ e) in
-          let f : slice_get w.parts n ≡ Some h.1 = subst (λ (z : ℕ). slice_get w.parts z ≡ Some h.1) same h.3 in absurd (cc)))
+          λ x j. (
+            x,
+            j,
+            refl,
+            refl,
+            λ s. s,
+            λ a b.
+                (let h = place_found w.parts x j in
+                let e : place_of_part w.parts x.member x.number ≡ Some n = subst (λ (z : Member). place_of_part w.parts z x.number ≡ Some n) (sym a) (subst (λ (z : ℕ). place_of_part w.parts m z ≡ Some n) (sym b) is) in
+                let same : h.0 ≡ n = some_same h.0 n (sym h.2 ∙ e) in
+                let f : slice_get w.parts n ≡ Some h.1 = subst (λ (z : ℕ). slice_get w.parts z ≡ Some h.1) same h.3 in absurd (cc)),
+          )
 
   -- a stop stops the part, and leaves stopped who has stopped
   pub stop_stops : (w : ClusterState) (m : Member) (i : ℕ) → HasTwoEach w → IsStopped m i (world.cluster_step owner part_of w (lines.Stop m i)).world

@@ -1,7 +1,7 @@
 -- Worked drills, as tests of the definitions: each closes by computing. No owner of an actor is asked in them.
-use Rattle.std.specs.Prelude.{◌≡◌, ℕ, List, []}
+use Rattle.std.specs.Prelude.{◌≡◌}
 use Rattle.std.proofs.Common.{refl}
-use Rattle.world_drill.specs.Drill.{first_of, draw_of, drill_events, drill_world, counts_of}
+use Rattle.world_drill.specs.Drill.{first_of, draw_of, drill_world, counts_of}
 
 drill_of_no_steps_prints_zeros : counts_of 0 (drill_world 5 0) ≡ record { steps = 0; boots = 0; messages = 0; begun = 0; open_turns = 0; version = 0 }
 drill_of_no_steps_prints_zeros = refl

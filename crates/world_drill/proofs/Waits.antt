@@ -1,16 +1,14 @@
 -- No more turns begin than calls were asked: a step of a part begins calls that waited in its cells, or the one that it is
 -- asked.
-use Rattle.std.proofs.Common.{◌≡◌, ◌⊎◌, ℕ, Bool, true, false, not, cond, ◌&&◌, ◌+◌, ◌≤◌, List, [], ◌∷◌, ◌++◌, length, set, Option, None, Some, refl, sym, ap, ◌∙◌, inl, inr, arith, length-append}
-use Rattle.std.specs.Prelude.{zero, suc, nat_le, nat_lt, ◌==◌, max, option_map, slice_get, is_some}
+use Rattle.std.proofs.Common.{◌≡◌, ◌⊎◌, ℕ, Bool, true, false, not, cond, ◌&&◌, ◌+◌, ◌≤◌, List, [], ◌∷◌, ◌++◌, length, Option, None, Some, refl, ap, ◌∙◌, inl, inr, arith, length-append}
+use Rattle.std.specs.Prelude.{nat_lt, ◌==◌, max, option_map, is_some}
 use Rattle.std.proofs.lemmas.Bool.{cond_both, or_parts, ltb-false}
-use Rattle.actor_names.specs.declared.member.Member.{Member}
 use Rattle.actor_names.specs.declared.actor_key.ActorKey.{ActorKey}
 use Rattle.place_table.specs.declared.host.HostInfo.{HostInfo}
 use Rattle.place_table.specs.Hosts.{PlacementTable}
-use Rattle.turn_core.specs.declared.cell.Turn.{Turn}
 use Rattle.turn_core.specs.declared.cell.Waiter.{Waiter}
 use Rattle.turn_core.specs.declared.answer.CellEnd.TheVariants as ending
-use Rattle.turn_core.specs.Cell.{CellState, AskStep, EndStep, PollStep, kept_chain, admit_call, with_turn, with_waiter, without_waiter, begun_next, first_unmoved, without_first_unmoved, next_call, call_of, without_call, has_turn, waiter_of, chain_of, place_of, not_open, poll_waiter, with_hold, without_hold, with_line_moved, all_moved, is_free, is_open_chain}
+use Rattle.turn_core.specs.Cell.{CellState, AskStep, EndStep, PollStep, kept_chain, admit_call, with_turn, with_waiter, without_waiter, begun_next, first_unmoved, without_first_unmoved, next_call, call_of, without_call, has_turn, waiter_of, chain_of, place_of, not_open, poll_waiter, with_hold, without_hold, all_moved, is_free, is_open_chain}
 use Rattle.turn_core.specs.CellSound.{In}
 use Rattle.part_cells.specs.declared.actor_cell.ActorCell.{ActorCell}
 use Rattle.part_cells.specs.Cells.{cell_at, cell_of_call, keep_cell, is_kept, total}
@@ -24,14 +22,14 @@ use Rattle.part_core.specs.declared.event.PartEvent.TheVariants as events
 use Rattle.part_core.specs.declared.event.PartReply.{PartReply}
 use Rattle.part_core.specs.declared.event.PartReply.TheVariants as replies
 use Rattle.part_core.specs.Keys.{same_member}
-use Rattle.part_core.specs.Marks.{PartMark, TurnBegan, TurnEnded, BecameActive, BecameInactive, PartOpened, begun_calls, marks_of_begin, marks_of_next, marks_of_ends, marks_of_inactive, marks_of_stop}
+use Rattle.part_core.specs.Marks.{PartMark, TurnBegan, TurnEnded, BecameActive, BecameInactive, PartOpened, begun_calls, marks_of_begin, marks_of_next}
 use Rattle.part_core.specs.Part
 use Rattle.part_core.specs.Part.{PartState, PartStep, CellStep, asked_step, ask_cell, ask_owned, found_or_first, call_chain, is_full, is_spent, is_open, is_own, is_foreign, is_locked, is_updated, is_drained, each_cell, part_step}
 use Rattle.part_core.specs.Sound.{IsPartSound}
 use Rattle.part_core.proofs.CellLaws.{admit_cases, In-cell_of_call}
 use Rattle.part_core.proofs.PartSteps.{In-first_to_close}
 use Rattle.part_core.proofs.Replays.{cell_at-In}
-use Rattle.cluster_model.proofs.Counts.{ends_begin_none, inactive_begins_none, stop_begins_none}
+use Rattle.cluster_model.proofs.Counts.{ends_begin_none, stop_begins_none}
 
 -- ---- marks
 
