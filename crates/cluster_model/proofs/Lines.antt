@@ -112,7 +112,7 @@ module _ (owner : PlacementTable → ActorKey → Option HostInfo) (part_of : Ac
 
     ended : (w : ClusterState) (number : ℕ) (o : Option CallPlace) → P w → Ends (world.end_call owner part_of w number o)
     ended w number None t = t
-    ended w number (Some c) t = quiet_step w c.place (events.End c.call w.now) (world.end_outcome w number c.place) (λ _. tt) (λ k a. a) t
+    ended w number (Some c) t = quiet_step w c.place (events.End c.call w.now) (world.end_outcome w.calls number c.place) (λ _. tt) (λ k a. a) t
 
     polled : (w : ClusterState) (number : ℕ) (o : Option CallPlace) → P w → Ends (world.poll_call owner part_of w number o)
     polled w number None t = t
@@ -176,7 +176,7 @@ module _ (owner : PlacementTable → ActorKey → Option HostInfo) (part_of : Ac
     quiet_line w (lines.Release m key) plain t = does w (world.key_place_of owner part_of w m key) (events.Release key w.now) (λ _. world.hold_outcome) (λ _. tt) (λ k a. a) t
     quiet_line w (lines.Tick m) plain t = cond_both (world.was_booted w.parts m) _ _ Ends (λ _. ticks w (world.places_of w.parts m 0) 0 t) (λ _. t)
     quiet_line w (lines.Closing m i) plain t = does w (world.place_of_part w.parts m i) (events.TakeClosing w.now) (λ _. world.closing_outcome) (λ _. tt) (λ k a. a) t
-    quiet_line w (lines.Closed m key) plain t = does w (world.key_place_of owner part_of w m key) (events.Closed key) (world.closed_outcome w key) (λ _. tt) (λ k a. a) t
+    quiet_line w (lines.Closed m key) plain t = does w (world.key_place_of owner part_of w m key) (events.Closed key) (world.closed_outcome w.calls key) (λ _. tt) (λ k a. a) t
     quiet_line w (lines.Stop m i) plain t = does w (world.place_of_part w.parts m i) events.StopPart (λ _. world.stop_outcome) (λ _. tt) (λ k a. a) t
     quiet_line w (lines.Lost m) plain t =
         cond_both (world.was_booted w.parts m) _ _ Ends

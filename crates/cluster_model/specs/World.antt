@@ -235,9 +235,9 @@ call_at cs zero = None
 call_at cs (suc n) = the_call (slice_get cs n)
 
 -- the script's number of the call that began at a place, where one did
-abbrev pub next_number : ClusterState → ℕ → Option ℕ → Option ℕ
-next_number w place None = None
-next_number w place (Some next) = Some (script_number w.calls 1 place next)
+abbrev pub next_number : List (Option CallPlace) → ℕ → Option ℕ → Option ℕ
+next_number cs place None = None
+next_number cs place (Some next) = Some (script_number cs 1 place next)
 
 -- ---- what a part says, as the outcome of the event that asked it
 
@@ -255,13 +255,13 @@ call_outcome n replies.AlreadyEnded = out.Turn (turn.AlreadyEnded n)
 call_outcome n replies.Stopped = out.Stopped
 call_outcome n reply = out.Turn turn.NotThere
 
--- of an end, whose part is at this place
-abbrev pub end_outcome : ClusterState → ℕ → ℕ → PartReply → Outcome
-end_outcome w n place (replies.Ended next) = out.Turn (turn.Ended n (next_number w place next))
-end_outcome w n place replies.AlreadyEnded = out.Turn (turn.AlreadyEnded n)
-end_outcome w n place replies.StillWaiting = out.Turn (turn.StillWaiting n)
-end_outcome w n place replies.Stopped = out.Stopped
-end_outcome w n place reply = out.Turn turn.NotThere
+-- of an end, whose part is at this place, after these calls
+abbrev pub end_outcome : List (Option CallPlace) → ℕ → ℕ → PartReply → Outcome
+end_outcome cs n place (replies.Ended next) = out.Turn (turn.Ended n (next_number cs place next))
+end_outcome cs n place replies.AlreadyEnded = out.Turn (turn.AlreadyEnded n)
+end_outcome cs n place replies.StillWaiting = out.Turn (turn.StillWaiting n)
+end_outcome cs n place replies.Stopped = out.Stopped
+end_outcome cs n place reply = out.Turn turn.NotThere
 
 -- of a hold or a release
 abbrev pub hold_outcome : PartReply → Outcome
@@ -296,11 +296,11 @@ closing_outcome replies.NoneClosing = out.NoneClosing
 closing_outcome replies.Stopped = out.Stopped
 closing_outcome reply = out.Turn turn.NotThere
 
-abbrev pub closed_outcome : ClusterState → ActorKey → ℕ → PartReply → Outcome
-closed_outcome w key place (replies.ClosedDone next) = out.Closed key (next_number w place next)
-closed_outcome w key place replies.NotClosing = out.NotClosing
-closed_outcome w key place replies.Stopped = out.Stopped
-closed_outcome w key place reply = out.Turn turn.NotThere
+abbrev pub closed_outcome : List (Option CallPlace) → ActorKey → ℕ → PartReply → Outcome
+closed_outcome cs key place (replies.ClosedDone next) = out.Closed key (next_number cs place next)
+closed_outcome cs key place replies.NotClosing = out.NotClosing
+closed_outcome cs key place replies.Stopped = out.Stopped
+closed_outcome cs key place reply = out.Turn turn.NotThere
 
 abbrev pub stop_outcome : PartReply → Outcome
 stop_outcome (replies.StoppedNow r) = out.Stopped
@@ -349,7 +349,7 @@ module _ (owner : PlacementTable → ActorKey → Option HostInfo) (part_of : Ac
 
   abbrev pub end_call : ClusterState → ℕ → Option CallPlace → WorldStep
   end_call w call None = nothing w
-  end_call w call (Some c) = step_of_part w c.place (events.End c.call w.now) (end_outcome w call c.place) (slice_get w.parts c.place)
+  end_call w call (Some c) = step_of_part w c.place (events.End c.call w.now) (end_outcome w.calls call c.place) (slice_get w.parts c.place)
 
   abbrev pub poll_call : ClusterState → ℕ → Option CallPlace → WorldStep
   poll_call w call None = nothing w
@@ -407,7 +407,7 @@ module _ (owner : PlacementTable → ActorKey → Option HostInfo) (part_of : Ac
   happens w (lines.Release m key) = part_does w (key_place_of w m key) (events.Release key w.now) (λ _. hold_outcome)
   happens w (lines.Tick m) = if was_booted w.parts m then tick_each w (places_of w.parts m 0) 0 else nothing w
   happens w (lines.Closing m i) = part_does w (place_of_part w.parts m i) (events.TakeClosing w.now) (λ _. closing_outcome)
-  happens w (lines.Closed m key) = part_does w (key_place_of w m key) (events.Closed key) (closed_outcome w key)
+  happens w (lines.Closed m key) = part_does w (key_place_of w m key) (events.Closed key) (closed_outcome w.calls key)
   happens w (lines.Stop m i) = part_does w (place_of_part w.parts m i) events.StopPart (λ _. stop_outcome)
   happens w (lines.Lost m) =
       if was_booted w.parts m then (if all_stopped w.parts m then placement_does w (changes.Lost m) (lost_outcome m) else dishonest w m) else nothing w

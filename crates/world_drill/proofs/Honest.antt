@@ -77,7 +77,7 @@ fair_tick w (n ∷ ns) turns = fair_tick (world.tick_part ring_owner key_part w 
 
 fair_ended : (w : ClusterState) (call : ℕ) (o : Option CallPlace) → IsFair (world.end_call ring_owner key_part w call o)
 fair_ended w call None = refl
-fair_ended w call (Some c) = fair_part w c.place (events.End c.call w.now) (world.end_outcome w call c.place) (slice_get w.parts c.place)
+fair_ended w call (Some c) = fair_part w c.place (events.End c.call w.now) (world.end_outcome w.calls call c.place) (slice_get w.parts c.place)
 
 fair_polled : (w : ClusterState) (call : ℕ) (o : Option CallPlace) → IsFair (world.poll_call ring_owner key_part w call o)
 fair_polled w call None = refl

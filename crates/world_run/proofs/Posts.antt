@@ -1,0 +1,311 @@
+-- Messages as they are kept, and the tables that were told.
+use Rattle.std.proofs.Common.{◌≡◌, ◌≢◌, ℕ, ◌+◌, ◌-◌, ◌<◌, ◌≤◌, Bool, true, false, cond, not, List, [], ◌∷◌, ◌++◌, length, get_or, refl, sym, ap, ◌∙◌, subst, arith, append-nil, append_assoc}
+use Rattle.std.specs.Prelude.{zero, suc, ◌&&◌, ◌==◌, map, slice_get, Option, None, Some}
+use Rattle.std.proofs.lemmas.Bool.{eqb-true, eq-eqb, cond_both}
+use Rattle.std.proofs.lemmas.List.{map-append, length-append, length-map}
+use Rattle.std.proofs.lemmas.Option.{slice_get-get_or}
+use Rattle.actor_names.specs.declared.member.Member.{Member}
+use Rattle.place_table.specs.declared.host.HostInfo.{HostInfo}
+use Rattle.place_table.specs.Hosts.{PlacementTable}
+use Rattle.round_core.specs.declared.event.PlaceEvent.{PlaceEvent}
+use Rattle.round_core.specs.declared.event.PlaceEvent.TheVariants as changes
+use Rattle.round_core.specs.declared.event.PlaceReply.{PlaceReply}
+use Rattle.round_core.specs.declared.event.PlaceReply.TheVariants as replies
+use Rattle.round_core.specs.Placement.{PlacementState, placement_step, placement_restarted, last_version}
+use Rattle.round_core.specs.Records.{restart_record}
+use Rattle.cluster_model.specs.World.{restarted_version}
+use Rattle.round_core.specs.Rooms as rooms
+use Rattle.round_core.specs.Rooms.{PlacementView}
+use Rattle.cluster_model.specs.Messages.{Request, Answer, LockAt, UpdateTo, UnlockAt, Says, Message, Asks, Tells, table_of, answer_of, change_of, asker_of}
+use Rattle.world_run.specs.declared.kept.Kept.{Kept}
+use Rattle.world_run.specs.declared.kept.Kept.TheVariants as kept
+use Rattle.world_run.specs.declared.kept.Spot.{Spot}
+use Rattle.world_run.specs.declared.kept.Asked.{Asked}
+use Rattle.world_run.specs.Post.{PostView, table_or, message_in, messages_in, pending_table, told_tables, names_table, brings, IsPostKept, numbered, AgreesOn, kept_answer, updated_version, has_version, spot_for, is_register, place_wants, last_for, started_version, asked_of, GivesReply, Agrees, Delivers, is_request}
+
+-- ---- messages by their number
+
+slice-messages : (ts : List PlacementTable) (ks : List Kept) (n : ℕ) (x : Kept) → slice_get ks n ≡ Some x → slice_get (messages_in ts ks) n ≡ Some (message_in ts x)
+slice-messages ts [] n x e = absurd (cc)
+slice-messages ts (k ∷ ks) zero x e = (let same : k ≡ x = cc in ap (λ (z : Kept). Some (message_in ts z)) same)
+slice-messages ts (k ∷ ks) (suc n) x e = slice-messages ts ks n x e
+
+pub numbered_at : (ts : List PlacementTable) (ks : List Kept) (number : ℕ) (x : Kept) → number ≢ 0 → number ≤ length ks → x ≡ get_or ks (number - 1) x → numbered (messages_in ts ks) number ≡ Some (message_in ts x)
+numbered_at ts ks zero x some within e = absurd (some refl)
+numbered_at ts ks (suc n) x some within e =
+    let less : suc n - 1 ≡ n = omega arith in
+    let at : x ≡ get_or ks n x = subst (λ (k : ℕ). x ≡ get_or ks k x) less e in
+    slice-messages ts ks n x (slice_get-get_or ks n x (omega arith) ∙ ap (λ (y : Kept). Some y) (sym at))
+
+-- ---- steps of the placement
+
+-- another event wants no memory
+pub gives_other : (event : PlaceEvent) (now : ℕ) (reply : PlaceReply) (old new : PlacementView) → is_register event ≡ false → rooms.GivesStep event now reply old new → GivesReply event now reply old.state new.state
+gives_other (changes.Register host) now reply old new e g = absurd (cc)
+gives_other (changes.Beat m) now reply old new e g = (g.0, ap (λ (v : PlacementView). v.state) g.1)
+gives_other (changes.Ack m stage version) now reply old new e g = (g.0, ap (λ (v : PlacementView). v.state) g.1)
+gives_other (changes.Leave m) now reply old new e g = (g.0, ap (λ (v : PlacementView). v.state) g.1)
+gives_other (changes.Lost m) now reply old new e g = (g.0, ap (λ (v : PlacementView). v.state) g.1)
+gives_other changes.Tick now reply old new e g = (g.0, ap (λ (v : PlacementView). v.state) g.1)
+gives_other changes.Look now reply old new e g = (g.0, ap (λ (v : PlacementView). v.state) g.1)
+
+in_memory : (event : PlaceEvent) (now : ℕ) (reply : PlaceReply) (old new : PlacementView) → place_wants reply ≡ false → rooms.GivesInMemory event now reply old new → GivesReply event now reply old.state new.state
+in_memory event now replies.OutOfMemory old new e g = absurd (cc)
+in_memory event now reply old new e g = (g.0, ap (λ (v : PlacementView). v.state) g.1)
+
+without : (event : PlaceEvent) (now : ℕ) (reply : PlaceReply) (old new : PlacementView) → place_wants reply ≡ true → rooms.GivesInMemory event now reply old new → new.state ≡ old.state
+without event now replies.OutOfMemory old new e g = ap (λ (v : PlacementView). v.state) g
+without event now reply old new e g = absurd (cc)
+
+-- a Register that wanted none
+pub gives_register : (event : PlaceEvent) (now : ℕ) (reply : PlaceReply) (old new : PlacementView) → place_wants reply ≡ false → rooms.GivesStep event now reply old new → GivesReply event now reply old.state new.state
+gives_register (changes.Register host) now reply old new e g = in_memory (changes.Register host) now reply old new e g
+gives_register (changes.Beat m) now reply old new e g = gives_other (changes.Beat m) now reply old new refl g
+gives_register (changes.Ack m stage version) now reply old new e g = gives_other (changes.Ack m stage version) now reply old new refl g
+gives_register (changes.Leave m) now reply old new e g = gives_other (changes.Leave m) now reply old new refl g
+gives_register (changes.Lost m) now reply old new e g = gives_other (changes.Lost m) now reply old new refl g
+gives_register changes.Tick now reply old new e g = gives_other changes.Tick now reply old new refl g
+gives_register changes.Look now reply old new e g = gives_other changes.Look now reply old new refl g
+
+pub gives_none : (event : PlaceEvent) (now : ℕ) (reply : PlaceReply) (old new : PlacementView) → is_register event ≡ true → place_wants reply ≡ true → rooms.GivesStep event now reply old new → new.state ≡ old.state
+gives_none (changes.Register host) now reply old new e f g = without (changes.Register host) now reply old new f g
+gives_none (changes.Beat m) now reply old new e f g = absurd (cc)
+gives_none (changes.Ack m stage version) now reply old new e f g = absurd (cc)
+gives_none (changes.Leave m) now reply old new e f g = absurd (cc)
+gives_none (changes.Lost m) now reply old new e f g = absurd (cc)
+gives_none changes.Tick now reply old new e f g = absurd (cc)
+gives_none changes.Look now reply old new e f g = absurd (cc)
+
+-- ---- tables
+
+-- where none is pending the placement's hosts play no part
+pub settled : (ts : List PlacementTable) (p : Option ℕ) (hosts others : List HostInfo) → p ≡ None → told_tables ts p hosts ≡ told_tables ts None others
+settled ts p hosts others e = ap (λ (o : Option ℕ). told_tables ts o hosts) e
+
+pub built_told : (ts : List PlacementTable) (t : PlacementTable) (version : ℕ) (hosts : List HostInfo) → t ≡ table_of version hosts → told_tables (ts ++ t ∷ []) None hosts ≡ told_tables ts (Some version) hosts
+built_told ts t version hosts e = append-nil (ts ++ t ∷ []) ∙ ap (λ (z : PlacementTable). ts ++ z ∷ []) e
+
+-- ---- one message more
+
+slice-append_left : {A : Type 0} (xs ys : List A) (n : ℕ) (x : A) → slice_get xs n ≡ Some x → slice_get (xs ++ ys) n ≡ Some x
+slice-append_left [] ys n x e = absurd (cc)
+slice-append_left (z ∷ xs) ys zero x e = e
+slice-append_left (z ∷ xs) ys (suc n) x e = slice-append_left xs ys n x e
+
+slice-last : {A : Type 0} (xs : List A) (x : A) → slice_get (xs ++ x ∷ []) (length xs) ≡ Some x
+slice-last [] x = refl
+slice-last (z ∷ xs) x = slice-last xs x
+
+slice-within : {A : Type 0} (xs : List A) (n : ℕ) (x : A) → slice_get xs n ≡ Some x → n < length xs
+slice-within [] n x e = absurd (cc)
+slice-within (z ∷ xs) zero x e = omega arith
+slice-within (z ∷ xs) (suc n) x e = (let l = slice-within xs n x e in omega arith)
+
+slice-in : {A : Type 0} (xs : List A) (n : ℕ) → n < length xs → (x : A) × (slice_get xs n ≡ Some x)
+slice-in [] n l = absurd (omega arith)
+slice-in (x ∷ xs) zero l = (x, refl)
+slice-in (x ∷ xs) (suc n) l = slice-in xs n (omega arith)
+
+-- more tables leave a message that names an earlier one
+message-more : (ts us : List PlacementTable) (k : Kept) → names_table (length ts) k → message_in (ts ++ us) k ≡ message_in ts k
+message-more ts us (kept.Register host) n = refl
+message-more ts us (kept.Beat m) n = refl
+message-more ts us (kept.Ack m stage version) n = refl
+message-more ts us (kept.Leave m) n = refl
+message-more ts us (kept.Lock m version) n = refl
+message-more ts us (kept.Update m at) n =
+    let h = slice-in ts at n in
+    ap (λ (o : Option PlacementTable). Tells m (UpdateTo (table_or o))) (slice-append_left ts us at h.0 h.1 ∙ sym h.1)
+message-more ts us (kept.Unlock m version) n = refl
+message-more ts us (kept.Says m reply) n = refl
+
+messages-more : (ts us : List PlacementTable) (ks : List Kept) → ((n : ℕ) (x : Kept) → slice_get ks n ≡ Some x → names_table (length ts) x) → messages_in (ts ++ us) ks ≡ messages_in ts ks
+messages-more ts us [] h = refl
+messages-more ts us (k ∷ ks) h = (λ i. message-more ts us k (h 0 k refl) i ∷ messages-more ts us ks (λ n x e. h (suc n) x e) i)
+
+-- an answer that is no Update is kept as it is
+kept_plain : (ts : List PlacementTable) (m : Member) (reply : PlaceReply) (at : ℕ) (hosts : List HostInfo) → updated_version reply ≡ None → message_in ts (kept_answer m reply at) ≡ Tells m (answer_of hosts reply)
+kept_plain ts m (replies.Lock version) at hosts e = refl
+kept_plain ts m (replies.Update version) at hosts e = absurd (cc)
+kept_plain ts m (replies.Unlock version) at hosts e = refl
+kept_plain ts m reply at hosts e = refl
+
+names_more : (n k : ℕ) (x : Kept) → n ≤ k → names_table n x → names_table k x
+names_more n k (kept.Register host) l h = tt
+names_more n k (kept.Beat m) l h = tt
+names_more n k (kept.Ack m stage version) l h = tt
+names_more n k (kept.Leave m) l h = tt
+names_more n k (kept.Lock m version) l h = tt
+names_more n k (kept.Update m at) l h = omega arith
+names_more n k (kept.Unlock m version) l h = tt
+names_more n k (kept.Says m reply) l h = tt
+
+plain_names : (m : Member) (reply : PlaceReply) (at n : ℕ) → updated_version reply ≡ None → names_table n (kept_answer m reply at)
+plain_names m (replies.Lock version) at n e = tt
+plain_names m (replies.Update version) at n e = absurd (cc)
+plain_names m (replies.Unlock version) at n e = tt
+plain_names m reply at n e = tt
+
+named_push : (n k : ℕ) (ks : List Kept) (x : Kept) → n ≤ k → ((i : ℕ) (y : Kept) → slice_get ks i ≡ Some y → names_table n y) → names_table k x → (i : ℕ) (y : Kept) → slice_get (ks ++ x ∷ []) i ≡ Some y → names_table k y
+named_push n k [] x l h own zero y e = (let same : x ≡ y = cc in subst (λ (z : Kept). names_table k z) same own)
+named_push n k [] x l h own (suc i) y e = absurd (cc)
+named_push n k (z ∷ ks) x l h own zero y e = names_more n k y l (h 0 y e)
+named_push n k (z ∷ ks) x l h own (suc i) y e = named_push n k ks x l (λ j w f. h (suc j) w f) own i y e
+
+brings_some : (at : ℕ) (o : Option Kept) → brings at o ≡ true → (m : Member) × (o ≡ Some (kept.Update m at))
+brings_some at (Some (kept.Update m place)) e = (let same : place ≡ at = eqb-true place at e in (m, ap (λ (n : ℕ). Some (kept.Update m n)) same))
+brings_some at None e = absurd (cc)
+brings_some at (Some (kept.Register host)) e = absurd (cc)
+brings_some at (Some (kept.Beat m)) e = absurd (cc)
+brings_some at (Some (kept.Ack m stage version)) e = absurd (cc)
+brings_some at (Some (kept.Leave m)) e = absurd (cc)
+brings_some at (Some (kept.Lock m version)) e = absurd (cc)
+brings_some at (Some (kept.Unlock m version)) e = absurd (cc)
+brings_some at (Some (kept.Says m reply)) e = absurd (cc)
+
+brings_same : (at : ℕ) (m : Member) → brings at (Some (kept.Update m at)) ≡ true
+brings_same at m = eq-eqb at at refl
+
+-- a request changes nothing of what was told
+pub ask_kept : (n last : ℕ) (ks : List Kept) (x : Kept) → is_request x ≡ true → IsPostKept n ks last → IsPostKept n (ks ++ x ∷ []) last
+ask_kept n last ks x r h =
+    record {
+      named = named_push n n ks x (omega arith) h.named (request_names x n r);
+      told = λ l. (let b = brings_some (n - 1) (slice_get ks last) (h.told l) in subst (λ (o : Option Kept). brings (n - 1) o ≡ true) (sym (slice-append_left ks (x ∷ []) last _ b.1)) (brings_same (n - 1) b.0));
+    }
+  where
+    request_names : (x : Kept) (n : ℕ) → is_request x ≡ true → names_table n x
+    request_names (kept.Register host) n r = tt
+    request_names (kept.Beat m) n r = tt
+    request_names (kept.Ack m stage version) n r = tt
+    request_names (kept.Leave m) n r = tt
+    request_names (kept.Lock m version) n r = absurd (cc)
+    request_names (kept.Update m at) n r = absurd (cc)
+    request_names (kept.Unlock m version) n r = absurd (cc)
+    request_names (kept.Says m reply) n r = absurd (cc)
+
+pub ask_message : (ts : List PlacementTable) (x : Kept) → is_request x ≡ true → message_in ts x ≡ message_in [] x
+ask_message ts (kept.Register host) r = refl
+ask_message ts (kept.Beat m) r = refl
+ask_message ts (kept.Ack m stage version) r = refl
+ask_message ts (kept.Leave m) r = refl
+ask_message ts (kept.Lock m version) r = absurd (cc)
+ask_message ts (kept.Update m at) r = absurd (cc)
+ask_message ts (kept.Unlock m version) r = absurd (cc)
+ask_message ts (kept.Says m reply) r = absurd (cc)
+
+pub messages-push : (ts : List PlacementTable) (ks : List Kept) (x : Kept) → messages_in ts (ks ++ x ∷ []) ≡ messages_in ts ks ++ message_in ts x ∷ []
+messages-push ts ks x = map-append (message_in ts) ks (x ∷ [])
+
+-- ---- an answer
+
+-- the messages after an answer that is kept with the table of this place, and that they are kept so
+pub record AnsweredBy (spot : Spot) (next : ℕ) (ts : List PlacementTable) (ks : List Kept) (m : Member) (reply : PlaceReply) (hosts : List HostInfo) : Type 0 where
+  pub messages : messages_in (told_tables ts spot.pending hosts) (ks ++ kept_answer m reply spot.table ∷ []) ≡ messages_in ts ks ++ Tells m (answer_of hosts reply) ∷ []
+  pub kept : IsPostKept (length (told_tables ts spot.pending hosts)) (ks ++ kept_answer m reply spot.table ∷ []) next
+
+-- the last table stays told
+still_told : (n last : ℕ) (ks : List Kept) (x : Kept) → (0 < n → brings (n - 1) (slice_get ks last) ≡ true) → 0 < n → brings (n - 1) (slice_get (ks ++ x ∷ []) last) ≡ true
+still_told n last ks x h l = (let b = brings_some (n - 1) (slice_get ks last) (h l) in subst (λ (o : Option Kept). brings (n - 1) o ≡ true) (sym (slice-append_left ks (x ∷ []) last _ b.1)) (brings_same (n - 1) b.0))
+
+plain : (ts : List PlacementTable) (ks : List Kept) (last : ℕ) (m : Member) (reply : PlaceReply) (hosts : List HostInfo) → updated_version reply ≡ None → IsPostKept (length ts) ks last →
+    AnsweredBy (record { table = 0; pending = None }) last ts ks m reply hosts
+plain ts ks last m reply hosts e h =
+    let x : Kept = kept_answer m reply 0 in
+    record {
+      messages = ap (λ (us : List PlacementTable). messages_in us (ks ++ x ∷ [])) (append-nil ts) ∙ messages-push ts ks x ∙ ap (λ (y : Message). messages_in ts ks ++ y ∷ []) (kept_plain ts m reply 0 hosts e);
+      kept = subst (λ (us : List PlacementTable). IsPostKept (length us) (ks ++ x ∷ []) last) (sym (append-nil ts))
+      (record { named = named_push (length ts) (length ts) ks x (omega arith) h.named (plain_names m reply 0 (length ts) e); told = still_told (length ts) last ks x h.told });
+    }
+
+-- an Update brings the last table
+new_told : (n : ℕ) (ks : List Kept) (m : Member) (at : ℕ) → at ≡ n - 1 → brings (n - 1) (slice_get (ks ++ kept.Update m at ∷ []) (length ks)) ≡ true
+new_told n ks m at e = ap (λ (o : Option Kept). brings (n - 1) o) (slice-last ks (kept.Update m at)) ∙ ap (λ (k : ℕ). brings (n - 1) (Some (kept.Update m k))) e ∙ brings_same (n - 1) m
+
+version_some : (version : ℕ) (o : Option PlacementTable) → has_version version o ≡ true → (t : PlacementTable) × (o ≡ Some t) × (t.version ≡ version)
+version_some version (Some t) e = (t, refl, eqb-true t.version version e)
+version_some version None e = absurd (cc)
+
+shared : (ts : List PlacementTable) (ks : List Kept) (last : ℕ) (m : Member) (version now : ℕ) (hosts : List HostInfo) → IsPostKept (length ts) ks last → AgreesOn (messages_in ts ks) now hosts (replies.Update version) →
+    has_version version (slice_get ts (length ts - 1)) ≡ true → AnsweredBy (record { table = length ts - 1; pending = None }) (length ks) ts ks m (replies.Update version) hosts
+shared ts ks last m version now hosts h agrees e =
+    let at : ℕ = length ts - 1 in
+    let x : Kept = kept.Update m at in
+    let t = version_some version (slice_get ts at) e in
+    let some : at < length ts = slice-within ts at t.0 t.1 in
+    let b = brings_some at (slice_get ks last) (h.told (omega arith)) in
+    let told : slice_get (messages_in ts ks) last ≡ Some (Tells b.0 (UpdateTo t.0)) =
+    slice-messages ts ks last (kept.Update b.0 at) b.1 ∙ ap (λ (o : Option PlacementTable). Some (Tells b.0 (UpdateTo (table_or o)))) t.1 in
+    let same : t.0 ≡ table_of version hosts = agrees b.0 t.0 last told t.2 in
+    record {
+      messages = ap (λ (us : List PlacementTable). messages_in us (ks ++ x ∷ [])) (append-nil ts) ∙ messages-push ts ks x
+      ∙ ap (λ (o : Option PlacementTable). messages_in ts ks ++ Tells m (UpdateTo (table_or o)) ∷ []) (t.1 ∙ ap (λ (z : PlacementTable). Some z) same);
+      kept = subst (λ (us : List PlacementTable). IsPostKept (length us) (ks ++ x ∷ []) (length ks)) (sym (append-nil ts))
+      (record { named = named_push (length ts) (length ts) ks x (omega arith) h.named some; told = λ l. new_told (length ts) ks m at refl });
+    }
+
+fresh : (ts : List PlacementTable) (ks : List Kept) (last : ℕ) (m : Member) (version : ℕ) (hosts : List HostInfo) → IsPostKept (length ts) ks last →
+    AnsweredBy (record { table = length ts; pending = Some version }) (length ks) ts ks m (replies.Update version) hosts
+fresh ts ks last m version hosts h =
+    let x : Kept = kept.Update m (length ts) in
+    let new : List PlacementTable = table_of version hosts ∷ [] in
+    let count : length (ts ++ new) ≡ length ts + 1 = length-append ts new in
+    record {
+      messages = messages-push (ts ++ new) ks x ∙ ap (λ (z : List Message). z ++ message_in (ts ++ new) x ∷ []) (messages-more ts new ks h.named)
+      ∙ ap (λ (o : Option PlacementTable). messages_in ts ks ++ Tells m (UpdateTo (table_or o)) ∷ []) (slice-last ts (table_of version hosts));
+      kept = record {
+        named = named_push (length ts) (length (ts ++ new)) ks x (omega arith) h.named (omega arith);
+        told = λ l. new_told (length (ts ++ new)) ks m (length ts) (omega arith);
+      };
+    }
+
+-- however the answer is kept, it is the next message
+pub answered_by : (ts : List PlacementTable) (ks : List Kept) (last : ℕ) (m : Member) (reply : PlaceReply) (now : ℕ) (hosts : List HostInfo) → IsPostKept (length ts) ks last → AgreesOn (messages_in ts ks) now hosts reply →
+    AnsweredBy (spot_for ts (updated_version reply)) (last_for (updated_version reply) (length ks) last) ts ks m reply hosts
+answered_by ts ks last m (replies.Update version) now hosts h agrees =
+    cond_both (has_version version (slice_get ts (length ts - 1))) _ _ (λ (s : Spot). AnsweredBy s (length ks) ts ks m (replies.Update version) hosts)
+    (λ e. shared ts ks last m version now hosts h agrees e) (λ _. fresh ts ks last m version hosts h)
+answered_by ts ks last m reply now hosts h agrees = plain ts ks last m reply hosts refl h
+
+-- ---- requests that are delivered
+
+pub delivers_none : (x : Option Message) (now : ℕ) (v : PostView) → asked_of x ≡ None → Delivers x now None v v
+delivers_none None now v e = (refl, refl)
+delivers_none (Some (Asks r)) now v e = absurd (cc)
+delivers_none (Some (Tells m a)) now v e = (refl, refl)
+
+asked_request : (r : Request) (a : Asked) → asked_of (Some (Asks r)) ≡ Some a → record { member = asker_of r; event = change_of r } ≡ a
+asked_request r a e = some_same _ a e
+  where
+    some_same : (a b : Asked) → Some a ≡ Some b → a ≡ b
+    some_same a b e = cc
+
+pub delivered : (x : Option Message) (a : Asked) (now : ℕ) (reply : PlaceReply) (old new : PostView) → asked_of x ≡ Some a → GivesReply a.event now reply old.placement new.placement →
+    new.messages ≡ old.messages ++ Tells a.member (answer_of new.placement.table reply) ∷ [] → Delivers x now (Some reply) old new
+delivered None a now reply old new e g m = absurd (cc)
+delivered (Some (Tells n b)) a now reply old new e g m = absurd (cc)
+delivered (Some (Asks r)) a now reply old new e g m =
+    let same = asked_request r a e in
+    let reply_is : reply ≡ (placement_step old.placement (change_of r) now).reply = g.0 ∙ ap (λ (z : Asked). (placement_step old.placement z.event now).reply) (sym same) in
+    let state_is : new.placement ≡ (placement_step old.placement (change_of r) now).state = g.1 ∙ ap (λ (z : Asked). (placement_step old.placement z.event now).state) (sym same) in
+    (
+      ap (λ (z : PlaceReply). Some z) reply_is,
+      (λ i. record { placement = state_is i; messages = (m ∙ (λ j. old.messages ++ Tells (sym same j).member (answer_of (state_is j).table (reply_is j)) ∷ [])) i }),
+    )
+
+pub agrees_on : (x : Option Message) (a : Asked) (now : ℕ) (reply : PlaceReply) (old : PostView) (s : PlacementState) → asked_of x ≡ Some a → Agrees x now old → GivesReply a.event now reply old.placement s → AgreesOn old.messages now s.table reply
+agrees_on None a now reply old s e h g = absurd (cc)
+agrees_on (Some (Tells n b)) a now reply old s e h g = absurd (cc)
+agrees_on (Some (Asks r)) a now reply old s e h g =
+    let same = asked_request r a e in
+    let reply_is : (placement_step old.placement (change_of r) now).reply ≡ reply = sym (g.0 ∙ ap (λ (z : Asked). (placement_step old.placement z.event now).reply) (sym same)) in
+    let state_is : (placement_step old.placement (change_of r) now).state ≡ s = sym (g.1 ∙ ap (λ (z : Asked). (placement_step old.placement z.event now).state) (sym same)) in
+    subst (λ (z : PlaceReply). AgreesOn old.messages now s.table z) reply_is (subst (λ (z : PlacementState). AgreesOn old.messages now z.table (placement_step old.placement (change_of r) now).reply) state_is h)
+
+-- the version of the round that a restart started
+pub started_is : (s : PlacementState) (now : ℕ) → started_version (restart_record s now) ≡ restarted_version s (placement_restarted s now)
+started_is s now = go ((placement_restarted s now).next_version == s.next_version)
+  where
+    go : (b : Bool) → started_version (cond (not b) (Some (record { joined = None; removed = []; next_version = (placement_restarted s now).next_version })) None) ≡ cond b 0 (last_version (placement_restarted s now))
+    go true = refl
+    go false = refl

@@ -1,0 +1,53 @@
+use Rattle.std.proofs.Common.{◌≡◌, ◌≢◌, ◌<◌, ◌≤◌, ℕ, ◌+◌, ◌-◌, ◌*◌, Bool, true, false, not, List, length, Some, sym, ap, ◌∙◌, subst, arith}
+use Rattle.std.specs.Prelude.{slice_get, bytes_eq}
+use Rattle.std.proofs.lemmas.Bool.{not-false, true≢false}
+use Rattle.std.proofs.lemmas.List.{length-map}
+use Rattle.std.proofs.lemmas.Option.{slice_get-get_or}
+use Rattle.std.proofs.lemmas.Slice.Eq.{bytes_eq-Decides}
+use Rattle.world_run.specs.Layout.{HasNone, IsFirst}
+use Rattle.world_run.specs.Views.{PartsView, state_in, states_of}
+use Rattle.world_run.proofs.Blocks.{none_earlier, none_later, none_other, found_first, place_below}
+use Rattle.world_run.proofs.parts.Parts.first_of.Goals.{then-boot-eq0-via-then-boot-eq0, then-boot-eq0-via-else-boot-eq0+then-boot-len}
+use Rattle.world_run.proofs.parts.Parts.first_of.Goals as goal
+
+differs : (r : Bool) (a b : List ℕ) → r ≡ not (bytes_eq a b) → r ≡ true → a ≡ b → ⊥
+differs r a b e t q = true≢false (sym t ∙ e ∙ ap (λ (z : Bool). not z) ((bytes_eq-Decides a b).1 q))
+
+agrees : (r : Bool) (a b : List ℕ) → r ≡ not (bytes_eq a b) → r ≡ false → a ≡ b
+agrees r a b e f = (bytes_eq-Decides a b).0 (not-false (bytes_eq a b) (sym e ∙ f))
+
+pub returns-then-boot-eq0 : goal.returns-then-boot-eq0
+returns-then-boot-eq0 c =
+    let m = c.args.member.now in
+    let nodes = c.self.inside.nodes.items in
+    let ps = states_of c.self.inside.items.items in
+    subst (λ (v : PartsView). HasNone m v.parts) c.self.view_is
+    (elim c.then-boot-eq0.branch [
+      | then-boot-eq0-via-then-boot-eq0 w ↦ none_earlier m c.self.inside.per 1 nodes ps c.self.invariant.laid (omega arith)
+      | then-boot-eq0-via-else-boot-eq0+then-boot-len w ↦ none_later m c.self.inside.per 1 (m.boot - 1) nodes ps c.self.invariant.laid (omega arith) (omega arith)
+    ])
+
+pub returns-then-ne : goal.returns-then-ne
+returns-then-ne c =
+    let m = c.args.member.now in
+    let nodes = c.self.inside.nodes.items in
+    let ps = states_of c.self.inside.items.items in
+    let node : List ℕ = c.index.result.now in
+    let here = slice_get-get_or nodes (m.boot - 1) node (omega arith) ∙ ap (λ (u : List ℕ). Some u) (sym c.index.ensures) in
+    subst (λ (v : PartsView). HasNone m v.parts) c.self.view_is
+    (none_other m c.self.inside.per 1 (m.boot - 1) nodes ps node c.self.invariant.laid (omega arith) here
+    (λ q. differs c.ne.result _ _ (c.ne.ensures) c.if-ne.true (c.as_slice.ensures ∙ sym q ∙ sym c.as_slice-2.ensures)))
+
+pub overflow_mul-result : goal.overflow_mul-result
+overflow_mul-result c =
+    omega (arith, place_below c.self.inside.per (c.args.member.now.boot - 1) c.self.inside.nodes.items (states_of c.self.inside.items.items) c.self.invariant.laid (omega arith), length-map c.self.inside.items.items state_in, c.self.inside.items.ok.0)
+
+pub returns : goal.returns
+returns c =
+    let m = c.args.member.now in
+    let nodes = c.self.inside.nodes.items in
+    let ps = states_of c.self.inside.items.items in
+    let node : List ℕ = c.index.result.now in
+    let here = slice_get-get_or nodes (m.boot - 1) node (omega arith) ∙ ap (λ (u : List ℕ). Some u) (sym c.index.ensures) in
+    subst (λ (v : PartsView). IsFirst v.parts m v.per ((m.boot - 1) * c.self.inside.per)) c.self.view_is
+    (found_first m c.self.inside.per 1 (m.boot - 1) nodes ps c.self.invariant.many c.self.invariant.laid (omega arith) (here ∙ ap (λ (u : List ℕ). Some u) (sym c.as_slice.ensures ∙ agrees c.ne.result _ _ c.ne.ensures c.if-ne.false ∙ c.as_slice-2.ensures)))

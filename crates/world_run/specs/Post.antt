@@ -1,0 +1,160 @@
+-- The placement, and the messages that were added; a table is kept once for each version. Own.
+use Rattle.std.specs.Prelude.{◌≡◌, ℕ, zero, suc, ◌<◌, ◌-◌, Bool, true, false, ◌==◌, if◌then◌else◌, List, [], ◌∷◌, ◌++◌, length, map, slice_get, Option, None, Some}
+use Rattle.actor_names.specs.declared.member.Member.{Member}
+use Rattle.place_table.specs.declared.host.HostInfo.{HostInfo}
+use Rattle.place_table.specs.Hosts.{PlacementTable}
+use Rattle.part_core.specs.Part.{no_table}
+use Rattle.part_core.specs.declared.event.PartEvent.{PartEvent}
+use Rattle.round_core.specs.declared.event.PlaceEvent.{PlaceEvent}
+use Rattle.round_core.specs.declared.event.PlaceEvent.TheVariants as changes
+use Rattle.round_core.specs.declared.event.PlaceReply.{PlaceReply}
+use Rattle.round_core.specs.declared.event.PlaceReply.TheVariants as replies
+use Rattle.round_core.specs.Placement.{PlacementState, placement_step}
+use Rattle.round_core.specs.Records.{RecordOf}
+use Rattle.member_roster.specs.Members.{Joined, is_late}
+use Rattle.cluster_model.specs.Messages.{Request, Register, Beat, Ack, Leave, Answer, LockAt, UpdateTo, UnlockAt, Says, Message, Asks, Tells, table_of, answer_of, change_of, asker_of, told_event}
+use Rattle.world_run.specs.declared.kept.Kept.{Kept}
+use Rattle.world_run.specs.declared.kept.Kept.TheVariants as kept
+use Rattle.world_run.specs.declared.kept.Told.{Told}
+use Rattle.world_run.specs.declared.kept.Asked.{Asked}
+use Rattle.world_run.specs.declared.kept.Spot.{Spot}
+
+pub record PostView : Type 0 where
+  pub placement : PlacementState
+  pub messages : List Message
+
+abbrev pub table_or : Option PlacementTable → PlacementTable
+table_or None = no_table
+table_or (Some t) = t
+
+-- the message that is kept so, where the tables that were told are these
+abbrev pub message_in : List PlacementTable → Kept → Message
+message_in ts (kept.Register host) = Asks (Register host)
+message_in ts (kept.Beat m) = Asks (Beat m)
+message_in ts (kept.Ack m stage version) = Asks (Ack m stage version)
+message_in ts (kept.Leave m) = Asks (Leave m)
+message_in ts (kept.Lock m version) = Tells m (LockAt version)
+message_in ts (kept.Update m at) = Tells m (UpdateTo (table_or (slice_get ts at)))
+message_in ts (kept.Unlock m version) = Tells m (UnlockAt version)
+message_in ts (kept.Says m reply) = Tells m (Says reply)
+
+abbrev pub messages_in : List PlacementTable → List Kept → List Message
+messages_in ts ks = map (message_in ts) ks
+
+-- the table that the placement fixed last and that isn't built yet, where its version was told
+abbrev pub pending_table : Option ℕ → List HostInfo → List PlacementTable
+pending_table None hosts = []
+pending_table (Some version) hosts = table_of version hosts ∷ []
+
+-- all tables that were told
+abbrev pub told_tables : List PlacementTable → Option ℕ → List HostInfo → List PlacementTable
+told_tables built pending hosts = built ++ pending_table pending hosts
+
+-- an Update message names a table that was told
+abbrev pub names_table : ℕ → Kept → Type 0
+names_table n (kept.Update m at) = at < n
+names_table n k = Unit {0}
+
+-- whether the message at a place carries the table at another
+abbrev pub brings : ℕ → Option Kept → Bool
+brings at (Some (kept.Update m place)) = place == at
+brings at k = false
+
+-- Each Update message names a table that was told, and the message at `last` carries the last of these.
+pub record IsPostKept (tables : ℕ) (ks : List Kept) (last : ℕ) : Type 0 where
+  pub named : (k : ℕ) (x : Kept) → slice_get ks k ≡ Some x → names_table tables x
+  pub told : 0 < tables → brings (tables - 1) (slice_get ks last) ≡ true
+
+-- messages are numbered from 1
+abbrev pub numbered : List Message → ℕ → Option Message
+numbered ms zero = None
+numbered ms (suc k) = slice_get ms k
+
+-- what a message tells, and to whom
+abbrev pub told_of : Option Message → ℕ → Option Told
+told_of None now = None
+told_of (Some (Asks r)) now = None
+told_of (Some (Tells m answer)) now = Some (record { member = m; event = told_event answer now })
+
+-- the placement's answer to a request is the next message
+abbrev pub answered : PostView → Request → ℕ → PostView
+answered v r now =
+    let s = placement_step v.placement (change_of r) now in
+    record { placement = s.state; messages = v.messages ++ Tells (asker_of r) (answer_of s.state.table s.reply) ∷ [] }
+
+-- what comes of the delivery of a message to the placement: nothing where there is no such request
+abbrev pub Delivers : Option Message → ℕ → Option PlaceReply → PostView → PostView → Type 0
+Delivers (Some (Asks r)) now result old new = (result ≡ Some (placement_step old.placement (change_of r) now).reply) × (new ≡ answered old r now)
+Delivers x now result old new = (result ≡ None) × (new ≡ old)
+
+-- Where the answer is an Update, each table of its version that was told is the one that the placement fixed last.
+abbrev pub AgreesOn : List Message → ℕ → List HostInfo → PlaceReply → Type 0
+AgreesOn ms now hosts (replies.Update version) = (m : Member) (t : PlacementTable) (k : ℕ) → slice_get ms k ≡ Some (Tells m (UpdateTo t)) → t.version ≡ version → t ≡ table_of version hosts
+AgreesOn ms now hosts reply = Unit {0}
+
+abbrev pub Agrees : Option Message → ℕ → PostView → Type 0
+Agrees (Some (Asks r)) now v = (let s = placement_step v.placement (change_of r) now in AgreesOn v.messages now s.state.table s.reply)
+Agrees x now v = Unit {0}
+
+-- ---- how the next message is kept
+
+-- a request, by whom and what it makes the placement do
+abbrev pub asked_of : Option Message → Option Asked
+asked_of None = None
+asked_of (Some (Asks r)) = Some (record { member = asker_of r; event = change_of r })
+asked_of (Some (Tells m answer)) = None
+
+abbrev pub is_request : Kept → Bool
+is_request (kept.Register host) = true
+is_request (kept.Beat m) = true
+is_request (kept.Ack m stage version) = true
+is_request (kept.Leave m) = true
+is_request k = false
+
+abbrev pub kept_answer : Member → PlaceReply → ℕ → Kept
+kept_answer m (replies.Lock version) at = kept.Lock m version
+kept_answer m (replies.Update version) at = kept.Update m at
+kept_answer m (replies.Unlock version) at = kept.Unlock m version
+kept_answer m reply at = kept.Says m reply
+
+-- the version of an Update
+abbrev pub updated_version : PlaceReply → Option ℕ
+updated_version (replies.Update version) = Some version
+updated_version reply = None
+
+abbrev pub has_version : ℕ → Option PlacementTable → Bool
+has_version version None = false
+has_version version (Some t) = t.version == version
+
+-- the place of the table of a version, where the last table may be it
+abbrev pub spot_for : List PlacementTable → Option ℕ → Spot
+spot_for ts None = record { table = 0; pending = None }
+spot_for ts (Some version) =
+    if has_version version (slice_get ts (length ts - 1)) then record { table = length ts - 1; pending = None }
+    else record { table = length ts; pending = Some version }
+
+abbrev pub is_register : PlaceEvent → Bool
+is_register (changes.Register host) = true
+is_register event = false
+
+abbrev pub place_wants : PlaceReply → Bool
+place_wants replies.OutOfMemory = true
+place_wants reply = false
+
+-- the member, where a Tick at this moment drops it
+abbrev pub late_member : ℕ → Joined → Option Member
+late_member now j = if is_late now j then Some j.host.member else None
+
+-- the reply and the state of a step
+abbrev pub GivesReply : PlaceEvent → ℕ → PlaceReply → PlacementState → PlacementState → Type 0
+GivesReply event now reply old new = (reply ≡ (placement_step old event now).reply) × (new ≡ (placement_step old event now).state)
+
+-- the version of the round that a restart started, by its record
+abbrev pub started_version : Option RecordOf → ℕ
+started_version None = 0
+started_version (Some r) = r.next_version - 1
+
+-- where the message stands that brought the last table, after one more
+abbrev pub last_for : Option ℕ → ℕ → ℕ → ℕ
+last_for None count last = last
+last_for (Some version) count last = count

@@ -1,0 +1,126 @@
+-- What contracts see of the world of a cluster script: the cluster's state without its marks, and how many turns began
+-- and ended, which the marks tell. Own.
+use Rattle.std.specs.Prelude.{◌≡◌, ◌⊎◌, ℕ, zero, suc, ◌+◌, ◌-◌, List, [], ◌∷◌, ◌++◌, Option, Result, Ok, Err}
+use Rattle.part_core.specs.Marks.{PartMark, TurnBegan, TurnEnded, BecameActive, BecameInactive, PartOpened}
+use Rattle.part_core.specs.Part.{PartState, ring_owner}
+use Rattle.round_core.specs.Placement.{PlacementState}
+use Rattle.world_events.specs.declared.settings.WorldSettings.{WorldSettings}
+use Rattle.world_events.specs.declared.event.WorldEvent.{WorldEvent}
+use Rattle.world_events.specs.declared.outcome.Outcome.{Outcome}
+use Rattle.world_events.specs.declared.error.WorldError.{WorldError}
+use Rattle.world_events.specs.declared.error.WorldError.TheVariants.{OutOfMemory}
+use Rattle.cluster_model.specs.Messages.{Message}
+use Rattle.cluster_model.specs.World.{ClusterState, CallPlace, TraceMark, WorldStep, key_part, happens, cluster_step}
+use Rattle.world_run.specs.CallIndex.{CallsView}
+use Rattle.world_run.specs.Post.{PostView}
+use Rattle.world_run.specs.Views.{PartsView, capped, more}
+
+pub record WorldView : Type 0 where
+  pub settings : WorldSettings
+  pub placement : PlacementState
+  pub parts : List PartState
+  pub boots : ℕ
+  pub messages : List Message
+  pub now : ℕ
+  pub calls : List (Option CallPlace)
+  pub events : ℕ
+  pub begun : ℕ  -- turns, up to the greatest number of 64 bits
+  pub ended : ℕ  -- the same
+
+-- ---- turns in marks
+
+abbrev pub begins_turn : PartMark → ℕ
+begins_turn (TurnBegan key call chain) = 1
+begins_turn (TurnEnded key call) = 0
+begins_turn (BecameActive key version) = 0
+begins_turn (BecameInactive key) = 0
+begins_turn (PartOpened number version) = 0
+
+abbrev pub ends_turn : PartMark → ℕ
+ends_turn (TurnBegan key call chain) = 0
+ends_turn (TurnEnded key call) = 1
+ends_turn (BecameActive key version) = 0
+ends_turn (BecameInactive key) = 0
+ends_turn (PartOpened number version) = 0
+
+-- how many turns began
+abbrev pub turns_begun : List TraceMark → ℕ
+turns_begun [] = 0
+turns_begun (x ∷ xs) = begins_turn x.what + turns_begun xs
+
+-- how many turns ended
+abbrev pub turns_ended : List TraceMark → ℕ
+turns_ended [] = 0
+turns_ended (x ∷ xs) = ends_turn x.what + turns_ended xs
+
+-- ---- the view of a cluster
+
+abbrev pub view_of : ClusterState → WorldView
+view_of w =
+    record {
+      settings = w.settings;
+      placement = w.placement;
+      parts = w.parts;
+      boots = w.boots;
+      messages = w.messages;
+      now = w.now;
+      calls = w.calls;
+      events = w.events;
+      begun = capped (turns_begun w.marks);
+      ended = capped (turns_ended w.marks);
+    }
+
+-- how many turns are open
+abbrev pub open_turns : WorldView → ℕ
+open_turns v = v.begun - v.ended
+
+-- what a step gives: the outcome and the view of the step's cluster, or want of memory and nothing changed
+abbrev pub GivesStep : Result Outcome WorldError → WorldView → WorldStep → WorldView → Type 0
+GivesStep result old step new = ((result ≡ Err OutOfMemory) × (new ≡ old)) ⊎ ((result ≡ step.outcome) × (new ≡ view_of step.world))
+
+-- ---- a cluster whose marks are forgotten
+
+-- the cluster of a view, with no mark
+abbrev pub cluster_of : WorldView → ClusterState
+cluster_of v =
+    record { settings = v.settings; placement = v.placement; parts = v.parts; boots = v.boots; messages = v.messages; now = v.now; calls = v.calls; marks = []; events = v.events }
+
+-- the view after a step whose marks are these alone
+abbrev pub after : WorldView → ClusterState → WorldView
+after v w =
+    record {
+      settings = w.settings;
+      placement = w.placement;
+      parts = w.parts;
+      boots = w.boots;
+      messages = w.messages;
+      now = w.now;
+      calls = w.calls;
+      events = w.events;
+      begun = more v.begun (turns_begun w.marks);
+      ended = more v.ended (turns_ended w.marks);
+    }
+
+-- the same of a step that begins with no mark
+abbrev pub Gives : Result Outcome WorldError → WorldView → WorldView → WorldStep → Type 0
+Gives result old new step = ((result ≡ Err OutOfMemory) × (new ≡ old)) ⊎ ((result ≡ step.outcome) × (new ≡ after old step.world))
+
+-- what happens to a cluster of this view
+abbrev pub Happens : Result Outcome WorldError → WorldView → WorldView → WorldEvent → Type 0
+Happens result old new event = Gives result old new (happens ring_owner key_part (cluster_of old) event)
+
+-- the view of what a world is made of
+abbrev pub viewed : WorldSettings → PostView → PartsView → CallsView → ℕ → ℕ → WorldView
+viewed settings post parts calls now events =
+    record {
+      settings = settings;
+      placement = post.placement;
+      parts = parts.parts;
+      boots = parts.boots;
+      messages = post.messages;
+      now = now;
+      calls = calls.calls;
+      events = events;
+      begun = parts.begun;
+      ended = parts.ended;
+    }

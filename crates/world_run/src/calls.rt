@@ -1,0 +1,120 @@
+// The calls of the script, in the order in which they were asked.
+ghost use Rattle.std.specs.Prelude.{◌≡◌, ◌++◌, ◌∷◌, [], ℕ, Some, length, OnOk, option_map};
+ghost use Rattle.cluster_model.specs.World.{CallPlace, call_at, script_number, place_of_call};
+ghost use Rattle.world_run.specs.CallIndex.{HasRoom, call_place};
+
+use actor_names::OutOfMemory;
+use part_core::PartReply;
+use std::alloc::Global;
+use std::collections::HashMap;
+use std::marker::Model;
+
+/// Where a call was asked: the place of the part, and the part's number for it.
+#[derive(Clone, Copy)]
+pub(crate) struct CallAt {
+    pub(crate) place: usize,
+    pub(crate) call: u64,
+}
+
+/// The calls of the script; none where a call was refused. An index finds the script's number of a part's call.
+#[derive(Drop)]
+pub(crate) struct Calls {
+    items: Vec<Option<CallAt>>,
+    numbers: HashMap<(usize, u64), u64>,
+}
+
+impl Model for Calls {
+    ghost use Rattle.std.specs.Prelude.{◌-◌, vec_len, vec_capacity};
+    ghost use Rattle.std.specs.HashMap.{spare};
+    ghost use Rattle.world_run.specs.CallIndex.{CallsView, calls_of, IsIndexed};
+
+    ghost Value = { CallsView };
+
+    ghost view = { λ a. record { calls = calls_of a.items.items; room = vec_capacity a.items - vec_len a.items; spare = spare a.numbers } };
+
+    ghost invariant = { λ a. IsIndexed (calls_of a.items.items) a.numbers };
+}
+
+/// The number that a part drew for a call, where it wasn't refused.
+fn drawn_call(reply: &PartReply) -> Option<u64>
+    ensures { (place : ℕ) → option_map (λ call. record { place = place; call = call }) result ≡ place_of_call place reply.now }
+{
+    match reply {
+        PartReply::Begun { call, .. } => Some(*call),
+        PartReply::Waits { call, .. } => Some(*call),
+        _ => None,
+    }
+}
+
+impl Calls {
+    /// No call.
+    pub(crate) fn new(alloc: Global) -> Calls
+        ensures { result.calls ≡ [] }
+    {
+        Calls {
+            items: Vec::new(alloc),
+            numbers: HashMap::new(alloc),
+        }
+    }
+
+    /// How many calls there are.
+    pub(crate) fn len(&self) -> usize
+        ensures { result ≡ length self.now.calls }
+    {
+        self.items.len()
+    }
+
+    /// Where a call was asked, if it wasn't refused.
+    pub(crate) fn at(&self, call: u64) -> Option<CallAt>
+        ensures { option_map call_place result ≡ call_at self.now.calls call }
+    {
+        if call == 0 || call > self.items.len() as u64 {
+            return None;
+        }
+        self.items[call as usize - 1]
+    }
+
+    /// Makes room for one call more.
+    pub(crate) fn reserve(&mut self) -> Result<(), OutOfMemory>
+        ensures same { self.new.calls ≡ self.old.calls }
+        ensures room { OnOk result (HasRoom self.new) }
+    {
+        self.items.reserve(1)?;
+        self.numbers.reserve(1)?;
+        Ok(())
+    }
+
+    /// One call more, which was asked at this place and got this reply.
+    pub(crate) fn add(&mut self, place: usize, reply: &PartReply)
+        requires { HasRoom self.old }
+        ensures { self.new.calls ≡ self.old.calls ++ place_of_call place reply.now ∷ [] }
+    {
+        match drawn_call(reply) {
+            None => self.items.push(None).unwrap(),
+            Some(call) => self.put(place, call),
+        }
+    }
+
+    /// One call more, for which its part drew this number.
+    fn put(&mut self, place: usize, call: u64)
+        requires { HasRoom self.old }
+        ensures { self.new.calls ≡ self.old.calls ++ Some (record { place = place; call = call }) ∷ [] }
+    {
+        let number = self.items.len() as u64 + 1;
+        if self.numbers.get(&(place, call)).is_none() {
+            let kept: Result<_, _> = self.numbers.insert((place, call), number);
+            let _ = kept.unwrap();
+        }
+        self.items.push(Some(CallAt { place, call })).unwrap();
+    }
+
+    /// The script's number of the call that the part at this place has under this number; 0 where there is none.
+    pub(crate) fn number_of(&self, place: usize, call: u64) -> u64
+        ensures { result ≡ script_number self.now.calls 1 place call }
+    {
+        match self.numbers.get(&(place, call)) {
+            Some(number) => *number,
+            None => 0,
+        }
+    }
+}
