@@ -19,7 +19,7 @@ use Rattle.cluster_model.specs.Messages.{Message, Asks, Tells, told_event}
 use Rattle.cluster_model.specs.World as world
 use Rattle.cluster_model.specs.World.{ClusterState, CallPlace, key_part, cluster_step, cluster_run, outcomes, most_events}
 use Rattle.cluster_model.proofs.Lines.{run_kept, step_kept}
-use Rattle.world_run.specs.Looks.{request_at}
+use Rattle.world_run.specs.Looks.{asks_at}
 use Rattle.world_drill.specs.Drill as drill
 use Rattle.world_drill.specs.Drill.{AreHonest, is_dishonest, drill_settings, drill_events, draw_of, first_of, second_of, third_of, events_from, step_events}
 use Rattle.world_drill.proofs.Losses.{HasTwoEach, two_kept, new_two, stop_stops, stop_keeps, both_stopped}
@@ -187,7 +187,7 @@ honest_delivered w k part (Some false) = honest_one w (lines.Part k part) tt
 honest_delivery : (w : ClusterState) (a b : ℕ) → AreHonest w (drill.delivery w a b)
 honest_delivery w a b =
     cond_both (length w.messages == 0) _ _ (AreHonest w) (λ _. refl)
-    (λ _. (let k = length w.messages - a % min (length w.messages) 8 in honest_delivered w k (b % 2) (request_at w.messages k)))
+    (λ _. (let k = length w.messages - a % min (length w.messages) 8 in honest_delivered w k (b % 2) (asks_at w.messages k)))
 
 quiet_closed : (m : Member) (r : Result Outcome WorldError) → AreQuiet (drill.closed_after m r)
 quiet_closed m (Ok (out.Closing key)) = (tt, tt)

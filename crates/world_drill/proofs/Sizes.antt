@@ -10,7 +10,7 @@ use Rattle.world_events.specs.declared.outcome.Outcome.{Outcome}
 use Rattle.world_events.specs.declared.outcome.Outcome.TheVariants as out
 use Rattle.world_events.specs.declared.error.WorldError.{WorldError}
 use Rattle.cluster_model.specs.World.{ClusterState, key_part, cluster_step, cluster_run}
-use Rattle.world_run.specs.Looks.{request_at}
+use Rattle.world_run.specs.Looks.{asks_at}
 use Rattle.world_drill.specs.Drill as drill
 use Rattle.world_drill.specs.Drill.{first_of, second_of, third_of, draw_of, step_events, events_from}
 
@@ -33,7 +33,7 @@ few_delivered k part (Some false) = omega arith
 few_delivery : (w : ClusterState) (a b : ℕ) → AreFew (drill.delivery w a b)
 few_delivery w a b =
     cond_both (length w.messages == 0) _ _ AreFew (λ _. omega arith)
-    (λ _. (let k = length w.messages - a % min (length w.messages) 8 in few_delivered k (b % 2) (request_at w.messages k)))
+    (λ _. (let k = length w.messages - a % min (length w.messages) 8 in few_delivered k (b % 2) (asks_at w.messages k)))
 
 few_closed : (m : Member) (r : Result Outcome WorldError) → length (drill.closed_after m r) ≤ 1
 few_closed m (Ok (out.Closing key)) = omega arith

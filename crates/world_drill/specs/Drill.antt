@@ -13,7 +13,7 @@ use Rattle.world_events.specs.declared.error.WorldError.{WorldError}
 use Rattle.world_events.specs.declared.error.WorldError.TheVariants.{Dishonest}
 use Rattle.cluster_model.specs.World.{ClusterState, opening_cluster, key_part, cluster_step, cluster_run, outcomes}
 use Rattle.cluster_model.specs.Counts.{begun_turns, open_turns}
-use Rattle.world_run.specs.Looks.{first_member, request_at}
+use Rattle.world_run.specs.Looks.{member_in, asks_at}
 use Rattle.world_drill.specs.declared.counts.DrillCounts.{DrillCounts}
 
 -- ---- the generator
@@ -39,7 +39,7 @@ drill_settings = record { parts = 2; kinds = record { kind = counter; idle_ms = 
 
 -- the member of this number, counted from 0 in order of boot, past the last one from the first again
 abbrev pub member_numbered : ClusterState → ℕ → Option Member
-member_numbered w n = if w.boots == 0 then None else first_member (slice_get w.parts (n % w.boots * w.settings.parts))
+member_numbered w n = if w.boots == 0 then None else member_in (slice_get w.parts (n % w.boots * w.settings.parts))
 
 abbrev pub events_of : Option Member → (Member → List WorldEvent) → List WorldEvent
 events_of None events = []
@@ -69,7 +69,7 @@ delivered k part (Some false) = lines.Part k part ∷ []
 abbrev pub delivery : ClusterState → ℕ → ℕ → List WorldEvent
 delivery w a b =
     if length w.messages == 0 then [] else
-    (let k = length w.messages - a % min (length w.messages) 8 in delivered k (b % 2) (request_at w.messages k))
+    (let k = length w.messages - a % min (length w.messages) 8 in delivered k (b % 2) (asks_at w.messages k))
 
 abbrev pub boot_of : ClusterState → ℕ → List WorldEvent
 boot_of w a = if nat_lt w.boots 64 then lines.Boot (codes "n" ++ decimal (a % 4)) (counter ∷ []) ∷ [] else []

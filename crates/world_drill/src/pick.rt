@@ -120,7 +120,7 @@ fn deliver(world: &World, a: u64, b: u64) -> Choice
         return Choice::Nothing;
     }
     let message = count - a % count.min(LAST_MESSAGES);
-    match world.is_request(message) {
+    match world.asks(message) {
         None => Choice::Nothing,
         Some(true) => Choice::One {
             event: WorldEvent::To { message },
