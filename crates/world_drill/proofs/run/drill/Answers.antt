@@ -15,7 +15,7 @@ pub returns-clause-honest : goal.returns-clause-honest
 returns-clause-honest c = drill_honest c.args.seed c.args.steps
 
 pub steps-init : goal.steps-init
-steps-init c = way_begins c.in_ok-world.world c.new-generator.result (c.args.steps - 0) c.args.seed c.args.steps c.in_ok-world.ensures c.new-generator.ensures (omega arith)
+steps-init c = way_begins c.in_ok-world.world c.new-generator.result _ c.args.seed c.args.steps c.in_ok-world.ensures c.new-generator.ensures (omega arith)
 
 pub steps-preserved : goal.steps-preserved
 steps-preserved c =
