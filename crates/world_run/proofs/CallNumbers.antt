@@ -64,7 +64,6 @@ unfolding or_else
 or_none None = refl
 or_none (Some a) = refl
 
-
 -- a call that was refused is in no index
 pub indexed_none : {S : Type 0} (cs : List (Option CallPlace)) (m : HashMap (ℕ × ℕ) ℕ S) → IsIndexed cs m → IsIndexed (cs ++ None ∷ []) m
 unfolding or_else

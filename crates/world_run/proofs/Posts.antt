@@ -1,6 +1,7 @@
 -- Messages as they are kept, and the tables that were told.
-use Rattle.std.proofs.Common.{◌≡◌, ◌≢◌, ℕ, ◌+◌, ◌-◌, ◌<◌, ◌≤◌, Bool, true, false, cond, not, List, [], ◌∷◌, ◌++◌, length, get_or, refl, sym, ap, ◌∙◌, subst, arith, append-nil, append_assoc}
-use Rattle.std.specs.Prelude.{zero, suc, ◌&&◌, ◌==◌, map, slice_get, Option, None, Some}
+use Rattle.std.proofs.Common.{◌≡◌, ◌≢◌, ◌⊎◌, inl, inr, ℕ, ◌+◌, ◌-◌, ◌<◌, ◌≤◌, Bool, true, false, cond, not, List, [], ◌∷◌, ◌++◌, length, get_or, refl, sym, ap, ◌∙◌, subst, arith, append-nil, append_assoc}
+use Rattle.std.specs.Prelude.{zero, suc, ◌&&◌, ◌==◌, map, slice_get, Option, None, Some, MatchOption}
+use Rattle.std.specs.Option.{option_to_list}
 use Rattle.std.proofs.lemmas.Bool.{eqb-true, eq-eqb, cond_both}
 use Rattle.std.proofs.lemmas.List.{map-append, length-append, length-map}
 use Rattle.std.proofs.lemmas.Option.{slice_get-get_or}
@@ -215,7 +216,7 @@ plain ts ks last m reply hosts e h =
     record {
       messages = ap (λ (us : List PlacementTable). messages_in us (ks ++ x ∷ [])) (append-nil ts) ∙ messages-push ts ks x ∙ ap (λ (y : Message). messages_in ts ks ++ y ∷ []) (kept_plain ts m reply 0 hosts e);
       kept = subst (λ (us : List PlacementTable). IsPostKept (length us) (ks ++ x ∷ []) last) (sym (append-nil ts))
-      (record { named = named_push (length ts) (length ts) ks x (omega arith) h.named (plain_names m reply 0 (length ts) e); told = still_told (length ts) last ks x h.told });
+          (record { named = named_push (length ts) (length ts) ks x (omega arith) h.named (plain_names m reply 0 (length ts) e); told = still_told (length ts) last ks x h.told });
     }
 
 -- an Update brings the last table
@@ -239,9 +240,9 @@ shared ts ks last m version now hosts h agrees e =
     let same : t.0 ≡ table_of version hosts = agrees b.0 t.0 last told t.2 in
     record {
       messages = ap (λ (us : List PlacementTable). messages_in us (ks ++ x ∷ [])) (append-nil ts) ∙ messages-push ts ks x
-      ∙ ap (λ (o : Option PlacementTable). messages_in ts ks ++ Tells m (UpdateTo (table_or o)) ∷ []) (t.1 ∙ ap (λ (z : PlacementTable). Some z) same);
+          ∙ ap (λ (o : Option PlacementTable). messages_in ts ks ++ Tells m (UpdateTo (table_or o)) ∷ []) (t.1 ∙ ap (λ (z : PlacementTable). Some z) same);
       kept = subst (λ (us : List PlacementTable). IsPostKept (length us) (ks ++ x ∷ []) (length ks)) (sym (append-nil ts))
-      (record { named = named_push (length ts) (length ts) ks x (omega arith) h.named some; told = λ l. new_told (length ts) ks m at refl });
+          (record { named = named_push (length ts) (length ts) ks x (omega arith) h.named some; told = λ l. new_told (length ts) ks m at refl });
     }
 
 fresh : (ts : List PlacementTable) (ks : List Kept) (last : ℕ) (m : Member) (version : ℕ) (hosts : List HostInfo) → IsPostKept (length ts) ks last →
@@ -252,7 +253,7 @@ fresh ts ks last m version hosts h =
     let count : length (ts ++ new) ≡ length ts + 1 = length-append ts new in
     record {
       messages = messages-push (ts ++ new) ks x ∙ ap (λ (z : List Message). z ++ message_in (ts ++ new) x ∷ []) (messages-more ts new ks h.named)
-      ∙ ap (λ (o : Option PlacementTable). messages_in ts ks ++ Tells m (UpdateTo (table_or o)) ∷ []) (slice-last ts (table_of version hosts));
+          ∙ ap (λ (o : Option PlacementTable). messages_in ts ks ++ Tells m (UpdateTo (table_or o)) ∷ []) (slice-last ts (table_of version hosts));
       kept = record {
         named = named_push (length ts) (length (ts ++ new)) ks x (omega arith) h.named (omega arith);
         told = λ l. new_told (length (ts ++ new)) ks m (length ts) (omega arith);
@@ -287,8 +288,7 @@ delivered (Some (Tells n b)) a now reply old new e g m = absurd (cc)
 delivered (Some (Asks r)) a now reply old new e g m =
     let same = asked_request r a e in
     let reply_is : reply ≡ (placement_step old.placement (change_of r) now).reply = g.0 ∙ ap (λ (z : Asked). (placement_step old.placement z.event now).reply) (sym same) in
-    let state_is : new.placement ≡ (placement_step old.placement (change_of r) now).state = g.1 ∙ ap (λ (z : Asked). (placement_step old.placement z.event now).state) (sym same) in
-    (
+    let state_is : new.placement ≡ (placement_step old.placement (change_of r) now).state = g.1 ∙ ap (λ (z : Asked). (placement_step old.placement z.event now).state) (sym same) in (
       ap (λ (z : PlaceReply). Some z) reply_is,
       (λ i. record { placement = state_is i; messages = (m ∙ (λ j. old.messages ++ Tells (sym same j).member (answer_of (state_is j).table (reply_is j)) ∷ [])) i }),
     )
@@ -309,3 +309,59 @@ started_is s now = go ((placement_restarted s now).next_version == s.next_versio
     go : (b : Bool) → started_version (cond (not b) (Some (record { joined = None; removed = []; next_version = (placement_restarted s now).next_version })) None) ≡ cond b 0 (last_version (placement_restarted s now))
     go true = refl
     go false = refl
+
+-- ---- the last message is taken back
+
+pub snoc_same : {A : Type 0} (xs ys : List A) (x y : A) → xs ++ x ∷ [] ≡ ys ++ y ∷ [] → (xs ≡ ys) × (x ≡ y)
+snoc_same [] [] x y e = (refl, head e)
+  where
+    head : x ∷ [] ≡ y ∷ [] → x ≡ y
+    head e = cc
+snoc_same [] (z ∷ []) x y e = absurd (let f : length (x ∷ []) ≡ length (z ∷ y ∷ []) = ap length e in omega arith)
+snoc_same [] (z ∷ w ∷ ys) x y e = absurd (let f : length (x ∷ []) ≡ length (z ∷ w ∷ (ys ++ y ∷ [])) = ap length e in omega arith)
+snoc_same (z ∷ []) [] x y e = absurd (let f : length (z ∷ x ∷ []) ≡ length (y ∷ []) = ap length e in omega arith)
+snoc_same (z ∷ w ∷ xs) [] x y e = absurd (let f : length (z ∷ w ∷ (xs ++ x ∷ [])) ≡ length (y ∷ []) = ap length e in omega arith)
+snoc_same (z ∷ xs) (w ∷ ys) x y e = (let h = snoc_same xs ys x y (tail e) in ((λ i. head e i ∷ h.0 i), h.1))
+  where
+    head : z ∷ (xs ++ x ∷ []) ≡ w ∷ (ys ++ y ∷ []) → z ≡ w
+    head e = cc
+
+    tail : z ∷ (xs ++ x ∷ []) ≡ w ∷ (ys ++ y ∷ []) → xs ++ x ∷ [] ≡ ys ++ y ∷ []
+    tail e = cc
+
+slice-snoc : {A : Type 0} (xs : List A) (x y : A) (n : ℕ) → slice_get (xs ++ x ∷ []) n ≡ Some y → (slice_get xs n ≡ Some y) ⊎ (x ≡ y)
+slice-snoc [] x y zero e = inr (some_same e)
+  where
+    some_same : Some x ≡ Some y → x ≡ y
+    some_same e = cc
+slice-snoc [] x y (suc n) e = absurd (cc)
+slice-snoc (z ∷ xs) x y zero e = inl e
+slice-snoc (z ∷ xs) x y (suc n) e = slice-snoc xs x y n e
+
+update_asks : (ts : List PlacementTable) (x : Kept) (m : Member) (at : ℕ) (r : Request) → x ≡ kept.Update m at → message_in ts x ≡ Asks r → ⊥
+update_asks ts x m at r e f = (let g : Tells m (UpdateTo (table_or (slice_get ts at))) ≡ Asks r = ap (λ (z : Kept). message_in ts z) (sym e) ∙ f in cc)
+
+-- the messages before the last one
+pub record Withdrawn (ts : List PlacementTable) (last : ℕ) (ks : List Kept) (front : List Message) : Type 0 where
+  pub kept : IsPostKept (length ts) ks last
+  pub messages : messages_in ts ks ≡ front
+
+pub withdrawn : (ts : List PlacementTable) (last : ℕ) (old new : List Kept) (o : Option Kept) (front : List Message) (r : Request) → IsPostKept (length ts) old last → messages_in ts old ≡ front ++ Asks r ∷ [] →
+    old ≡ new ++ option_to_list o → MatchOption o (length old ≡ 0) (λ _. Unit {0}) → Withdrawn ts last new front
+withdrawn ts last old new None front r h asks items cases =
+    absurd (let e : length (messages_in ts old) ≡ length (front ++ Asks r ∷ []) = ap length asks in omega (arith, e, cases, length-map old (message_in ts), length-append front (Asks r ∷ [])))
+withdrawn ts last old new (Some x) front r h asks items cases =
+    let both = snoc_same (messages_in ts new) front (message_in ts x) (Asks r) (sym (messages-push ts new x) ∙ ap (λ (ks : List Kept). messages_in ts ks) (sym items) ∙ asks) in
+    let was : (n : ℕ) (y : Kept) → slice_get new n ≡ Some y → slice_get old n ≡ Some y = λ n y e. ap (λ (ks : List Kept). slice_get ks n) items ∙ slice-append_left new (x ∷ []) n y e in
+    record {
+      kept = record {
+        named = λ n y e. h.named n y (was n y e);
+        told = λ l.
+            let b = brings_some (length ts - 1) (slice_get old last) (h.told l) in
+            elim (slice-snoc new x (kept.Update b.0 (length ts - 1)) last (ap (λ (ks : List Kept). slice_get ks last) (sym items) ∙ b.1)) [
+              | inl e ↦ subst (λ (z : Option Kept). brings (length ts - 1) z ≡ true) (sym e) (brings_same (length ts - 1) b.0)
+              | inr e ↦ absurd (update_asks ts x b.0 (length ts - 1) r e both.1)
+            ];
+      };
+      messages = both.0;
+    }

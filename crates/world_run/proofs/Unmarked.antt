@@ -41,19 +41,19 @@ ended-tagged m (BecameActive key version ∷ ms) = (let e = ended-tagged m ms in
 ended-tagged m (BecameInactive key ∷ ms) = (let e = ended-tagged m ms in omega arith)
 ended-tagged m (PartOpened number version ∷ ms) = (let e = ended-tagged m ms in omega arith)
 
-begun-append : (xs ys : List TraceMark) → turns_begun (xs ++ ys) ≡ turns_begun xs + turns_begun ys
+pub begun-append : (xs ys : List TraceMark) → turns_begun (xs ++ ys) ≡ turns_begun xs + turns_begun ys
 begun-append [] ys = omega arith
 begun-append (x ∷ xs) ys = (let e = begun-append xs ys in omega arith)
 
-ended-append : (xs ys : List TraceMark) → turns_ended (xs ++ ys) ≡ turns_ended xs + turns_ended ys
+pub ended-append : (xs ys : List TraceMark) → turns_ended (xs ++ ys) ≡ turns_ended xs + turns_ended ys
 ended-append [] ys = omega arith
 ended-append (x ∷ xs) ys = (let e = ended-append xs ys in omega arith)
 
-more-capped : (a b : ℕ) → more (capped a) b ≡ capped (a + b)
+pub more-capped : (a b : ℕ) → more (capped a) b ≡ capped (a + b)
 more-capped a zero = omega arith
 more-capped a (suc b) = omega arith
 
-more-more : (n a b : ℕ) → more (more n a) b ≡ more n (a + b)
+pub more-more : (n a b : ℕ) → more (more n a) b ≡ more n (a + b)
 more-more n a zero = (let e : a ≡ a + 0 = omega arith in ap (λ (k : ℕ). more n k) e)
 more-more n zero (suc b) = (let e : suc b ≡ 0 + suc b = omega arith in ap (λ (k : ℕ). more n k) e)
 more-more n (suc a) (suc b) =

@@ -158,3 +158,7 @@ started_version (Some r) = r.next_version - 1
 abbrev pub last_for : Option ℕ → ℕ → ℕ → ℕ
 last_for None count last = last
 last_for (Some version) count last = count
+
+-- the last message is a request
+abbrev pub LastAsks : List Message → Type 0
+LastAsks ms = (front : List Message) × ((r : Request) × (ms ≡ front ++ Asks r ∷ []))

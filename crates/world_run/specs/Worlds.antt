@@ -1,18 +1,24 @@
 -- What contracts see of the world of a cluster script: the cluster's state without its marks, and how many turns began
 -- and ended, which the marks tell. Own.
-use Rattle.std.specs.Prelude.{◌≡◌, ◌⊎◌, ℕ, zero, suc, ◌+◌, ◌-◌, List, [], ◌∷◌, ◌++◌, Option, Result, Ok, Err}
+use Rattle.std.specs.Prelude.{◌≡◌, ◌⊎◌, ℕ, zero, suc, ◌+◌, ◌-◌, ◌<◌, length, slice_get, List, [], ◌∷◌, Option, None, Some, IfSome, Result, Ok, Err}
 use Rattle.part_core.specs.Marks.{PartMark, TurnBegan, TurnEnded, BecameActive, BecameInactive, PartOpened}
 use Rattle.part_core.specs.Part.{PartState, ring_owner}
+use Rattle.part_core.specs.Rooms.{IsInRange}
 use Rattle.round_core.specs.Placement.{PlacementState}
 use Rattle.world_events.specs.declared.settings.WorldSettings.{WorldSettings}
 use Rattle.world_events.specs.declared.event.WorldEvent.{WorldEvent}
+use Rattle.world_events.specs.declared.event.WorldEvent.TheVariants as lines
 use Rattle.world_events.specs.declared.outcome.Outcome.{Outcome}
+use Rattle.world_events.specs.declared.outcome.Outcome.TheVariants as out
 use Rattle.world_events.specs.declared.error.WorldError.{WorldError}
 use Rattle.world_events.specs.declared.error.WorldError.TheVariants.{OutOfMemory}
 use Rattle.cluster_model.specs.Messages.{Message}
-use Rattle.cluster_model.specs.World.{ClusterState, CallPlace, TraceMark, WorldStep, key_part, happens, cluster_step}
-use Rattle.world_run.specs.CallIndex.{CallsView}
-use Rattle.world_run.specs.Post.{PostView}
+use Rattle.cluster_model.specs.World.{ClusterState, CallPlace, TraceMark, WorldStep, key_part, call_at, tick_each, happens}
+use Rattle.world_run.specs.CallIndex.{CallsView, call_place}
+use Rattle.world_run.specs.declared.calls.CallAt.{CallAt}
+use Rattle.world_run.specs.Layout.{counted_from}
+use Rattle.world_run.specs.declared.kept.Told.{Told}
+use Rattle.world_run.specs.Post.{PostView, numbered, told_of, Agrees}
 use Rattle.world_run.specs.Views.{PartsView, capped, more}
 
 pub record WorldView : Type 0 where
@@ -21,7 +27,7 @@ pub record WorldView : Type 0 where
   pub parts : List PartState
   pub boots : ℕ
   pub messages : List Message
-  pub now : ℕ
+  pub moment : ℕ
   pub calls : List (Option CallPlace)
   pub events : ℕ
   pub begun : ℕ  -- turns, up to the greatest number of 64 bits
@@ -63,7 +69,7 @@ view_of w =
       parts = w.parts;
       boots = w.boots;
       messages = w.messages;
-      now = w.now;
+      moment = w.now;
       calls = w.calls;
       events = w.events;
       begun = capped (turns_begun w.marks);
@@ -83,7 +89,7 @@ GivesStep result old step new = ((result ≡ Err OutOfMemory) × (new ≡ old)) 
 -- the cluster of a view, with no mark
 abbrev pub cluster_of : WorldView → ClusterState
 cluster_of v =
-    record { settings = v.settings; placement = v.placement; parts = v.parts; boots = v.boots; messages = v.messages; now = v.now; calls = v.calls; marks = []; events = v.events }
+    record { settings = v.settings; placement = v.placement; parts = v.parts; boots = v.boots; messages = v.messages; now = v.moment; calls = v.calls; marks = []; events = v.events }
 
 -- the view after a step whose marks are these alone
 abbrev pub after : WorldView → ClusterState → WorldView
@@ -94,7 +100,7 @@ after v w =
       parts = w.parts;
       boots = w.boots;
       messages = w.messages;
-      now = w.now;
+      moment = w.now;
       calls = w.calls;
       events = w.events;
       begun = more v.begun (turns_begun w.marks);
@@ -111,16 +117,41 @@ Happens result old new event = Gives result old new (happens ring_owner key_part
 
 -- the view of what a world is made of
 abbrev pub viewed : WorldSettings → PostView → PartsView → CallsView → ℕ → ℕ → WorldView
-viewed settings post parts calls now events =
+viewed settings post parts calls moment events =
     record {
       settings = settings;
       placement = post.placement;
       parts = parts.parts;
       boots = parts.boots;
       messages = post.messages;
-      now = now;
+      moment = moment;
       calls = calls.calls;
       events = events;
       begun = parts.begun;
       ended = parts.ended;
     }
+
+-- the placement and the messages of a view
+abbrev pub post_of : WorldView → PostView
+post_of v = record { placement = v.placement; messages = v.messages }
+
+-- the table event of an answer, if it brings one, is in range
+abbrev pub IsToldInRange : Option Told → Type 0
+IsToldInRange None = Unit {0}
+IsToldInRange (Some t) = IfSome t.event (λ e. IsInRange e)
+
+-- What the cluster's safety gives of an event: a delivered request is answered with the one table of its version, and a
+-- delivered answer has a version in range.
+abbrev pub IsFit : WorldView → WorldEvent → Type 0
+IsFit v (lines.To k) = Agrees (numbered v.messages k) v.moment (post_of v)
+IsFit v (lines.Part k i) = IsToldInRange (told_of (numbered v.messages k) v.moment)
+IsFit v event = Unit {0}
+
+-- the turns that the parts at so many places from this one on end, as the outcome says
+abbrev pub Ticks : ℕ → WorldView → WorldView → ℕ → ℕ → ℕ → Type 0
+Ticks result old new at count turns = Gives (Ok (out.TickEnded result)) old new (tick_each ring_owner key_part (cluster_of old) (counted_from at count) turns)
+
+-- where a call was asked: none where it was refused or never asked, or its part isn't there
+abbrev pub AskedAt : Option CallAt → WorldView → ℕ → Type 0
+AskedAt (Some c) v call = (call_at v.calls call ≡ Some (call_place c)) × (c.place < length v.parts)
+AskedAt None v call = (c : CallPlace) → call_at v.calls call ≡ Some c → slice_get v.parts c.place ≡ None

@@ -1,12 +1,13 @@
 // The placement, and every message that was added.
-ghost use Rattle.std.specs.Prelude.{◌≡◌, ◌<◌, ◌++◌, ◌∷◌, [], true, false, length, None, Some, IfOk, OnOk, OnErr, MatchOption, option_map, slice_get};
+ghost use Rattle.std.specs.Prelude.{◌≡◌, ◌<◌, ◌^◌, List, ◌++◌, ◌∷◌, [], true, false, length, None, Some, IfOk, OnOk, OnErr, MatchOption, option_map, slice_get};
 ghost use Rattle.std.specs.Option.{option_copied};
 ghost use Rattle.member_roster.specs.Members.{Joined};
 ghost use Rattle.round_core.specs.Placement.{new_placement, last_version, placement_step, placement_restarted};
+ghost use Rattle.cluster_model.specs.Messages.{Message};
 ghost use Rattle.round_core.specs.Records.{record_of};
 ghost use Rattle.cluster_model.specs.World.{restarted_version};
 ghost use Rattle.world_run.specs.Looks.{asks_at};
-ghost use Rattle.world_run.specs.Post.{message_in, told_tables, table_or, late_member, numbered, told_of, is_request, is_register, GivesReply, started_version, last_for, Delivers, Agrees};
+ghost use Rattle.world_run.specs.Post.{message_in, told_tables, table_or, late_member, numbered, told_of, is_request, is_register, GivesReply, started_version, last_for, LastAsks, Delivers, Agrees};
 
 use crate::kept::{
     Kept, Told, asked_at, is_register, is_request, kept_answer, place_wants, spot_for,
@@ -129,7 +130,8 @@ impl Post {
 
     /// How many messages there are.
     pub(crate) fn len(&self) -> usize
-        ensures { result ≡ length self.now.messages }
+        ensures value { result ≡ length self.now.messages }
+        ensures fits { result < 2 ^ 63 }
     {
         self.messages.len()
     }
@@ -161,6 +163,14 @@ impl Post {
         Ok(())
     }
 
+    /// The last message, a request, is taken back.
+    pub(crate) fn withdraw(&mut self)
+        requires { LastAsks self.old.messages }
+        ensures { (ms : List Message) (x : Message) → self.old.messages ≡ ms ++ x ∷ [] → self.new ≡ record self.old { messages = ms } }
+    {
+        let _ = self.messages.pop();
+    }
+
     /// A request is delivered, and the placement's reply is the next message; nothing where there is no such request.
     /// The room for the reply is taken before the placement's step.
     pub(crate) fn deliver(
@@ -176,12 +186,7 @@ impl Post {
         let Some(asked) = asked_at(alloc, self.messages.as_slice(), number)? else {
             return Ok(None);
         };
-        settle(
-            alloc,
-            &self.placement,
-            &mut self.tables,
-            &mut self.pending,
-        )?;
+        settle(alloc, &self.placement, &mut self.tables, &mut self.pending)?;
         self.messages.reserve(1)?;
         let Some(reply) = step_placement(&mut self.placement, asked.event, now) else {
             return Err(OutOfMemory);
@@ -254,12 +259,7 @@ impl Post {
         ensures ok { OnOk result (self.new ≡ record self.old { placement = (placement_step self.old.placement event now).state }) }
         ensures err { OnErr result (self.new ≡ self.old) }
     {
-        settle(
-            alloc,
-            &self.placement,
-            &mut self.tables,
-            &mut self.pending,
-        )?;
+        settle(alloc, &self.placement, &mut self.tables, &mut self.pending)?;
         Ok(self.placement.step(event, now))
     }
 
@@ -269,12 +269,7 @@ impl Post {
         ensures ok { OnOk result (self.new ≡ record self.old { placement = placement_restarted self.old.placement now }) }
         ensures err { OnErr result (self.new ≡ self.old) }
     {
-        settle(
-            alloc,
-            &self.placement,
-            &mut self.tables,
-            &mut self.pending,
-        )?;
+        settle(alloc, &self.placement, &mut self.tables, &mut self.pending)?;
         self.placement.restarted(now);
         Ok(started_version(self.placement.record()))
     }

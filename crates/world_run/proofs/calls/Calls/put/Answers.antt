@@ -20,16 +20,16 @@ invariant_of-self c =
     subst (λ (xs : List (Option CallPlace)). IsIndexed xs c.if-is_none.self-inside.numbers) (sym pushed)
     (elim c.if-is_none.branch [
       | then-is_none w ↦
-        let absent : first_call cs 1 c.args.place c.args.call ≡ None = first_absent c.get.result _ w.if-is_none.ensures (c.get.ensures.value ∙ c.self.invariant c.args.place c.args.call) in
-        let up = rw w.unwrap.ensures at w.insert-kept.ensures.updates in
-        let number : c.len.result + 1 ≡ 1 + length cs = omega (arith, length-calls c.self.inside.items.items) in
-        subst P (sym w.self-inside-is) (λ a b.
-        indexed_put cs c.self.inside.numbers w.insert-kept.new.self c.args.place c.args.call c.self.invariant absent
-        (λ k. up.0 k ∙ ap (λ (n : ℕ). cond (same_pair (c.args.place, c.args.call) k) (Some n) (get same_pair c.self.inside.numbers k)) number) a b
-        ∙ ap (λ (xs : List (Option CallPlace)). first_call xs 1 a b) (sym (calls-push c.self.inside.items.items one)))
+          let absent : first_call cs 1 c.args.place c.args.call ≡ None = first_absent c.get.result _ w.if-is_none.ensures (c.get.ensures.value ∙ c.self.invariant c.args.place c.args.call) in
+          let up = rw w.unwrap.ensures at w.insert-kept.ensures.updates in
+          let number : c.len.result + 1 ≡ 1 + length cs = omega (arith, length-calls c.self.inside.items.items) in
+          subst P (sym w.self-inside-is) (λ a b.
+          indexed_put cs c.self.inside.numbers w.insert-kept.new.self c.args.place c.args.call c.self.invariant absent
+          (λ k. up.0 k ∙ ap (λ (n : ℕ). cond (same_pair (c.args.place, c.args.call) k) (Some n) (get same_pair c.self.inside.numbers k)) number) a b
+          ∙ ap (λ (xs : List (Option CallPlace)). first_call xs 1 a b) (sym (calls-push c.self.inside.items.items one)))
       | else-is_none w ↦
-        let found = first_present c.get.result _ w.if-is_none.ensures (c.get.ensures.value ∙ c.self.invariant c.args.place c.args.call) in
-        subst P (sym w.self-inside-is) (λ a b.
-        indexed_keep cs c.self.inside.numbers c.args.place c.args.call found.0 c.self.invariant found.1 a b
-        ∙ ap (λ (xs : List (Option CallPlace)). first_call xs 1 a b) (sym (calls-push c.self.inside.items.items one)))
+          let found = first_present c.get.result _ w.if-is_none.ensures (c.get.ensures.value ∙ c.self.invariant c.args.place c.args.call) in
+          subst P (sym w.self-inside-is) (λ a b.
+          indexed_keep cs c.self.inside.numbers c.args.place c.args.call found.0 c.self.invariant found.1 a b
+          ∙ ap (λ (xs : List (Option CallPlace)). first_call xs 1 a b) (sym (calls-push c.self.inside.items.items one)))
     ])

@@ -7,6 +7,7 @@ use Rattle.std.proofs.lemmas.Slice.Eq.{bytes_eq-Decides}
 use Rattle.world_run.specs.Layout.{HasNone, IsFirst}
 use Rattle.world_run.specs.Views.{PartsView, state_in, states_of}
 use Rattle.world_run.proofs.Blocks.{none_earlier, none_later, none_other, found_first, place_below}
+use Rattle.world_run.proofs.Scans.{first-within}
 use Rattle.world_run.proofs.parts.Parts.first_of.Goals.{then-boot-eq0-via-then-boot-eq0, then-boot-eq0-via-else-boot-eq0+then-boot-len}
 use Rattle.world_run.proofs.parts.Parts.first_of.Goals as goal
 
@@ -21,11 +22,12 @@ returns-then-boot-eq0 c =
     let m = c.args.member.now in
     let nodes = c.self.inside.nodes.items in
     let ps = states_of c.self.inside.items.items in
-    subst (λ (v : PartsView). HasNone m v.parts) c.self.view_is
+    let none : HasNone m c.args.self.now.parts = subst (λ (v : PartsView). HasNone m v.parts) c.self.view_is
     (elim c.then-boot-eq0.branch [
       | then-boot-eq0-via-then-boot-eq0 w ↦ none_earlier m c.self.inside.per 1 nodes ps c.self.invariant.laid (omega arith)
       | then-boot-eq0-via-else-boot-eq0+then-boot-len w ↦ none_later m c.self.inside.per 1 (m.boot - 1) nodes ps c.self.invariant.laid (omega arith) (omega arith)
-    ])
+    ]) in
+    record { found = none; fits = tt }
 
 pub returns-then-ne : goal.returns-then-ne
 returns-then-ne c =
@@ -34,9 +36,10 @@ returns-then-ne c =
     let ps = states_of c.self.inside.items.items in
     let node : List ℕ = c.index.result.now in
     let here = slice_get-get_or nodes (m.boot - 1) node (omega arith) ∙ ap (λ (u : List ℕ). Some u) (sym c.index.ensures) in
-    subst (λ (v : PartsView). HasNone m v.parts) c.self.view_is
+    let none : HasNone m c.args.self.now.parts = subst (λ (v : PartsView). HasNone m v.parts) c.self.view_is
     (none_other m c.self.inside.per 1 (m.boot - 1) nodes ps node c.self.invariant.laid (omega arith) here
-    (λ q. differs c.ne.result _ _ (c.ne.ensures) c.if-ne.true (c.as_slice.ensures ∙ sym q ∙ sym c.as_slice-2.ensures)))
+    (λ q. differs c.ne.result _ _ (c.ne.ensures) c.if-ne.true (c.as_slice.ensures ∙ sym q ∙ sym c.as_slice-2.ensures))) in
+    record { found = none; fits = tt }
 
 pub overflow_mul-result : goal.overflow_mul-result
 overflow_mul-result c =
@@ -49,5 +52,7 @@ returns c =
     let ps = states_of c.self.inside.items.items in
     let node : List ℕ = c.index.result.now in
     let here = slice_get-get_or nodes (m.boot - 1) node (omega arith) ∙ ap (λ (u : List ℕ). Some u) (sym c.index.ensures) in
-    subst (λ (v : PartsView). IsFirst v.parts m v.per ((m.boot - 1) * c.self.inside.per)) c.self.view_is
-    (found_first m c.self.inside.per 1 (m.boot - 1) nodes ps c.self.invariant.many c.self.invariant.laid (omega arith) (here ∙ ap (λ (u : List ℕ). Some u) (sym c.as_slice.ensures ∙ agrees c.ne.result _ _ c.ne.ensures c.if-ne.false ∙ c.as_slice-2.ensures)))
+    let first : IsFirst c.args.self.now.parts m c.args.self.now.per ((m.boot - 1) * c.self.inside.per) = subst (λ (v : PartsView). IsFirst v.parts m v.per ((m.boot - 1) * c.self.inside.per)) c.self.view_is
+    (found_first m c.self.inside.per 1 (m.boot - 1) nodes ps c.self.invariant.many c.self.invariant.laid (omega arith) (here ∙ ap (λ (u : List ℕ). Some u) (sym c.as_slice.ensures ∙ agrees c.ne.result _ _ c.ne.ensures c.if-ne.false ∙ c.as_slice-2.ensures))) in
+    let many : length ps ≡ length c.args.self.now.parts = ap (λ (v : PartsView). length v.parts) c.self.view_is in
+    record { found = first; fits = omega (arith, first-within c.args.self.now.parts m c.args.self.now.per ((m.boot - 1) * c.self.inside.per) first, many, length-map c.self.inside.items.items state_in, c.self.inside.items.ok.0) }

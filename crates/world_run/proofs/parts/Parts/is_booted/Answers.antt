@@ -13,4 +13,4 @@ told None ps m per h = sym (booted-none m ps h)
 told (Some first) ps m per h = sym (booted-first ps m per first h)
 
 pub returns : goal.returns
-returns c = c.is_some.ensures ∙ told c.first_of.result c.args.self.now.parts c.args.member.now c.args.self.now.per c.first_of.ensures
+returns c = c.is_some.ensures ∙ told c.first_of.result c.args.self.now.parts c.args.member.now c.args.self.now.per c.first_of.ensures.found

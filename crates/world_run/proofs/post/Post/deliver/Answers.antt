@@ -52,6 +52,7 @@ answered_so c =
     let count : c.len.result ≡ length ks = omega (arith, c.len.ensures, c.reserve.ensures.len, c.self.inside.messages.ok.0) in
     let last : c.last_for-self-inside.result ≡ last_for (updated_version reply) (length ks) c.self.inside.last = c.last_for-self-inside.ensures ∙ (λ i. last_for (c.updated_version-version.ensures i) (count i) c.self.inside.last) in
     subst (λ (s : Spot). AnsweredBy s c.last_for-self-inside.result ts ks m reply hosts) (sym spot) (subst (λ (n : ℕ). AnsweredBy (spot_for ts (updated_version reply)) n ts ks m reply hosts) (sym last) by)
+
 pushed : (c : goal.After-unwrap) → c.push.new.self.items ≡ c.self.inside.messages.items ++ kept_answer c.in-Some.asked.member c.in-Some-step_placement.reply c.spot_for-spot.result.table ∷ []
 pushed c = (rw c.unwrap.ensures at c.push.ensures.items) ∙ (λ i. c.reserve.ensures.items i ++ c.kept_answer.ensures i ∷ [])
 

@@ -1,0 +1,272 @@
+-- What the safety of a cluster gives of the next event, and of the world after it.
+use Rattle.std.proofs.Common.{◌≡◌, ℕ, ◌+◌, ◌<◌, ◌≤◌, ◌^◌, Bool, true, false, cond, List, [], ◌∷◌, ◌++◌, refl, sym, ap, ◌∙◌, subst, inl, inr, arith}
+use Rattle.std.specs.Prelude.{zero, suc, ◌==◌, nat_le, slice_get, length, Option, None, Some, Result, Ok, Err, is_ok}
+use Rattle.std.proofs.lemmas.Bool.{cond_both, cond-false, lt-leb}
+use Rattle.actor_names.specs.declared.member.Member.{Member}
+use Rattle.place_table.specs.Hosts.{PlacementTable}
+use Rattle.turn_core.specs.CellSound.{In}
+use Rattle.part_core.specs.declared.event.PartEvent.{PartEvent}
+use Rattle.part_core.specs.declared.event.PartEvent.TheVariants as events_of
+use Rattle.part_core.specs.declared.event.PartReply.{PartReply}
+use Rattle.part_core.specs.Part.{PartState, part_step, ring_owner}
+use Rattle.member_roster.specs.Members.{late_of}
+use Rattle.member_core.specs.declared.ack.Ack as declared
+use Rattle.member_core.specs.Acks.{collected, are_stopped}
+use Rattle.round_core.specs.declared.event.PlaceReply.{PlaceReply}
+use Rattle.round_core.specs.declared.event.PlaceReply.TheVariants as replies
+use Rattle.round_core.specs.Placement.{PlacementState, PlacementStep, placement_step, last_version}
+use Rattle.world_events.specs.declared.event.WorldEvent.{WorldEvent}
+use Rattle.world_events.specs.declared.event.WorldEvent.TheVariants as lines
+use Rattle.world_events.specs.declared.outcome.Outcome.{Outcome}
+use Rattle.world_events.specs.declared.outcome.Outcome.TheVariants as out
+use Rattle.world_events.specs.declared.error.WorldError.{WorldError}
+use Rattle.world_events.specs.declared.error.WorldError.TheVariants as refused
+use Rattle.cluster_model.specs.Messages.{Request, Answer, LockAt, UpdateTo, UnlockAt, Says, Message, Asks, Tells, table_of, answer_of, change_of, asker_of, told_event}
+use Rattle.cluster_model.specs.World as world
+use Rattle.cluster_model.specs.World.{ClusterState, WorldStep, CallPlace, key_part, most_events}
+use Rattle.cluster_model.specs.Invariant.{version_of}
+use Rattle.cluster_model.proofs.Basics.{In-slice_get}
+use Rattle.cluster_model.proofs.Lines.{IsSafeWorld, line_kept}
+use Rattle.cluster_model.proofs.Worlds.{safe_kept}
+use Rattle.world_run.specs.Post.{numbered, told_of, AgreesOn, Agrees}
+use Rattle.world_run.specs.Views.{capped, more}
+use Rattle.world_run.specs.Worlds.{WorldView, view_of, cluster_of, after, Gives, GivesStep, Happens, IsToldInRange, IsFit, post_of, turns_begun, turns_ended}
+use Rattle.world_run.proofs.Unmarked.{marked, adds, happens_marked, begun-append, ended-append, more-capped}
+
+-- ---- fits
+
+In-left : {A : Type 0} (xs ys : List A) (x : A) → In x xs → In x (xs ++ ys)
+In-left (z ∷ xs) ys x (inl e) = inl e
+In-left (z ∷ xs) ys x (inr i) = inr (In-left xs ys x i)
+In-left [] ys x i = absurd i
+
+In-last : {A : Type 0} (xs : List A) (x : A) → In x (xs ++ x ∷ [])
+In-last [] x = inl refl
+In-last (z ∷ xs) x = inr (In-last xs x)
+
+In-numbered : (ms : List Message) (k : ℕ) (x : Message) → numbered ms k ≡ Some x → In x ms
+In-numbered ms zero x e = absurd (cc)
+In-numbered ms (suc k) x e = In-slice_get ms k x e
+
+-- the answer to a request carries the one table of its version
+agrees : (v : WorldView) (r : Request) → IsSafeWorld ring_owner key_part (cluster_of v) → In (Asks r) v.messages → Agrees (Some (Asks r)) v.moment (post_of v)
+agrees v r safe i = go s.reply refl
+  where
+    s : PlacementStep
+    s = placement_step v.placement (change_of r) v.moment
+
+    after_safe : IsSafeWorld ring_owner key_part (world.answers (cluster_of v) r s).world
+    after_safe = (safe_kept ring_owner key_part).answer (cluster_of v) r safe i
+
+    go : (reply : PlaceReply) → s.reply ≡ reply → AgreesOn v.messages v.moment s.state.table reply
+    go (replies.Update version) e = λ m t k at version_is.
+        after_safe.safe.messages.one_table m (asker_of r) t (table_of version s.state.table) (In-left v.messages _ _ (In-slice_get v.messages k _ at))
+        (subst (λ (z : PlaceReply). In (Tells (asker_of r) (UpdateTo (table_of version s.state.table))) (v.messages ++ Tells (asker_of r) (answer_of s.state.table z) ∷ [])) (sym e) (In-last v.messages _)) version_is
+    go (replies.Lock version) e = tt
+    go (replies.Unlock version) e = tt
+    go reply e = tt
+
+fits_to : (v : WorldView) (x : Option Message) → IsSafeWorld ring_owner key_part (cluster_of v) → ((m : Message) → x ≡ Some m → In m v.messages) → Agrees x v.moment (post_of v)
+fits_to v None safe i = tt
+fits_to v (Some (Tells m a)) safe i = tt
+fits_to v (Some (Asks r)) safe i = agrees v r safe (i (Asks r) refl)
+
+in_range : (v : WorldView) (m : Member) (u : ℕ) (a : Answer) → IsSafeWorld ring_owner key_part (cluster_of v) → In (Tells m a) v.messages → version_of a ≡ Some u → u ≤ 2 ^ 62
+in_range v m u a safe i e =
+    let below : u ≤ last_version v.placement = safe.safe.messages.told_below m u (a, i, e) in
+    let within = safe.reached.within in
+    omega arith
+
+fits_part : (v : WorldView) (x : Option Message) → IsSafeWorld ring_owner key_part (cluster_of v) → ((m : Message) → x ≡ Some m → In m v.messages) → IsToldInRange (told_of x v.moment)
+fits_part v None safe i = tt
+fits_part v (Some (Asks r)) safe i = tt
+fits_part v (Some (Tells m (LockAt u))) safe i = in_range v m u (LockAt u) safe (i _ refl) refl
+fits_part v (Some (Tells m (UpdateTo t))) safe i = in_range v m t.version (UpdateTo t) safe (i _ refl) refl
+fits_part v (Some (Tells m (UnlockAt u))) safe i = in_range v m u (UnlockAt u) safe (i _ refl) refl
+fits_part v (Some (Tells m (Says reply))) safe i = tt
+
+-- each event fits a safe cluster
+pub fits : (v : WorldView) (e : WorldEvent) → IsSafeWorld ring_owner key_part (cluster_of v) → IsFit v e
+fits v (lines.To k) safe = fits_to v (numbered v.messages k) safe (In-numbered v.messages k)
+fits v (lines.Part k i) safe = fits_part v (numbered v.messages k) safe (In-numbered v.messages k)
+fits v (lines.At moment) safe = tt
+fits v (lines.Boot node kinds) safe = tt
+fits v (lines.Beat m) safe = tt
+fits v (lines.Collect m) safe = tt
+fits v (lines.Leave m) safe = tt
+fits v (lines.Call call m key least chain) safe = tt
+fits v (lines.Poll call) safe = tt
+fits v (lines.End call) safe = tt
+fits v (lines.Hold m key) safe = tt
+fits v (lines.Release m key) safe = tt
+fits v (lines.Tick m) safe = tt
+fits v (lines.Closing m i) safe = tt
+fits v (lines.Closed m key) safe = tt
+fits v (lines.Stop m i) safe = tt
+fits v (lines.Lost m) safe = tt
+fits v lines.PlacementTick safe = tt
+fits v lines.Restart safe = tt
+
+-- ---- safety
+
+-- the world after an event is safe, however many events are counted
+pub stays_safe : (v u : WorldView) (e : WorldEvent) (r : Result Outcome WorldError) (n : ℕ) → IsSafeWorld ring_owner key_part (cluster_of v) → Happens r v u e → IsSafeWorld ring_owner key_part (cluster_of (record u { events = n }))
+stays_safe v u e r n safe h = elim h [
+  | inl k ↦ subst (λ (z : WorldView). IsSafeWorld ring_owner key_part (cluster_of (record z { events = n }))) (sym k.1) (record { reached = safe.reached; safe = safe.safe })
+  | inr k ↦
+      let s = line_kept ring_owner key_part (IsSafeWorld ring_owner key_part) (safe_kept ring_owner key_part) (cluster_of v) e safe in
+      subst (λ (z : WorldView). IsSafeWorld ring_owner key_part (cluster_of (record z { events = n }))) (sym k.1) (record { reached = s.reached; safe = s.safe })
+]
+
+-- ---- the count of events
+
+module _ (n : ℕ) where
+  abbrev Stays : WorldStep → Type 0
+  Stays s = s.world.events ≡ n
+
+  step_stays : (w : ClusterState) (at : ℕ) (e : PartEvent) (says : PartReply → Outcome) (found : Option PartState) → w.events ≡ n → Stays (world.step_of_part ring_owner key_part w at e says found)
+  step_stays w at e says None t = t
+  step_stays w at e says (Some p) t = t
+
+  does_stays : (w : ClusterState) (o : Option ℕ) (e : PartEvent) (says : ℕ → PartReply → Outcome) → w.events ≡ n → Stays (world.part_does ring_owner key_part w o e says)
+  does_stays w None e says t = t
+  does_stays w (Some at) e says t = step_stays w at e (says at) (slice_get w.parts at) t
+
+  call_stays : (w : ClusterState) (number : ℕ) (e : PartEvent) (o : Option ℕ) → w.events ≡ n → Stays (world.call_at_place ring_owner key_part w number e o)
+  call_stays w number e None t = t
+  call_stays w number e (Some at) t = go (slice_get w.parts at)
+    where
+      go : (found : Option PartState) → Stays (world.call_of_part ring_owner key_part w number at e found)
+      go None = t
+      go (Some p) = t
+
+  end_stays : (w : ClusterState) (number : ℕ) (o : Option CallPlace) → w.events ≡ n → Stays (world.end_call ring_owner key_part w number o)
+  end_stays w number None t = t
+  end_stays w number (Some c) t = step_stays w c.place (events_of.End c.call w.now) (world.end_outcome w.calls number c.place) (slice_get w.parts c.place) t
+
+  poll_stays : (w : ClusterState) (number : ℕ) (o : Option CallPlace) → w.events ≡ n → Stays (world.poll_call ring_owner key_part w number o)
+  poll_stays w number None t = t
+  poll_stays w number (Some c) t = step_stays w c.place (events_of.Poll c.call) (world.call_outcome number) (slice_get w.parts c.place) t
+
+  ack_stays : (w : ClusterState) (m : Member) (o : Option declared.Ack) → w.events ≡ n → Stays (world.add_ack ring_owner key_part w m o)
+  ack_stays w m None t = t
+  ack_stays w m (Some a) t = t
+
+  deliver_stays : (w : ClusterState) (o : Option Message) → w.events ≡ n → Stays (world.deliver w o)
+  deliver_stays w None t = t
+  deliver_stays w (Some (Tells m a)) t = t
+  deliver_stays w (Some (Asks r)) t = t
+
+  told_stays : (w : ClusterState) (at : ℕ) (x : Option PartEvent) (found : Option PartState) → w.events ≡ n → Stays (world.told_part ring_owner key_part w at x found)
+  told_stays w at None found t = t
+  told_stays w at (Some e) found t = step_stays w at e world.told_outcome found t
+
+  to_stays : (w : ClusterState) (i : ℕ) (o : Option Message) → w.events ≡ n → Stays (world.to_part ring_owner key_part w i o)
+  to_stays w i None t = t
+  to_stays w i (Some (Asks r)) t = t
+  to_stays w i (Some (Tells m a)) t = go (world.place_of_part w.parts m i)
+    where
+      go : (o : Option ℕ) → Stays (world.tell_part ring_owner key_part w a o)
+      go None = t
+      go (Some at) = told_stays w at (told_event a w.now) (slice_get w.parts at) t
+
+  ticks_stay : (w : ClusterState) (ns : List ℕ) (turns : ℕ) → w.events ≡ n → Stays (world.tick_each ring_owner key_part w ns turns)
+  ticks_stay w [] turns t = t
+  ticks_stay w (at ∷ ns) turns t = ticks_stay (world.tick_part ring_owner key_part w at).world ns _ (step_stays w at (events_of.Tick w.now) (λ reply. out.TickEnded (world.ended_turns reply)) (slice_get w.parts at) t)
+
+  honest_stays : (w : ClusterState) (o : Option Member) → w.events ≡ n → Stays (world.honest_tick w o)
+  honest_stays w None t = t
+  honest_stays w (Some m) t = t
+
+  -- what happens doesn't count itself
+  pub events_stay : (w : ClusterState) (e : WorldEvent) → w.events ≡ n → Stays (world.happens ring_owner key_part w e)
+  events_stay w (lines.At moment) t = t
+  events_stay w (lines.Boot node kinds) t = t
+  events_stay w (lines.Beat m) t = cond_both (world.was_booted w.parts m) _ _ Stays (λ _. t) (λ _. t)
+  events_stay w (lines.Collect m) t = cond_both (world.was_booted w.parts m) _ _ Stays (λ _. ack_stays w m (collected (world.receipts_of ring_owner key_part w.parts m)) t) (λ _. t)
+  events_stay w (lines.Leave m) t = cond_both (world.was_booted w.parts m) _ _ Stays (λ _. cond_both (are_stopped (world.receipts_of ring_owner key_part w.parts m)) _ _ Stays (λ _. t) (λ _. t)) (λ _. t)
+  events_stay w (lines.To k) t = deliver_stays w (world.message_at w k) t
+  events_stay w (lines.Part k i) t = to_stays w i (world.message_at w k) t
+  events_stay w (lines.Call number m key least chain) t =
+      cond_both (number == suc (length w.calls)) _ _ Stays (λ _. call_stays w number (world.ask_of key least chain w.now) (world.key_place_of ring_owner key_part w m key) t) (λ _. t)
+  events_stay w (lines.Poll number) t = poll_stays w number (world.call_at w.calls number) t
+  events_stay w (lines.End number) t = end_stays w number (world.call_at w.calls number) t
+  events_stay w (lines.Hold m key) t = does_stays w (world.key_place_of ring_owner key_part w m key) (events_of.Hold key) (λ _. world.hold_outcome) t
+  events_stay w (lines.Release m key) t = does_stays w (world.key_place_of ring_owner key_part w m key) (events_of.Release key w.now) (λ _. world.hold_outcome) t
+  events_stay w (lines.Tick m) t = cond_both (world.was_booted w.parts m) _ _ Stays (λ _. ticks_stay w (world.places_of w.parts m 0) 0 t) (λ _. t)
+  events_stay w (lines.Closing m i) t = does_stays w (world.place_of_part w.parts m i) (events_of.TakeClosing w.now) (λ _. world.closing_outcome) t
+  events_stay w (lines.Closed m key) t = does_stays w (world.key_place_of ring_owner key_part w m key) (events_of.Closed key) (world.closed_outcome w.calls key) t
+  events_stay w (lines.Stop m i) t = does_stays w (world.place_of_part w.parts m i) events_of.StopPart (λ _. world.stop_outcome) t
+  events_stay w (lines.Lost m) t = cond_both (world.was_booted w.parts m) _ _ Stays (λ _. cond_both (world.all_stopped w.parts m) _ _ Stays (λ _. t) (λ _. t)) (λ _. t)
+  events_stay w lines.PlacementTick t = honest_stays w (world.running_among w.parts (late_of w.placement.members w.now)) t
+  events_stay w lines.Restart t = t
+
+-- ---- the step
+
+-- the view after a step adds the marks' counts to those before
+view_after : (w s : ClusterState) → view_of (marked s (w.marks ++ s.marks)) ≡ after (view_of w) s
+view_after w s = λ i. record (after (view_of w) s) {
+  begun = (ap capped (begun-append w.marks s.marks) ∙ sym (more-capped (turns_begun w.marks) (turns_begun s.marks))) i;
+  ended = (ap capped (ended-append w.marks s.marks) ∙ sym (more-capped (turns_ended w.marks) (turns_ended s.marks))) i;
+}
+
+-- what is done to a view is done to each cluster of this view
+world_happens : (w : ClusterState) (u : WorldView) (e : WorldEvent) (r : Result Outcome WorldError) → Happens r (view_of w) u e → GivesStep r (view_of w) (world.happens ring_owner key_part w e) u
+world_happens w u e r h = elim h [
+  | inl k ↦ inl k
+  | inr k ↦
+      let s = world.happens ring_owner key_part (marked w []) e in
+      let same : world.happens ring_owner key_part w e ≡ adds w.marks s = happens_marked w.marks w e in
+      subst (λ (z : WorldStep). GivesStep r (view_of w) z u) (sym same) (inr (k.0, k.1 ∙ sym (view_after w s.world)))
+]
+
+pub below_most : (w : ClusterState) (s t : WorldStep) → w.events < 2 ^ 62 → cond (nat_le most_events w.events) s t ≡ t
+below_most w s t l = cond-false (nat_le most_events w.events) s t (lt-leb most_events w.events l)
+
+ok_err : (r : Result Outcome WorldError) (o : Outcome) (x : WorldError) → r ≡ Ok o → r ≡ Err x → ⊥
+ok_err r o x e f = (let g : ◌≡◌ {A = Result Outcome WorldError} (Ok o) (Err x) = sym e ∙ f in cc)
+
+done_counted : (w : ClusterState) (u : WorldView) (e : WorldEvent) (r : Result Outcome WorldError) (o : Outcome) → r ≡ Ok o → GivesStep r (view_of w) (world.happens ring_owner key_part w e) u →
+    GivesStep r (view_of w) (world.counted ring_owner key_part (world.happens ring_owner key_part w e)) (record u { events = w.events + 1 })
+done_counted w u e r o ok h = elim h [
+  | inl k ↦ absurd (ok_err r o refused.OutOfMemory ok k.0)
+  | inr k ↦
+      let s = world.happens ring_owner key_part w e in
+      let weight : world.weight_of s.outcome ≡ 1 = ap (λ (z : Result Outcome WorldError). world.weight_of z) (sym k.0 ∙ ok) in
+      let stay : s.world.events ≡ w.events = events_stay w.events w e refl in
+      let count : w.events + 1 ≡ s.world.events + world.weight_of s.outcome = omega arith in
+      inr (k.0, (λ i. record (k.1 i) { events = count i }))
+]
+
+refused_counted : (w : ClusterState) (u : WorldView) (e : WorldEvent) (r : Result Outcome WorldError) (x : WorldError) → r ≡ Err x → GivesStep r (view_of w) (world.happens ring_owner key_part w e) u →
+    GivesStep r (view_of w) (world.counted ring_owner key_part (world.happens ring_owner key_part w e)) u
+refused_counted w u e r x error h = elim h [
+  | inl k ↦ inl k
+  | inr k ↦
+      let s = world.happens ring_owner key_part w e in
+      let weight : world.weight_of s.outcome ≡ 0 = ap (λ (z : Result Outcome WorldError). world.weight_of z) (sym k.0 ∙ error) in
+      let count : s.world.events ≡ s.world.events + world.weight_of s.outcome = omega arith in
+      inr (k.0, k.1 ∙ (λ i. record (view_of s.world) { events = count i }))
+]
+
+-- an event that is done is counted
+pub step_done : (w : ClusterState) (v u : WorldView) (e : WorldEvent) (r : Result Outcome WorldError) (o : Outcome) → view_of w ≡ v → v.events < 2 ^ 62 → Happens r v u e → r ≡ Ok o →
+    GivesStep r v (world.cluster_step ring_owner key_part w e) (record u { events = v.events + 1 })
+step_done w v u e r o same l h ok =
+    let P : WorldView → Type 0 = λ z. z.events < 2 ^ 62 → Happens r z u e → GivesStep r z (world.cluster_step ring_owner key_part w e) (record u { events = z.events + 1 }) in
+    subst P same (λ less did. subst (λ (z : WorldStep). GivesStep r (view_of w) z (record u { events = w.events + 1 })) (sym (below_most w _ _ less)) (done_counted w u e r o ok (world_happens w u e r did))) l h
+
+-- one that is refused is not
+pub step_refused : (w : ClusterState) (v u : WorldView) (e : WorldEvent) (r : Result Outcome WorldError) (x : WorldError) → view_of w ≡ v → v.events < 2 ^ 62 → Happens r v u e → r ≡ Err x →
+    GivesStep r v (world.cluster_step ring_owner key_part w e) u
+step_refused w v u e r x same l h error =
+    let P : WorldView → Type 0 = λ z. z.events < 2 ^ 62 → Happens r z u e → GivesStep r z (world.cluster_step ring_owner key_part w e) u in
+    subst P same (λ less did. subst (λ (z : WorldStep). GivesStep r (view_of w) z u) (sym (below_most w _ _ less)) (refused_counted w u e r x error (world_happens w u e r did))) l h
+
+pub is_done : (r : Result Outcome WorldError) → is_ok r ≡ true → (o : Outcome) × (r ≡ Ok o)
+is_done (Ok o) e = (o, refl)
+is_done (Err x) e = absurd (cc)
+
+pub is_refused : (r : Result Outcome WorldError) → is_ok r ≡ false → (x : WorldError) × (r ≡ Err x)
+is_refused (Ok o) e = absurd (cc)
+is_refused (Err x) e = (x, refl)

@@ -1,0 +1,20 @@
+use Rattle.std.proofs.Common.{◌≡◌, ap, sym, ◌∙◌, subst}
+use Rattle.std.specs.Prelude.{Option, Some, Result, Ok}
+use Rattle.part_core.specs.declared.event.PartEvent.TheVariants as events
+use Rattle.world_events.specs.declared.event.WorldEvent.TheVariants as lines
+use Rattle.world_events.specs.declared.outcome.Outcome.{Outcome}
+use Rattle.world_events.specs.declared.error.WorldError.{WorldError}
+use Rattle.cluster_model.specs.World as world
+use Rattle.world_run.specs.Worlds.{WorldView, Happens, viewed}
+use Rattle.world_run.proofs.Givings.{does_gives}
+use Rattle.world_run.proofs.cluster.Cluster.closing.Goals as goal
+
+pub returns : goal.returns
+returns c =
+    let i = c.self.inside in
+    let r : Result Outcome WorldError = Ok c.closing_outcome.result in
+    let u : WorldView = viewed i.settings i.post c.step_at-reply.new.self i.calls i.moment i.events in
+    subst (λ (v : WorldView). Happens r v u (lines.Closing c.args.member c.args.part)) c.self.view_is
+    (does_gives i.settings i.post i.calls i.moment i.events i.parts c.step_at-reply.new.self _ c.in-Some.at (events.TakeClosing c.self.inside.moment) (λ _. world.closing_outcome) c.step_at-reply.result r
+    c.in-Some.ensures.place c.step_at-reply.ensures.step c.in-Some.ensures.within (λ _. sym c.wants.ensures ∙ c.if-wants.false)
+    (ap (λ (o : Outcome). let q : Result Outcome WorldError = Ok o in q) c.closing_outcome.ensures))
