@@ -2,7 +2,7 @@
 use Rattle.std.specs.Prelude.{◌≡◌, ℕ, zero, suc, ◌+◌, ◌-◌, ◌*◌, ◌/◌, ◌%◌, ◌^◌, ◌==◌, Bool, true, false, nat_lt, min, if◌then◌else◌, List, [], ◌∷◌, ◌++◌, length, slice_get, codes, decimal, Option, None, Some, Result, Ok, Err}
 use Rattle.std.specs.List.{list_any}
 use Rattle.actor_names.specs.declared.member.Member.{Member}
-use Rattle.part_core.specs.Part.{PartState, ring_owner}
+use Rattle.part_core.specs.Part.{ring_owner}
 use Rattle.round_core.specs.Placement.{last_version}
 use Rattle.world_events.specs.declared.event.WorldEvent.{WorldEvent}
 use Rattle.world_events.specs.declared.event.WorldEvent.TheVariants as lines
@@ -10,10 +10,10 @@ use Rattle.world_events.specs.declared.settings.WorldSettings.{WorldSettings}
 use Rattle.world_events.specs.declared.outcome.Outcome.{Outcome}
 use Rattle.world_events.specs.declared.outcome.Outcome.TheVariants as out
 use Rattle.world_events.specs.declared.error.WorldError.{WorldError}
-use Rattle.world_events.specs.declared.error.WorldError.TheVariants.{Spent, Dishonest, WrongNumber, OutOfMemory}
-use Rattle.cluster_model.specs.Messages.{Message, Asks, Tells}
-use Rattle.cluster_model.specs.World.{ClusterState, opening_cluster, key_part, cluster_step, cluster_run, outcomes, message_at}
+use Rattle.world_events.specs.declared.error.WorldError.TheVariants.{Dishonest}
+use Rattle.cluster_model.specs.World.{ClusterState, opening_cluster, key_part, cluster_step, cluster_run, outcomes}
 use Rattle.cluster_model.specs.Counts.{begun_turns, open_turns}
+use Rattle.world_run.specs.Looks.{member_in, asks_at}
 use Rattle.world_drill.specs.declared.counts.DrillCounts.{DrillCounts}
 
 -- ---- the generator
@@ -37,29 +37,39 @@ drill_settings = record { parts = 2; kinds = record { kind = counter; idle_ms = 
 
 -- ---- what is picked
 
--- the events of a member, where there is one
-abbrev pub events_at : Option PartState → (Member → List WorldEvent) → List WorldEvent
-events_at None events = []
-events_at (Some p) events = events p.member
+-- the member of this number, counted from 0 in order of boot, past the last one from the first again
+abbrev pub member_numbered : ClusterState → ℕ → Option Member
+member_numbered w n = if w.boots == 0 then None else member_in (slice_get w.parts (n % w.boots * w.settings.parts))
 
--- the events of the member of this number, counted from 0 in order of boot, past the last one from the first again
+abbrev pub events_of : Option Member → (Member → List WorldEvent) → List WorldEvent
+events_of None events = []
+events_of (Some m) events = events m
+
 abbrev pub at_member : ClusterState → ℕ → (Member → List WorldEvent) → List WorldEvent
-at_member w n events = if w.boots == 0 then [] else events_at (slice_get w.parts (n % w.boots * 2)) events
+at_member w n events = events_of (member_numbered w n) events
 
--- the event of the call of this number, counted from 0
+-- the call of this number, counted from 0 in the order asked, past the last one from the first again
+abbrev pub call_numbered : ClusterState → ℕ → Option ℕ
+call_numbered w n = if length w.calls == 0 then None else Some (1 + n % length w.calls)
+
+abbrev pub event_of : Option ℕ → (ℕ → WorldEvent) → List WorldEvent
+event_of None event = []
+event_of (Some call) event = event call ∷ []
+
 abbrev pub at_call : ClusterState → ℕ → (ℕ → WorldEvent) → List WorldEvent
-at_call w n event = if length w.calls == 0 then [] else event (1 + n % length w.calls) ∷ []
+at_call w n event = event_of (call_numbered w n) event
 
-abbrev pub delivered : ℕ → ℕ → Option Message → List WorldEvent
+-- a request is delivered to the placement, an answer to a part
+abbrev pub delivered : ℕ → ℕ → Option Bool → List WorldEvent
 delivered k part None = []
-delivered k part (Some (Asks request)) = lines.To k ∷ []
-delivered k part (Some (Tells member answer)) = lines.Part k part ∷ []
+delivered k part (Some true) = lines.To k ∷ []
+delivered k part (Some false) = lines.Part k part ∷ []
 
--- one of the last eight messages, delivered to the placement or to a part
+-- one of the last eight messages
 abbrev pub delivery : ClusterState → ℕ → ℕ → List WorldEvent
 delivery w a b =
     if length w.messages == 0 then [] else
-    (let k = length w.messages - a % min (length w.messages) 8 in delivered k (b % 2) (message_at w k))
+    (let k = length w.messages - a % min (length w.messages) 8 in delivered k (b % 2) (asks_at w.messages k))
 
 abbrev pub boot_of : ClusterState → ℕ → List WorldEvent
 boot_of w a = if nat_lt w.boots 64 then lines.Boot (codes "n" ++ decimal (a % 4)) (counter ∷ []) ∷ [] else []

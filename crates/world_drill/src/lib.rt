@@ -5,6 +5,13 @@
 // `world_run` and `cluster_model`.
 #![tactic(auto)]
 
+mod choice;
 mod counts;
+mod generator;
+mod names;
+mod pick;
+mod play;
+mod run;
 
 pub use counts::DrillCounts;
+pub use run::drill;
