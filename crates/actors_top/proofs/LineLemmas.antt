@@ -93,23 +93,3 @@ cluster_happened s events column event old new result outcome before after risin
   | inl h ↦ absurd (let bad : ◌≡◌ {A = Result Outcome WorldError} (Ok outcome) (Err OutOfMemory) = sym is ∙ h.0 in cc)
   | inr h ↦ cluster_done s events column event new outcome before after rising (sym h.0 ∙ is) h.1 added
 ]
-
--- a refused event
-refused : (s : Setup) (events : List WorldEvent) (column : ℕ) (event : WorldEvent) (old new : WorldView) (error : WorldError) → (error ≡ OutOfMemory → ⊥)
-    → is_falling (cluster_after s events) event ≡ false → GivesStep (Err error) old (cluster_step ring_owner key_part (cluster_after s events) event) new
-    → cluster_event_step s events column event ≡ Stops (refused_at column error)
-refused s events column event old new error not rising gives = elim gives [
-  | inl h ↦ absurd (not (let e = h.0 in cc))
-  | inr h ↦ happens s events column event (Err error) rising (sym h.0)
-]
-
-at_end : {X : Type 0} (step : LineStep) (column : ℕ) (end : LineEnd) (new : Script) (text : List ℕ) → step ≡ Stops column → end ≡ ending.Refused column → GivesLine {X = X} (Err end) step new text text
-at_end step column end new text stops is = subst (λ (e : LineEnd). GivesLine (Err e) step new text text) (sym is) (stops, refl)
-
-pub cluster_refused : {X : Type 0} (s : Setup) (events : List WorldEvent) (column : ℕ) (event : WorldEvent) (old new : WorldView) (error : WorldError) (end : LineEnd) (text : List ℕ)
-    → is_falling (cluster_after s events) event ≡ false → GivesStep (Err error) old (cluster_step ring_owner key_part (cluster_after s events) event) new → EndsAt error column end
-    → GivesLine {X = X} (Err end) (cluster_event_step s events column event) (script.Cluster new) text text
-cluster_refused s events column event old new OutOfMemory end text rising gives ends = subst (λ (e : LineEnd). GivesLine (Err e) (cluster_event_step s events column event) (script.Cluster new) text text) (sym ends) refl
-cluster_refused s events column event old new (Spent count) end text rising gives ends = at_end _ _ end _ text (refused s events column event old new (Spent count) (λ e. cc) rising gives) ends
-cluster_refused s events column event old new (Dishonest member) end text rising gives ends = at_end _ _ end _ text (refused s events column event old new (Dishonest member) (λ e. cc) rising gives) ends
-cluster_refused s events column event old new (WrongNumber next) end text rising gives ends = at_end _ _ end _ text (refused s events column event old new (WrongNumber next) (λ e. cc) rising gives) ends

@@ -1,7 +1,7 @@
 use Rattle.std.proofs.Common.{sym, subst, ◌∙◌, Err}
 use Rattle.world_run.specs.Worlds.{GivesStep}
 use Rattle.actors_top.specs.Replay.{cluster_after}
-use Rattle.actors_top.proofs.LineLemmas.{cluster_happened, cluster_refused}
+use Rattle.actors_top.proofs.LineLemmas.{cluster_happened}
 use Rattle.actors_top.proofs.cluster_script.happen.Goals as goal
 
 pub returns-in-Ok-add_outcome : goal.returns-in-Ok-add_outcome
