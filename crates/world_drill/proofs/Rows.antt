@@ -1,9 +1,8 @@
 -- Worked drills, as tests of the definitions: each closes by computing. No owner of an actor is asked in them.
-use Rattle.std.specs.Prelude.{◌≡◌, ℕ, List, [], ◌∷◌, Option, None, codes}
+use Rattle.std.specs.Prelude.{◌≡◌, [], ◌∷◌, codes}
 use Rattle.std.specs.Fmt.{digits}
 use Rattle.std.proofs.Common.{refl}
 use Rattle.actor_names.specs.declared.member.Member.{Member}
-use Rattle.world_events.specs.declared.event.WorldEvent.{WorldEvent}
 use Rattle.world_events.specs.declared.event.WorldEvent.TheVariants.{Boot, Restart, To, Stop, Lost, Closing, Collect, Part}
 use Rattle.world_drill.specs.Drill.{counter, first_of, draw_of, drill_events, drill_world, counts_of, counts_text}
 

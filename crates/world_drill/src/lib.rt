@@ -15,3 +15,6 @@ mod run;
 
 pub use counts::DrillCounts;
 pub use run::drill;
+
+#[cfg(test)]
+mod tests;

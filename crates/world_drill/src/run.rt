@@ -51,10 +51,7 @@ fn opening(alloc: Global) -> Result<World, OutOfMemory>
     ensures { IfOk result (λ v. v ≡ view_of (opening_cluster drill_settings)) }
 {
     let settings = settings(alloc)?;
-    match World::new(alloc, settings) {
-        Ok(world) => Ok(world),
-        Err(_) => Err(OutOfMemory),
-    }
+    Ok(World::new(alloc, settings))
 }
 
 /// What is counted of a cluster after so many steps.
@@ -66,7 +63,7 @@ fn counts(world: &World, steps: u32) -> DrillCounts
         boots: world.boots(),
         messages: world.messages(),
         begun: world.begun(),
-        open_turns: world.begun().saturating_sub(world.ended()),
+        open_turns: world.open_turns(),
         version: world.last_version(),
     }
 }
