@@ -1,17 +1,18 @@
 -- How a replay ends, from how its lines ended and what was written.
-use Rattle.std.proofs.Common.{◌≡◌, ◌⊎◌, inl, inr, ◌<◌, ◌≤◌, ℕ, List, [], ◌++◌, length, take, Option, None, Some, Ok, refl, sym, ap, subst, ◌∙◌, arith, length-append}
+use Rattle.std.proofs.Common.{◌≡◌, ◌⊎◌, inl, inr, ◌<◌, ◌≤◌, ℕ, List, [], ◌++◌, length, take, drop, Option, None, Some, Ok, Err, refl, sym, ap, subst, ◌∙◌, arith, length-append}
 use Rattle.std.specs.Prelude.{codes}
 use Rattle.std.proofs.lemmas.Bool.{cases_lt, lt-ltb, le-ltb}
-use Rattle.std.proofs.lemmas.List.{take-take, take_all, length-take, append-nil}
-use Rattle.actor_ports.specs.declared.port.PortError.{PortError}
+use Rattle.std.proofs.lemmas.List.{take-take, take_all, drop_all, length-take, append-nil}
+use Rattle.actor_ports.specs.declared.port.PortError.TheVariants as port
 use Rattle.actors_top.specs.declared.status.Status.{Status}
 use Rattle.actors_top.specs.declared.status.Status.TheVariants as status
-use Rattle.actors_top.specs.Lines.{lines_of}
-use Rattle.actors_top.specs.Replay.{ReplayRun, replay_of, limit_run, run_lines, new_script, most_bytes, most_lines}
-use Rattle.actors_top.specs.ReplayTold.{IsFront, Prints, Writes, WritesFrontOf, WritesAs, PieceEnds, RunEnds, EndsAs, ReadsAll, AreAllOf, IsAtEnd, Replays}
-use Rattle.actors_top.proofs.NeverMix.{replay_never_mixes}
-use Rattle.actors_top.proofs.TurnsTold.{replay_told}
-use Rattle.actors_top.proofs.RunLemmas.{front_of, then_front}
+use Rattle.script_text.specs.Lines.{lines_of}
+use Rattle.actors_top.specs.Scripts.{Unread}
+use Rattle.actors_top.specs.Replay.{ReplayRun, replay_of, limit_run, run_lines, most_bytes, most_lines}
+use Rattle.actors_top.specs.ReplayTold.{IsFront, Prints, Writes, WritesFrontOf, WritesAs, PieceEnds, RunEnds, EndsAs, ReadsAll, AreAllOf, IsReadSoFar, most_read, Replays}
+use Rattle.actors_top.proofs.Headlines.{headline_holds}
+use Rattle.actors_top.proofs.RunTold.{replay_told}
+use Rattle.actors_top.proofs.RunLemmas.{front_of, then_front, drop_front}
 
 -- a front of a front is a front
 front_front : (a b c : List ℕ) → IsFront a b → IsFront b c → IsFront a c
@@ -62,7 +63,7 @@ piece_fault run before mid after written waiting rest more status.Usage first pi
 piece_fault run before mid after written waiting rest more status.SourceFault first piece not text = absurd piece
 
 -- a script within both limits is its lines' run
-pub replay-within : (bytes : List ℕ) → length bytes ≤ most_bytes → length (lines_of bytes) ≤ most_lines → replay_of bytes ≡ run_lines 1 new_script (lines_of bytes)
+pub replay-within : (bytes : List ℕ) → length bytes ≤ most_bytes → length (lines_of bytes) ≤ most_lines → replay_of bytes ≡ run_lines 1 Unread (lines_of bytes)
 replay-within bytes few short = rw (le-ltb most_bytes (length bytes) few, le-ltb most_lines (length (lines_of bytes)) short)
 
 replay-past : (bytes : List ℕ) → most_bytes < length bytes → replay_of bytes ≡ limit_run (codes "limit bytes\n")
@@ -80,7 +81,7 @@ whole_all None bytes = tt
 whole_all (Some left) bytes = refl
 
 -- a source above the limit is replayed as its front is, and any other was read to its end
-read_whole : (left rest : Option (List ℕ)) (bytes : List ℕ) → ReadsAll {X = Unit {0}} {E = PortError} left rest bytes (Ok tt) → replay_of (whole_of left bytes) ≡ replay_of bytes
+read_whole : (left rest : Option (List ℕ)) (bytes : List ℕ) → ReadsAll {X = Unit {0}} left rest bytes (Ok tt) → replay_of (whole_of left bytes) ≡ replay_of bytes
 read_whole None rest bytes reads = refl
 read_whole (Some left) rest bytes reads = by (cases_lt most_bytes (length bytes))
   where
@@ -88,23 +89,28 @@ read_whole (Some left) rest bytes reads = by (cases_lt most_bytes (length bytes)
     by (inl many) = replay-past left (omega (arith, ap length reads.1, length-append bytes reads.0)) ∙ sym (replay-past bytes many)
     by (inr few) = ap replay_of (reads.1 ∙ ap (λ (r : List ℕ). bytes ++ r) (reads.3 few) ∙ append-nil bytes)
 
--- a run that isn't above the limit of bytes has read the source to its end
-run_at_end : (left : List ℕ) (rest : Option (List ℕ)) (bytes : List ℕ) → ReadsAll {X = Unit {0}} {E = PortError} (Some left) rest bytes (Ok tt) → ((replay_of bytes).status ≡ 10 → ⊥) → rest ≡ Some []
-run_at_end left rest bytes reads other = by (cases_lt most_bytes (length bytes))
+-- what is left of a source that was read to its end, or one byte past the limit
+left_over : (left : List ℕ) (rest : Option (List ℕ)) (bytes : List ℕ) → ReadsAll {X = Unit {0}} (Some left) rest bytes (Ok tt) → rest ≡ Some (drop most_read left)
+left_over left rest bytes reads = by (cases_lt most_bytes (length bytes))
   where
-    by : (most_bytes < length bytes) ⊎ (length bytes ≤ most_bytes) → rest ≡ Some []
-    by (inl many) = absurd (other (ap (λ (r : ReplayRun). r.status) (replay-past bytes many)))
-    by (inr few) = reads.2 ∙ ap (λ (r : List ℕ). Some r) (reads.3 few)
+    by : (most_bytes < length bytes) ⊎ (length bytes ≤ most_bytes) → rest ≡ Some (drop most_read left)
+    by (inl many) =
+        let exact : length bytes ≡ most_read = (let few = reads.4 in omega arith) in
+        reads.2 ∙ ap (λ (r : List ℕ). Some r) (sym (drop_front bytes reads.0) ∙ ap (λ (n : ℕ). drop n (bytes ++ reads.0)) exact ∙ ap (λ (r : List ℕ). drop most_read r) (sym reads.1))
+    by (inr few) =
+        let none = reads.3 few in
+        let short : length left ≤ most_read = omega (arith, ap length reads.1, length-append bytes reads.0, ap length none) in
+        reads.2 ∙ ap (λ (r : List ℕ). Some r) (none ∙ sym (drop_all most_read left short))
 
-at_end : (left rest : Option (List ℕ)) (bytes : List ℕ) (before after : Option (List ℕ)) (ended : Status) → ReadsAll {X = Unit {0}} {E = PortError} left rest bytes (Ok tt) → RunEnds (replay_of bytes) ended before after → IsAtEnd left rest ended
-at_end None rest bytes before after ended reads ends = tt
-at_end (Some left) rest bytes before after status.Done reads ends = run_at_end left rest bytes reads (λ ten. absurd (omega (arith, ten, ends.0)))
-at_end (Some left) rest bytes before after status.Refused reads ends = run_at_end left rest bytes reads (λ ten. absurd (omega (arith, ten, ends.0)))
-at_end (Some left) rest bytes before after status.Limit reads ends = tt
-at_end (Some left) rest bytes before after status.SourceFault reads ends = tt
-at_end (Some left) rest bytes before after status.SinkFault reads ends = tt
-at_end (Some left) rest bytes before after status.OutOfMemory reads ends = tt
-at_end (Some left) rest bytes before after status.Usage reads ends = tt
+read_so_far : (left rest : Option (List ℕ)) (bytes : List ℕ) (before after : Option (List ℕ)) (ended : Status) → ReadsAll {X = Unit {0}} left rest bytes (Ok tt) → RunEnds (replay_of bytes) ended before after → IsReadSoFar left rest ended
+read_so_far None rest bytes before after ended reads ends = tt
+read_so_far (Some left) rest bytes before after status.Done reads ends = left_over left rest bytes reads
+read_so_far (Some left) rest bytes before after status.Refused reads ends = left_over left rest bytes reads
+read_so_far (Some left) rest bytes before after status.Limit reads ends = left_over left rest bytes reads
+read_so_far (Some left) rest bytes before after status.SinkFault reads ends = left_over left rest bytes reads
+read_so_far (Some left) rest bytes before after status.OutOfMemory reads ends = (most_read, omega arith, left_over left rest bytes reads)
+read_so_far (Some left) rest bytes before after status.SourceFault reads ends = tt
+read_so_far (Some left) rest bytes before after status.Usage reads ends = tt
 
 ends_as : (run : ReplayRun) (before after : Option (List ℕ)) (ended : Status) → RunEnds run ended before after → EndsAs run ended before after
 ends_as run before after status.Done ends = ends
@@ -116,45 +122,52 @@ ends_as run before after status.Usage ends = absurd ends
 ends_as run before after status.SourceFault ends = absurd ends
 
 -- the source was read, and its bytes were run
-pub replays_run : (left rest : Option (List ℕ)) (bytes : List ℕ) (before after : Option (List ℕ)) (ended : Status) → ReadsAll {X = Unit {0}} {E = PortError} left rest bytes (Ok tt)
+pub replays_run : (left rest : Option (List ℕ)) (bytes : List ℕ) (before after : Option (List ℕ)) (ended : Status) → ReadsAll {X = Unit {0}} left rest bytes (Ok tt)
     → RunEnds (replay_of bytes) ended before after → Replays left rest ended before after
 replays_run left rest bytes before after ended reads ends =
     record {
       bytes = whole_of left bytes;
       all = whole_all left bytes;
-      at_end = at_end left rest bytes before after ended reads ends;
+      read = read_so_far left rest bytes before after ended reads ends;
       ends = subst (λ (r : ReplayRun). EndsAs r ended before after) (sym (read_whole left rest bytes reads)) (ends_as (replay_of bytes) before after ended ends);
-      never_mix = replay_never_mixes (whole_of left bytes);
       tells = replay_told (whole_of left bytes);
+      headline = headline_holds (replay_of (whole_of left bytes)).log;
     }
 
-source_at_end : (left rest : Option (List ℕ)) → IsAtEnd left rest status.SourceFault
-source_at_end None rest = tt
-source_at_end (Some left) rest = tt
+fault_read : (left rest : Option (List ℕ)) → IsReadSoFar left rest status.SourceFault
+fault_read None rest = tt
+fault_read (Some left) rest = tt
 
 -- the source failed
 pub replays_fault : (left rest before : Option (List ℕ)) → Replays left rest status.SourceFault before before
 replays_fault left rest before =
-    record { bytes = whole_of left []; all = whole_all left []; at_end = source_at_end left rest; ends = refl; never_mix = replay_never_mixes (whole_of left []); tells = replay_told (whole_of left []) }
+    record {
+      bytes = whole_of left [];
+      all = whole_all left [];
+      read = fault_read left rest;
+      ends = refl;
+      tells = replay_told (whole_of left []);
+      headline = headline_holds (replay_of (whole_of left [])).log;
+    }
 
-memory_at_end : (left rest : Option (List ℕ)) → IsAtEnd left rest status.OutOfMemory
-memory_at_end None rest = tt
-memory_at_end (Some left) rest = tt
+memory_read : (left rest : Option (List ℕ)) (bytes : List ℕ) → ReadsAll {X = Unit {0}} left rest bytes (Err port.OutOfMemory) → IsReadSoFar left rest status.OutOfMemory
+memory_read None rest bytes reads = tt
+memory_read (Some left) rest bytes reads = reads
 
 nothing_written : (before : Option (List ℕ)) (text : List ℕ) → WritesFrontOf before before text
 nothing_written None text = tt
 nothing_written (Some held) text = ([], (0, refl), ap (λ (r : List ℕ). Some r) (sym (append-nil held)))
 
 -- there was no memory for the source's bytes
-pub replays_no_memory : (left rest before : Option (List ℕ)) → Replays left rest status.OutOfMemory before before
-replays_no_memory left rest before =
+pub replays_no_memory : (left rest before : Option (List ℕ)) (bytes : List ℕ) → ReadsAll {X = Unit {0}} left rest bytes (Err port.OutOfMemory) → Replays left rest status.OutOfMemory before before
+replays_no_memory left rest before bytes reads =
     record {
       bytes = whole_of left [];
       all = whole_all left [];
-      at_end = memory_at_end left rest;
+      read = memory_read left rest bytes reads;
       ends = nothing_written before (replay_of (whole_of left [])).text;
-      never_mix = replay_never_mixes (whole_of left []);
       tells = replay_told (whole_of left []);
+      headline = headline_holds (replay_of (whole_of left [])).log;
     }
 
 -- no run of bytes ends by a fault of the source

@@ -1,44 +1,115 @@
--- Where the first line of a text and the first word of a line end.
-use Rattle.std.proofs.Common.{◌≡◌, ◌≢◌, ◌<◌, ◌+◌, ℕ, zero, suc, List, [], ◌∷◌, length, get_or, take, drop, refl, arith, add-one}
-use Rattle.std.proofs.lemmas.Bool.{eq-eqb, ne_eqb}
-use Rattle.actors_top.specs.Lines.{IsFirstByte, lines_of, words_from}
+-- What a line does to the program's script is what it does to the log of the lines so far.
+use Rattle.std.proofs.Common.{◌≡◌, ℕ, Bool, true, false, List, [], ◌∷◌, ◌++◌, Option, None, Some, Ok, Err, inl, inr, refl, sym, ap, subst, ◌∙◌}
+use Rattle.std.specs.Prelude.{Result}
+use Rattle.part_core.specs.Part.{ring_owner}
+use Rattle.world_events.specs.Solo.{SoloEvent}
+use Rattle.world_events.specs.declared.event.WorldEvent.{WorldEvent}
+use Rattle.world_events.specs.declared.outcome.Outcome.{Outcome}
+use Rattle.world_events.specs.declared.outcome.TurnOutcome.{TurnOutcome}
+use Rattle.world_events.specs.declared.error.WorldError.{WorldError}
+use Rattle.world_events.specs.declared.error.WorldError.TheVariants.{Spent, Dishonest, WrongNumber, OutOfMemory}
+use Rattle.solo_run.specs.World.{SoloState, TypeDepth, solo_step, refusal_of}
+use Rattle.solo_run.specs.Runs.{after_event, run_from, solo_run}
+use Rattle.solo_run.specs.Steps.{GivesOutcome}
+use Rattle.cluster_model.specs.World.{ClusterState, opening_cluster, key_part, cluster_step, cluster_run}
+use Rattle.world_run.specs.Worlds.{WorldView, view_of, GivesStep}
+use Rattle.script_text.specs.Outcomes.{turn_text, outcome_text}
+use Rattle.script_text.specs.Reading.{Setting}
+use Rattle.script_text.specs.SoloLines as solo
+use Rattle.script_text.proofs.Late.{late_solo_sets_nothing}
+use Rattle.actors_top.specs.Scripts.{Setup, SoloLog, ClusterLog, any_of, settings_of}
+use Rattle.actors_top.specs.EndsTold.{EndsAt}
+use Rattle.actors_top.specs.Replay.{LineStep, Stops, refused_at, solo_does, solo_setting, solo_event, cluster_after, cluster_event, cluster_event_step, is_falling}
+use Rattle.actors_top.specs.ReplayTold.{GoesTo, GivesLine}
+use Rattle.actors_top.specs.declared.line_end.LineEnd.{LineEnd}
+use Rattle.actors_top.specs.declared.line_end.LineEnd.TheVariants as ending
+use Rattle.actors_top.specs.declared.script.Script.{Script}
+use Rattle.actors_top.specs.declared.script.Script.TheVariants as script
 
--- a line ends at the first line feed
-pub lines_at : (xs : List ℕ) (i : ℕ) → i < length xs → get_or xs i 0 ≡ 10 → ((k : ℕ) → k < i → get_or xs k 0 ≢ 10) → lines_of xs ≡ take i xs ∷ lines_of (drop (suc i) xs)
-lines_at [] i within here before = absurd (omega arith)
-lines_at (b ∷ bs) zero within here before = rw (eq-eqb b 10 here)
-lines_at (b ∷ bs) (suc i) within here before =
-    rw (ne_eqb b 10 (before 0 (omega arith)), lines_at bs i (omega arith) here (λ k h. before (suc k) (omega arith)))
+any_more : {A : Type 0} (xs : List A) (x : A) → any_of (xs ++ x ∷ []) ≡ true
+any_more [] x = refl
+any_more (y ∷ ys) x = refl
 
--- a text without a line feed is one line
-pub one_line : (xs : List ℕ) → 0 < length xs → ((k : ℕ) → k < length xs → get_or xs k 0 ≢ 10) → lines_of xs ≡ xs ∷ []
-one_line [] some none = absurd (omega arith)
-one_line (b ∷ []) some none = rw (ne_eqb b 10 (none 0 (omega arith)))
-one_line (b ∷ c ∷ bs) some none =
-    rw (ne_eqb b 10 (none 0 (omega arith)), one_line (c ∷ bs) (omega arith) (λ k h. none (suc k) (omega arith)))
+-- ---- solo scripts
 
--- a word ends at the first space
-pub words_at : (column : ℕ) (xs : List ℕ) (i : ℕ) → i < length xs → get_or xs i 0 ≡ 32 → ((k : ℕ) → k < i → get_or xs k 0 ≢ 32)
-    → words_from column xs ≡ record { column = column; text = take i xs } ∷ words_from (column + suc i) (drop (suc i) xs)
-words_at column [] i within here before = absurd (omega arith)
-words_at column (b ∷ bs) zero within here before = rw (eq-eqb b 32 here)
-words_at column (b ∷ bs) (suc i) within here before =
-    let shift : (column + 1) + suc i ≡ column + suc (suc i) = omega arith in
-    rw (ne_eqb b 32 (before 0 (omega arith)), words_at (column + 1) bs i (omega arith) here (λ k h. before (suc k) (omega arith)), shift)
+run_from-append : (w : SoloState) (xs ys : List SoloEvent) → run_from w (xs ++ ys) ≡ run_from (run_from w xs) ys
+run_from-append w [] ys = refl
+run_from-append w (x ∷ xs) ys = run_from-append (after_event w x (refusal_of w x)) xs ys
 
--- what has no space is one word
-pub one_word : (column : ℕ) (xs : List ℕ) → ((k : ℕ) → k < length xs → get_or xs k 0 ≢ 32) → words_from column xs ≡ record { column = column; text = xs } ∷ []
-one_word column [] none = refl
-one_word column (b ∷ bs) none =
-    rw (ne_eqb b 32 (none 0 (omega arith)), one_word (column + 1) bs (λ k h. none (suc k) (omega arith)))
+-- an event that isn't refused
+solo_run-more : (depths : List TypeDepth) (events : List SoloEvent) (event : SoloEvent) → refusal_of (solo_run depths events) event ≡ None
+    → solo_run depths (events ++ event ∷ []) ≡ (solo_step (solo_run depths events) event).world
+solo_run-more depths events event none = run_from-append _ events (event ∷ []) ∙ ap (λ (r : Option WorldError). after_event (solo_run depths events) event r) none
 
--- the same, with the sums as the code has them
-pub words_split : (column : ℕ) (xs : List ℕ) (i : ℕ) → IsFirstByte 32 xs i
-    → words_from column xs ≡ record { column = column; text = take i xs } ∷ words_from (column + i + 1) (drop (i + 1) xs)
-words_split column xs i f =
-    let shift : column + i + 1 ≡ column + suc i = omega arith in
-    let next : i + 1 ≡ suc i = omega arith in
-    rw (shift, next) (words_at column xs i f.within f.here f.before)
+pub solo_happened : (depths : List TypeDepth) (events : List SoloEvent) (column : ℕ) (event : SoloEvent) (old new : SoloState) (outcome : TurnOutcome) (before after : List ℕ)
+    → old ≡ solo_run depths events → refusal_of old event ≡ None → GivesOutcome outcome old new event → after ≡ before ++ turn_text outcome
+    → GoesTo (solo_event depths events column event (refusal_of (solo_run depths events) event)) (script.Solo (record { started = true; world = new })) before after
+solo_happened depths events column event old new outcome before after is none gives added =
+    let now : refusal_of (solo_run depths events) event ≡ None = ap (λ (w : SoloState). refusal_of w event) (sym is) ∙ none in
+    let world = gives.world ∙ ap (λ (w : SoloState). (solo_step w event).world) is ∙ sym (solo_run-more depths events event now) in
+    let text = added ∙ ap (λ (o : TurnOutcome). before ++ turn_text o) (gives.gives ∙ ap (λ (w : SoloState). (solo_step w event).outcome) is) in
+    subst (λ (r : Option WorldError). GoesTo (solo_event depths events column event r) (script.Solo (record { started = true; world = new })) before after) (sym now)
+    ((sym (any_more events event), world), text)
 
-pub lines_split : (xs : List ℕ) (i : ℕ) → IsFirstByte 10 xs i → lines_of xs ≡ take i xs ∷ lines_of (drop (i + 1) xs)
-lines_split xs i f = rw add-one (lines_at xs i f.within f.here f.before)
+not_late : (line : List ℕ) (setting : Setting) (late : Bool) → solo.solo_line late line ≡ Ok (solo.Sets setting) → late ≡ false
+not_late line setting true e = absurd (late_solo_sets_nothing line setting e)
+not_late line setting false e = refl
+
+pub solo_was_set : {X : Type 0} (depths : List TypeDepth) (events : List SoloEvent) (line : List ℕ) (setting : Setting) (started : Bool) (result : Result X LineEnd) (new : Script) (text : List ℕ)
+    → started ≡ any_of events → solo.solo_line started line ≡ Ok (solo.Sets setting) → (any_of events ≡ false → GivesLine result (solo_setting depths events setting) new text text)
+    → GivesLine result (solo_does depths events (solo.solo_line (any_of events) line)) new text text
+solo_was_set depths events line setting started result new text is reads gives =
+    let now : solo.solo_line (any_of events) line ≡ Ok (solo.Sets setting) = ap (λ (b : Bool). solo.solo_line b line) (sym is) ∙ reads in
+    subst (λ (r : Result solo.SoloLine ℕ). GivesLine result (solo_does depths events r) new text text) (sym now) (gives (not_late line setting (any_of events) now))
+
+-- ---- cluster scripts
+
+cluster_run-append : (w : ClusterState) (xs ys : List WorldEvent) → cluster_run ring_owner key_part w (xs ++ ys) ≡ cluster_run ring_owner key_part (cluster_run ring_owner key_part w xs) ys
+cluster_run-append w [] ys = refl
+cluster_run-append w (x ∷ xs) ys = cluster_run-append (cluster_step ring_owner key_part w x).world xs ys
+
+-- an event that is no falling moment happens
+happens : (s : Setup) (events : List WorldEvent) (column : ℕ) (event : WorldEvent) (result : Result Outcome WorldError) → is_falling (cluster_after s events) event ≡ false
+    → (cluster_step ring_owner key_part (cluster_after s events) event).outcome ≡ result → cluster_event_step s events column event ≡ cluster_event s events column event result
+happens s events column event result rising is = rw (rising, is) refl
+
+-- an event that is no falling moment, and isn't refused
+cluster_done : (s : Setup) (events : List WorldEvent) (column : ℕ) (event : WorldEvent) (new : WorldView) (outcome : Outcome) (before after : List ℕ)
+    → is_falling (cluster_after s events) event ≡ false → (cluster_step ring_owner key_part (cluster_after s events) event).outcome ≡ Ok outcome
+    → new ≡ view_of (cluster_step ring_owner key_part (cluster_after s events) event).world → after ≡ before ++ outcome_text outcome
+    → GoesTo (cluster_event_step s events column event) (script.Cluster new) before after
+cluster_done s events column event new outcome before after rising is world added =
+    let one = sym (cluster_run-append (opening_cluster (settings_of s)) events (event ∷ [])) in
+    let goes : GoesTo (cluster_event s events column event (Ok outcome)) (script.Cluster new) before after = ((any_more events event, world ∙ ap view_of one), added) in
+    subst (λ (step : LineStep). GoesTo step (script.Cluster new) before after) (sym (happens s events column event (Ok outcome) rising is)) goes
+
+ok_same : (a b : Outcome) → ◌≡◌ {A = Result Outcome WorldError} (Ok a) (Ok b) → a ≡ b
+ok_same a b e = cc
+
+pub cluster_happened : (s : Setup) (events : List WorldEvent) (column : ℕ) (event : WorldEvent) (old new : WorldView) (result : Result Outcome WorldError) (outcome : Outcome) (before after : List ℕ)
+    → is_falling (cluster_after s events) event ≡ false → GivesStep result old (cluster_step ring_owner key_part (cluster_after s events) event) new → result ≡ Ok outcome → after ≡ before ++ outcome_text outcome
+    → GoesTo (cluster_event_step s events column event) (script.Cluster new) before after
+cluster_happened s events column event old new result outcome before after rising gives is added = elim gives [
+  | inl h ↦ absurd (let bad : ◌≡◌ {A = Result Outcome WorldError} (Ok outcome) (Err OutOfMemory) = sym is ∙ h.0 in cc)
+  | inr h ↦ cluster_done s events column event new outcome before after rising (sym h.0 ∙ is) h.1 added
+]
+
+-- a refused event
+refused : (s : Setup) (events : List WorldEvent) (column : ℕ) (event : WorldEvent) (old new : WorldView) (error : WorldError) → (error ≡ OutOfMemory → ⊥)
+    → is_falling (cluster_after s events) event ≡ false → GivesStep (Err error) old (cluster_step ring_owner key_part (cluster_after s events) event) new
+    → cluster_event_step s events column event ≡ Stops (refused_at column error)
+refused s events column event old new error not rising gives = elim gives [
+  | inl h ↦ absurd (not (let e = h.0 in cc))
+  | inr h ↦ happens s events column event (Err error) rising (sym h.0)
+]
+
+at_end : {X : Type 0} (step : LineStep) (column : ℕ) (end : LineEnd) (new : Script) (text : List ℕ) → step ≡ Stops column → end ≡ ending.Refused column → GivesLine {X = X} (Err end) step new text text
+at_end step column end new text stops is = subst (λ (e : LineEnd). GivesLine (Err e) step new text text) (sym is) (stops, refl)
+
+pub cluster_refused : {X : Type 0} (s : Setup) (events : List WorldEvent) (column : ℕ) (event : WorldEvent) (old new : WorldView) (error : WorldError) (end : LineEnd) (text : List ℕ)
+    → is_falling (cluster_after s events) event ≡ false → GivesStep (Err error) old (cluster_step ring_owner key_part (cluster_after s events) event) new → EndsAt error column end
+    → GivesLine {X = X} (Err end) (cluster_event_step s events column event) (script.Cluster new) text text
+cluster_refused s events column event old new OutOfMemory end text rising gives ends = subst (λ (e : LineEnd). GivesLine (Err e) (cluster_event_step s events column event) (script.Cluster new) text text) (sym ends) refl
+cluster_refused s events column event old new (Spent count) end text rising gives ends = at_end _ _ end _ text (refused s events column event old new (Spent count) (λ e. cc) rising gives) ends
+cluster_refused s events column event old new (Dishonest member) end text rising gives ends = at_end _ _ end _ text (refused s events column event old new (Dishonest member) (λ e. cc) rising gives) ends
+cluster_refused s events column event old new (WrongNumber next) end text rising gives ends = at_end _ _ end _ text (refused s events column event old new (WrongNumber next) (λ e. cc) rising gives) ends

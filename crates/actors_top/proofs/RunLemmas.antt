@@ -1,38 +1,50 @@
 -- One line more of a run.
-use Rattle.std.proofs.Common.{◌≡◌, ◌+◌, ◌<◌, ℕ, List, [], ◌∷◌, ◌++◌, length, take, drop, Option, None, Some, Ok, Err, refl, sym, ap, subst, ◌∙◌, arith}
-use Rattle.std.proofs.lemmas.List.{take_at, take_all, drop_all, take-append-drop, append_assoc}
+use Rattle.std.proofs.Common.{◌≡◌, ◌+◌, ◌<◌, ◌≤◌, ℕ, List, [], ◌∷◌, ◌++◌, length, take, drop, Option, None, Some, Ok, Err, refl, sym, ap, subst, ◌∙◌, arith}
+use Rattle.std.proofs.lemmas.List.{take_at, take_all, drop_all, take-append-drop, append_assoc, append-nil}
 use Rattle.std.proofs.Math.Seq.{take-append-add}
 use Rattle.actor_ports.specs.Port.{TakesFront, WritesAll}
-use Rattle.actor_ports.specs.declared.port.PortError.{PortError}
-use Rattle.actors_top.specs.World.{SoloWorld}
-use Rattle.actors_top.specs.Outcomes.{bad_line_text}
-use Rattle.actors_top.specs.Replay.{ScriptState, LineStep, Goes, Stops, ReplayRun, line_step, after_line, run_lines, most_bytes}
-use Rattle.actors_top.specs.ReplayTold.{GoesTo, GivesLine, IsFront, Prints, RefusesLine, EndsLines, HasRead, ReadsAll, Writes, WritesFrontOf, WritesAs}
-use Rattle.actors_top.specs.declared.script.LineEnd.{LineEnd}
-use Rattle.actors_top.specs.declared.script.LineEnd.TheVariants as ending
+use Rattle.actor_ports.specs.declared.port.PortError.TheVariants as port
+use Rattle.script_text.specs.Outcomes.{bad_line_text}
+use Rattle.actors_top.specs.Scripts.{ScriptLog}
+use Rattle.actors_top.specs.Replay.{LineStep, Goes, Stops, ReplayRun, line_step, after_line, run_lines, most_bytes}
+use Rattle.actors_top.specs.ReplayTold.{IsOf, GoesTo, GivesLine, IsFront, Prints, RefusesLine, EndsLines, HasRead, ReadsAll, Writes, WritesFrontOf, WritesAs, most_read}
+use Rattle.actors_top.specs.declared.line_end.LineEnd.{LineEnd}
+use Rattle.actors_top.specs.declared.line_end.LineEnd.TheVariants as ending
+use Rattle.actors_top.specs.declared.script.Script.{Script}
 use Rattle.actors_top.specs.declared.status.Status.{Status}
 use Rattle.actors_top.specs.declared.status.Status.TheVariants as status
 
--- what a step that goes on adds stands before what the next lines write
-pub record GoesOn (before after : List ℕ) (run next : ReplayRun) : Type 0 where
-  pub text : after ++ next.text ≡ before ++ run.text
-  pub status : next.status ≡ run.status
+-- what a step that goes on adds, behind what was written before, stands before what the next lines write
+pub record GoesOn (number : ℕ) (written before after : List ℕ) (new : Script) (lines : List (List ℕ)) (run : ReplayRun) : Type 0 where
+  pub log : ScriptLog
+  pub is_of : IsOf log new
+  pub text : (written ++ after) ++ (run_lines (number + 1) log lines).text ≡ (written ++ before) ++ run.text
+  pub status : (run_lines (number + 1) log lines).status ≡ run.status
 
-after_step : (number : ℕ) (w : SoloWorld) (step : LineStep) (rest : ScriptState → ReplayRun) (new : ScriptState) (before after : List ℕ)
-    → GoesTo step new before after → GoesOn before after (after_line number w step rest) (rest new)
-after_step number w (Stops column) rest new before after goes = absurd goes
-after_step number w (Goes script text marks) rest new before after goes =
-    record { text = rw (goes.0, goes.1) (append_assoc before text (rest script).text); status = rw goes.0 }
+-- what a step adds does so behind another text
+behind : (written a b x y : List ℕ) → a ++ x ≡ b ++ y → (written ++ a) ++ x ≡ (written ++ b) ++ y
+behind written a b x y e = append_assoc written a x ∙ ap (λ (r : List ℕ). written ++ r) e ∙ sym (append_assoc written b y)
 
-goes_on : (number : ℕ) (s new : ScriptState) (line : List ℕ) (lines : List (List ℕ)) (before after : List ℕ) → GoesTo (line_step s line) new before after
-    → GoesOn before after (run_lines number s (line ∷ lines)) (run_lines (number + 1) new lines)
-goes_on number s new line lines before after goes = after_step number s.world (line_step s line) (λ next. run_lines (number + 1) next lines) new before after goes
+pub goes_on_behind : (written : List ℕ) (number : ℕ) (log : ScriptLog) (new : Script) (line : List ℕ) (lines : List (List ℕ)) (before after : List ℕ) → GoesTo (line_step log line) new before after
+    → GoesOn number written before after new lines (run_lines number log (line ∷ lines))
+goes_on_behind written number log new line lines before after = go (line_step log line)
+  where
+    go : (step : LineStep) → GoesTo step new before after → GoesOn number written before after new lines (after_line number log step (λ next. run_lines (number + 1) next lines))
+    go (Stops column) goes = absurd goes
+    go (Goes next text) goes =
+        record {
+          log = next;
+          is_of = goes.0;
+          text = behind written after before (run_lines (number + 1) next lines).text (text ++ (run_lines (number + 1) next lines).text)
+              (ap (λ (r : List ℕ). r ++ (run_lines (number + 1) next lines).text) goes.1 ∙ append_assoc before text (run_lines (number + 1) next lines).text);
+          status = refl;
+        }
 
-stops_text : (number column : ℕ) (s : ScriptState) (line : List ℕ) (lines : List (List ℕ)) → line_step s line ≡ Stops column → (run_lines number s (line ∷ lines)).text ≡ bad_line_text number column
-stops_text number column s line lines h = ap (λ step. (after_line number s.world step (λ next. run_lines (number + 1) next lines)).text) h
+stops_text : (number column : ℕ) (log : ScriptLog) (line : List ℕ) (lines : List (List ℕ)) → line_step log line ≡ Stops column → (run_lines number log (line ∷ lines)).text ≡ bad_line_text number column
+stops_text number column log line lines h = ap (λ step. (after_line number log step (λ next. run_lines (number + 1) next lines)).text) h
 
-stops_status : (number column : ℕ) (s : ScriptState) (line : List ℕ) (lines : List (List ℕ)) → line_step s line ≡ Stops column → (run_lines number s (line ∷ lines)).status ≡ 3
-stops_status number column s line lines h = ap (λ step. (after_line number s.world step (λ next. run_lines (number + 1) next lines)).status) h
+stops_status : (number column : ℕ) (log : ScriptLog) (line : List ℕ) (lines : List (List ℕ)) → line_step log line ≡ Stops column → (run_lines number log (line ∷ lines)).status ≡ 3
+stops_status number column log line lines h = ap (λ step. (after_line number log step (λ next. run_lines (number + 1) next lines)).status) h
 
 -- what was printed so far is a front of all
 pub front_of : (front rest all : List ℕ) → front ++ rest ≡ all → IsFront front all
@@ -51,16 +63,6 @@ refused_prints number column before after run rest status.Limit text same bad th
 
 -- ---- text behind what was written before
 
--- what a step adds does so behind another text
-behind : (written a b x y : List ℕ) → a ++ x ≡ b ++ y → (written ++ a) ++ x ≡ (written ++ b) ++ y
-behind written a b x y e = append_assoc written a x ∙ ap (λ (r : List ℕ). written ++ r) e ∙ sym (append_assoc written b y)
-
-pub goes_on_behind : (written : List ℕ) (number : ℕ) (s new : ScriptState) (line : List ℕ) (lines : List (List ℕ)) (before after : List ℕ) → GoesTo (line_step s line) new before after
-    → GoesOn (written ++ before) (written ++ after) (run_lines number s (line ∷ lines)) (run_lines (number + 1) new lines)
-goes_on_behind written number s new line lines before after goes =
-    let on = goes_on number s new line lines before after goes in
-    record { text = behind written after before _ _ on.text; status = on.status }
-
 refused_behind : (written : List ℕ) (number column : ℕ) (before after : List ℕ) (ended : Status) → RefusesLine number column before after ended → RefusesLine number column (written ++ before) (written ++ after) ended
 refused_behind written number column before after status.Refused h = ap (λ (r : List ℕ). written ++ r) h ∙ sym (append_assoc written before (bad_line_text number column))
 refused_behind written number column before after status.OutOfMemory h = ap (λ (r : List ℕ). written ++ r) h
@@ -71,19 +73,23 @@ refused_behind written number column before after status.SinkFault h = absurd h
 refused_behind written number column before after status.Limit h = absurd h
 
 -- a line that ends the replay ends the run; `written` was written before, and `before` and `after` wait
-pub ended_prints : (written : List ℕ) (number : ℕ) (end : LineEnd) (s new : ScriptState) (line : List ℕ) (lines : List (List ℕ)) (before mid after : List ℕ) (run : ReplayRun) (ended : Status)
-    → GivesLine {X = Unit {0}} (Err end) (line_step s line) new before mid → EndsLines end number mid after ended
-    → (written ++ before) ++ (run_lines number s (line ∷ lines)).text ≡ run.text → (run_lines number s (line ∷ lines)).status ≡ run.status → Prints run ended (written ++ after)
-ended_prints written number (ending.Refused column) s new line lines before mid after run ended gives ends text same =
+pub ended_prints : (written : List ℕ) (number : ℕ) (end : LineEnd) (log : ScriptLog) (new : Script) (line : List ℕ) (lines : List (List ℕ)) (before mid after : List ℕ) (run : ReplayRun) (ended : Status)
+    → GivesLine {X = Unit {0}} (Err end) (line_step log line) new before mid → EndsLines end number mid after ended
+    → (written ++ before) ++ (run_lines number log (line ∷ lines)).text ≡ run.text → (run_lines number log (line ∷ lines)).status ≡ run.status → Prints run ended (written ++ after)
+ended_prints written number (ending.Refused column) log new line lines before mid after run ended gives ends text same =
     let refuses : RefusesLine number column before after ended = subst (λ (m : List ℕ). RefusesLine number column m after ended) gives.1 ends in
-    refused_prints number column (written ++ before) (written ++ after) run (run_lines number s (line ∷ lines)) ended text same
-    (stops_text number column s line lines gives.0) (stops_status number column s line lines gives.0) (refused_behind written number column before after ended refuses)
-ended_prints written number ending.OutOfMemory s new line lines before mid after run ended gives ends text same =
-    let front : IsFront (written ++ before) run.text = front_of (written ++ before) (run_lines number s (line ∷ lines)).text run.text text in
+    refused_prints number column (written ++ before) (written ++ after) run (run_lines number log (line ∷ lines)) ended text same
+    (stops_text number column log line lines gives.0) (stops_status number column log line lines gives.0) (refused_behind written number column before after ended refuses)
+ended_prints written number ending.OutOfMemory log new line lines before mid after run ended gives ends text same =
+    let front : IsFront (written ++ before) run.text = front_of (written ++ before) (run_lines number log (line ∷ lines)).text run.text text in
     let still : IsFront (written ++ after) run.text = subst (λ (r : List ℕ). IsFront (written ++ r) run.text) (sym (ends.1 ∙ gives)) front in
     subst (λ (e : Status). Prints run e (written ++ after)) (sym ends.0) still
 
 -- ---- reading the source
+
+pub drop_front : (xs ys : List ℕ) → drop (length xs) (xs ++ ys) ≡ ys
+drop_front [] ys = refl
+drop_front (x ∷ xs) ys = drop_front xs ys
 
 -- one read more
 pub read_more : (left rest : Option (List ℕ)) (after : Option (List ℕ)) (bytes new : List ℕ) (n : ℕ) → HasRead left rest bytes → TakesFront rest after bytes new (Ok n) → HasRead left after new
@@ -96,20 +102,29 @@ read_more (Some left) (Some held) after bytes new n has takes =
       takes.2,
     )
 
--- the bytes are more than the limit
-pub read_past : (left rest : Option (List ℕ)) (bytes : List ℕ) → most_bytes < length bytes → HasRead left rest bytes → ReadsAll {X = Unit {0}} {E = PortError} left rest bytes (Ok tt)
-read_past None rest bytes full has = tt
-read_past (Some left) rest bytes full has = (has.0, has.1, has.2, λ few. absurd (omega arith))
+-- the bytes are more than the limit, by one
+pub read_past : (left rest : Option (List ℕ)) (bytes : List ℕ) → most_bytes < length bytes → length bytes ≤ most_read → HasRead left rest bytes → ReadsAll {X = Unit {0}} left rest bytes (Ok tt)
+read_past None rest bytes full few has = tt
+read_past (Some left) rest bytes full few has = (has.0, has.1, has.2, λ short. absurd (omega arith), few)
 
 -- the source is at its end
-pub read_to_end : (left rest after : Option (List ℕ)) (bytes new : List ℕ) (n : ℕ) → n ≡ 0 → HasRead left rest bytes → TakesFront rest after bytes new (Ok n) → ReadsAll {X = Unit {0}} {E = PortError} left after new (Ok tt)
+pub read_to_end : (left rest after : Option (List ℕ)) (bytes new : List ℕ) (n : ℕ) → n ≡ 0 → length new ≤ most_read → HasRead left rest bytes → TakesFront rest after bytes new (Ok n) → ReadsAll {X = Unit {0}} left after new (Ok tt)
 unfolding read_more
-read_to_end None rest after bytes new n none has takes = tt
-read_to_end (Some left) None after bytes new n none has takes = absurd (let e = has.2 in cc)
-read_to_end (Some left) (Some held) after bytes new n none has takes =
+read_to_end None rest after bytes new n none few has takes = tt
+read_to_end (Some left) None after bytes new n none few has takes = absurd (let e = has.2 in cc)
+read_to_end (Some left) (Some held) after bytes new n none few has takes =
     let more = read_more (Some left) (Some held) after bytes new n has takes in
     let empty : held ≡ [] = takes.3 none in
-    (more.0, more.1, more.2, λ few. drop_all n held (omega (arith, ap length empty)))
+    (more.0, more.1, more.2, λ short. drop_all n held (omega (arith, ap length empty)), few)
+
+-- the source wanted memory, and took nothing
+pub read_no_memory : (left rest after : Option (List ℕ)) (bytes new : List ℕ) → length bytes ≤ most_read → HasRead left rest bytes → TakesFront rest after bytes new (Err port.OutOfMemory)
+    → ReadsAll {X = Unit {0}} left after new (Err port.OutOfMemory)
+read_no_memory None rest after bytes new few has takes = tt
+read_no_memory (Some left) None after bytes new few has takes = absurd (let e = has.2 in cc)
+read_no_memory (Some left) (Some held) after bytes new few has takes =
+    let same : held ≡ has.0 = (let e = has.2 in cc) in
+    (length bytes, few, takes ∙ ap (λ (r : List ℕ). Some r) (same ∙ sym (drop_front bytes has.0) ∙ ap (λ (r : List ℕ). drop (length bytes) r) (sym has.1)))
 
 -- ---- writing the text
 
@@ -135,6 +150,11 @@ written_as before after text status.Usage written = (refl, all_written before af
 written_as before after text status.SourceFault written = (refl, all_written before after text written)
 
 -- ---- writing it in pieces
+
+-- nothing was written so far
+pub nothing_yet : (before : Option (List ℕ)) → Writes before before []
+nothing_yet None = tt
+nothing_yet (Some held) = ap (λ (r : List ℕ). Some r) (sym (append-nil held))
 
 -- a text was written, and then another
 pub then_written : (before mid after : Option (List ℕ)) (written text : List ℕ) → Writes before mid written → Writes mid after text → Writes before after (written ++ text)

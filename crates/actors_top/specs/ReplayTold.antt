@@ -1,20 +1,44 @@
 -- What the program's replay tells against the defined one: a line, all lines, and the whole command.
-use Rattle.std.specs.Prelude.{◌≡◌, ◌≤◌, ◌++◌, ℕ, List, [], length, take, Option, None, Some, Result, Ok, Err}
-use Rattle.actors_top.specs.Replay.{ScriptState, LineStep, Goes, Stops, ReplayRun, replay_of, TurnsNeverMix, most_bytes}
-use Rattle.actors_top.specs.TurnsTold.{TellsTurns, replay_log}
-use Rattle.actors_top.specs.declared.script.LineEnd.{LineEnd}
-use Rattle.actors_top.specs.declared.script.LineEnd.TheVariants as ending
+use Rattle.std.specs.Prelude.{◌≡◌, ◌≤◌, ◌++◌, ℕ, List, [], length, take, drop, true, Option, None, Some, Result, Ok, Err}
+use Rattle.actor_ports.specs.declared.port.PortError.{PortError}
+use Rattle.actor_ports.specs.declared.port.PortError.TheVariants as port
+use Rattle.solo_run.specs.Runs.{solo_run}
+use Rattle.world_run.specs.Worlds.{WorldView, view_of}
+use Rattle.script_text.specs.Lines.{lines_of}
+use Rattle.script_text.specs.Outcomes.{bad_line_text}
+use Rattle.actors_top.specs.Scripts.{Setup, ScriptLog, Unread, SoloLog, ClusterLog, any_of}
+use Rattle.actors_top.specs.Replay.{LineStep, Goes, Stops, ReplayRun, replay_of, cluster_after, most_bytes}
+use Rattle.actors_top.specs.Headline.{HeadlineHolds}
+use Rattle.actors_top.specs.Told.{TellsRun}
+use Rattle.actors_top.specs.declared.script.Script.{Script}
+use Rattle.actors_top.specs.declared.script.Script.TheVariants as script
+use Rattle.actors_top.specs.declared.line_end.LineEnd.{LineEnd}
+use Rattle.actors_top.specs.declared.line_end.LineEnd.TheVariants as ending
 use Rattle.actors_top.specs.declared.status.Status.{Status}
 use Rattle.actors_top.specs.declared.status.Status.TheVariants as status
-use Rattle.actors_top.specs.Outcomes.{bad_line_text}
+
+-- ---- the program's script between two lines
+
+-- the program's script is that of what its lines so far name; its first event opens the world of a cluster script
+abbrev pub IsOf : ScriptLog → Script → Type 0
+IsOf Unread script.Unread = Unit {0}
+IsOf (SoloLog depths events) (script.Solo solo) = (solo.started ≡ any_of events) × (solo.world ≡ solo_run depths events)
+IsOf (ClusterLog s events) (script.Opening setup) = (events ≡ []) × (setup ≡ s)
+IsOf (ClusterLog s events) (script.Cluster world) = (any_of events ≡ true) × (world ≡ view_of (cluster_after s events))
+IsOf log other = ⊥
+
+-- a cluster script with its settings, or with the world that its first event opened
+abbrev pub opened_script : Setup → Option WorldView → Script
+opened_script setup None = script.Opening setup
+opened_script setup (Some world) = script.Cluster world
 
 -- the step goes on to this script and appends its text
-abbrev pub GoesTo : LineStep → ScriptState → List ℕ → List ℕ → Type 0
-GoesTo (Goes script text marks) new before after = (new ≡ script) × (after ≡ before ++ text)
+abbrev pub GoesTo : LineStep → Script → List ℕ → List ℕ → Type 0
+GoesTo (Goes log text) new before after = IsOf log new × (after ≡ before ++ text)
 GoesTo (Stops column) new before after = ⊥
 
 -- Ok is the step that goes on, Refused the step that stops at this column; an error appends nothing
-abbrev pub GivesLine : {X : Type 0} → Result X LineEnd → LineStep → ScriptState → List ℕ → List ℕ → Type 0
+abbrev pub GivesLine : {X : Type 0} → Result X LineEnd → LineStep → Script → List ℕ → List ℕ → Type 0
 GivesLine (Ok x) step new before after = GoesTo step new before after
 GivesLine (Err (ending.Refused column)) step new before after = (step ≡ Stops column) × (after ≡ before)
 GivesLine (Err ending.OutOfMemory) step new before after = after ≡ before
@@ -69,32 +93,39 @@ abbrev pub AreAllOf : Option (List ℕ) → List ℕ → Type 0
 AreAllOf None bytes = Unit {0}
 AreAllOf (Some left) bytes = bytes ≡ left
 
--- a replay that ran the lines has read the source to its end, where the source tells that
-abbrev pub IsAtEnd : Option (List ℕ) → Option (List ℕ) → Status → Type 0
-IsAtEnd None rest ended = Unit {0}
-IsAtEnd (Some left) rest status.Done = rest ≡ Some []
-IsAtEnd (Some left) rest status.Refused = rest ≡ Some []
-IsAtEnd (Some left) rest status.Limit = Unit {0}
-IsAtEnd (Some left) rest status.SourceFault = Unit {0}
-IsAtEnd (Some left) rest status.SinkFault = Unit {0}
-IsAtEnd (Some left) rest status.OutOfMemory = Unit {0}
-IsAtEnd (Some left) rest status.Usage = Unit {0}
+-- One byte more than the limit is read at most: what is left of the source, where it tells that. After want of memory
+-- less may have been read, and after a fault nothing is said.
+abbrev pub most_read : ℕ
+most_read = 67108865
 
--- A replay: there are bytes, all that the source has, whose replay is what was written. Its turns never mix, and the
--- printed lines tell them.
+abbrev pub IsReadSoFar : Option (List ℕ) → Option (List ℕ) → Status → Type 0
+IsReadSoFar None rest ended = Unit {0}
+IsReadSoFar (Some left) rest status.Done = rest ≡ Some (drop most_read left)
+IsReadSoFar (Some left) rest status.Refused = rest ≡ Some (drop most_read left)
+IsReadSoFar (Some left) rest status.Limit = rest ≡ Some (drop most_read left)
+IsReadSoFar (Some left) rest status.SinkFault = rest ≡ Some (drop most_read left)
+IsReadSoFar (Some left) rest status.OutOfMemory = (n : ℕ) × (n ≤ most_read) × (rest ≡ Some (drop n left))
+IsReadSoFar (Some left) rest status.SourceFault = Unit {0}
+IsReadSoFar (Some left) rest status.Usage = Unit {0}
+
+-- A replay: there are bytes, all that the source has, whose replay is what was written; no more than the limit and one
+-- byte were read of it. What was printed is the outcomes of the events that the script's lines name, and the headline
+-- holds of them.
 pub record Replays (left rest : Option (List ℕ)) (ended : Status) (before after : Option (List ℕ)) : Type 0 where
   pub bytes : List ℕ
   pub all : AreAllOf left bytes
-  pub at_end : IsAtEnd left rest ended
+  pub read : IsReadSoFar left rest ended
   pub ends : EndsAs (replay_of bytes) ended before after
-  pub never_mix : TurnsNeverMix (replay_of bytes)
-  pub tells : TellsTurns (replay_log bytes) (replay_of bytes)
+  pub tells : TellsRun (lines_of bytes) (replay_of bytes)
+  pub headline : HeadlineHolds (replay_of bytes).log
 
--- A front of the source was read: all of it, or one byte more than the limit; with an error nothing is said.
-abbrev pub ReadsAll : {X E : Type 0} → Option (List ℕ) → Option (List ℕ) → List ℕ → Result X E → Type 0
+-- A front of the source was read: all of it, or one byte more than the limit. Without memory it was no more; after a
+-- fault nothing is said.
+abbrev pub ReadsAll : {X : Type 0} → Option (List ℕ) → Option (List ℕ) → List ℕ → Result X PortError → Type 0
 ReadsAll None rest bytes result = Unit {0}
-ReadsAll (Some left) rest bytes (Ok x) = (behind : List ℕ) × (left ≡ bytes ++ behind) × (rest ≡ Some behind) × (length bytes ≤ most_bytes → behind ≡ [])
-ReadsAll (Some left) rest bytes (Err e) = Unit {0}
+ReadsAll (Some left) rest bytes (Ok x) = (behind : List ℕ) × (left ≡ bytes ++ behind) × (rest ≡ Some behind) × (length bytes ≤ most_bytes → behind ≡ []) × (length bytes ≤ most_read)
+ReadsAll (Some left) rest bytes (Err port.OutOfMemory) = (n : ℕ) × (n ≤ most_read) × (rest ≡ Some (drop n left))
+ReadsAll (Some left) rest bytes (Err port.Failed) = Unit {0}
 
 -- the line of a refused line was added, or there was no memory and nothing was
 abbrev pub RefusesLine : ℕ → ℕ → List ℕ → List ℕ → Status → Type 0

@@ -1,46 +1,42 @@
--- What the program's own values tell: the words that are left of a line, an event, and what a line says.
-use Rattle.std.specs.Prelude.{◌≡◌, ℕ, List, [], ◌∷◌, None, Some, option_map, Result, Ok, Err}
-use Rattle.actors_top.specs.Lines.{Word, words_from}
-use Rattle.actors_top.specs.Reading.{ScriptLine, Blank, Reentrant, Idle, Drain, Does}
-use Rattle.actors_top.specs.World.{SoloEvent, Call, End, Poll, Hold, Release}
-use Rattle.actors_top.specs.declared.words.Token.{Token}
-use Rattle.actors_top.specs.declared.words.Words.{Words}
-use Rattle.actors_top.specs.declared.event.Event.{Event}
-use Rattle.actors_top.specs.declared.event.Event.TheVariants as event
-use Rattle.actors_top.specs.declared.reading.ScriptLine.{ScriptLine as LineRead}
-use Rattle.actors_top.specs.declared.reading.ScriptLine.TheVariants as line
+-- What a replay prints, as the outcomes of the events that the script's lines name. Own: docs/scripts.md.
+use Rattle.std.specs.Prelude.{◌≡◌, ◌⊎◌, ◌≤◌, ◌+◌, ℕ, List, [], ◌∷◌, ◌++◌, length, take, codes, Result, Ok, Err}
+use Rattle.part_core.specs.Part.{ring_owner}
+use Rattle.world_events.specs.declared.outcome.Outcome.{Outcome}
+use Rattle.world_events.specs.declared.error.WorldError.{WorldError}
+use Rattle.solo_run.specs.Runs.{Said, solo_log}
+use Rattle.cluster_model.specs.World.{opening_cluster, key_part, outcomes}
+use Rattle.script_text.specs.Lines.{lines_of}
+use Rattle.script_text.specs.Outcomes.{turn_text, outcome_text, bad_line_text}
+use Rattle.actors_top.specs.Scripts.{ScriptLog, Unread, SoloLog, ClusterLog, settings_of, named_by}
+use Rattle.actors_top.specs.Replay.{ReplayRun}
 
-abbrev pub words_left : Words → List Word
-words_left w = elim w.rest [ None ↦ [] | Some rest ↦ words_from w.column rest.now ]
+abbrev pub said_text : List Said → List ℕ
+said_text [] = []
+said_text (s ∷ log) = turn_text s.outcome ++ said_text log
 
-abbrev pub word_told : Token → Word
-word_told t = record { column = t.column; text = t.text.now }
+-- a refused event prints nothing of its own
+abbrev pub result_text : Result Outcome WorldError → List ℕ
+result_text (Ok outcome) = outcome_text outcome
+result_text (Err error) = []
 
-abbrev pub event_told : Event → SoloEvent
-event_told (event.Call number key chain) = Call number key.now (option_map (λ c. c.now) chain)
-event_told (event.End call) = End call
-event_told (event.Poll call) = Poll call
-event_told (event.Hold key) = Hold key.now
-event_told (event.Release key) = Release key.now
+abbrev pub results_text : List (Result Outcome WorldError) → List ℕ
+results_text [] = []
+results_text (r ∷ rs) = result_text r ++ results_text rs
 
-abbrev pub line_told : LineRead → ScriptLine
-line_told line.Blank = Blank
-line_told (line.Reentrant kind depth) = Reentrant kind.now depth.value
-line_told (line.Idle ms) = Idle ms
-line_told (line.Drain ms) = Drain ms
-line_told (line.Does event) = Does (event_told event)
+-- the outcomes of the events of a script, line by line
+abbrev pub log_text : ScriptLog → List ℕ
+log_text Unread = []
+log_text (SoloLog depths events) = said_text (solo_log depths events)
+log_text (ClusterLog s events) = results_text (outcomes ring_owner key_part (opening_cluster (settings_of s)) events)
 
--- a value and the words behind it are what the reading gives, or its column is where it is refused
-abbrev pub Gives : {X Y : Type 0} → (X → Y) → Result (X × Words) ℕ → Result (Y × List Word) ℕ → Type 0
-Gives view (Ok x) reading = reading ≡ Ok (view x.0, words_left x.1)
-Gives view (Err column) reading = reading ≡ Err column
-
--- the same of a reading that ends the line
-abbrev pub GivesValue : {X Y : Type 0} → (X → Y) → Result X ℕ → Result Y ℕ → Type 0
-GivesValue view (Ok x) reading = reading ≡ Ok (view x)
-GivesValue view (Err column) reading = reading ≡ Err column
-
--- a line ends here, or it is refused at its next word
-abbrev pub Ends : {X : Type 0} → Result X ℕ → List Word → Type 0
-Ends (Ok x) words = words ≡ []
-Ends (Err column) words = (word : Word) × (rest : List Word) × (words ≡ word ∷ rest) × (word.column ≡ column)
+-- So many lines ran. What was printed is the outcomes of the events that they name, and nothing more where all lines
+-- ran; else the line of the refusal of the next line, or of the limit that the script is above.
+pub record TellsRun (lines : List (List ℕ)) (run : ReplayRun) : Type 0 where
+  pub count : ℕ
+  pub within : count ≤ length lines
+  pub named : run.log ≡ named_by (take count lines)
+  pub last : List ℕ
+  pub text : run.text ≡ log_text run.log ++ last
+  pub done : run.status ≡ 0 → (last ≡ []) × (count ≡ length lines)
+  pub refused : run.status ≡ 3 → (column : ℕ) × (last ≡ bad_line_text (count + 1) column)
+  pub limit : run.status ≡ 10 → (last ≡ codes "limit bytes\n") ⊎ (last ≡ codes "limit lines\n")

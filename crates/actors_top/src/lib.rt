@@ -2,33 +2,29 @@
 //
 // Promise: `run` does what its words read as; it writes what the script's replay (`specs/Replay`) or the schedule
 // (`specs/Schedule`) is defined to write, ends with its status, and answers a fault or a limit only by its cause;
-// over every script the turns of one actor never mix.
-// Stands on command_words, schedule_text, actor_names, actor_ports and turn_core.
+// over every script the headline holds (`specs/Headline`): no actor is active on two members, and the turns of one
+// actor never mix. Stands on command_words, script_text, solo_run, world_run, schedule_text and actor_ports.
 #![tactic(auto)]
 
-mod calling;
-mod depth;
-mod event;
-mod lines;
-mod numbers;
-mod outcome_line;
-mod outcomes;
-mod reading;
+mod cluster_script;
+#[cfg(test)]
+mod cluster_tests;
+mod drill;
+#[cfg(test)]
+mod drill_tests;
+mod line_end;
 mod replay;
-mod roster;
 mod schedule;
 #[cfg(test)]
 mod schedule_tests;
 mod script;
+mod setup;
+mod solo_script;
 mod status;
 #[cfg(test)]
 mod tests;
+mod text;
 mod top;
-mod transcript;
-mod turns;
-mod types;
-mod words;
-mod world;
 
 pub use status::Status;
 pub use top::{Outside, run};

@@ -1,15 +1,16 @@
 // The replay of a script: its bytes are read whole, its lines run in order, and what they print is written in pieces.
 ghost use Rattle.std.specs.Prelude.{◌≡◌, ◌≢◌, ◌<◌, ◌≤◌, []};
 ghost use Rattle.actor_ports.specs.Port.{HasCause};
-ghost use Rattle.actors_top.specs.Lines.{lines_of};
-ghost use Rattle.actors_top.specs.Replay.{new_script, run_lines, replay_of};
-ghost use Rattle.actors_top.specs.ReplayTold.{ReadsAll, RefusesLine, EndsLines, WritesAs, PieceEnds, RunEnds, Replays};
+ghost use Rattle.script_text.specs.Lines.{lines_of};
+ghost use Rattle.actors_top.specs.Scripts.{Unread};
+ghost use Rattle.actors_top.specs.Replay.{run_lines, replay_of};
+ghost use Rattle.actors_top.specs.ReplayTold.{IsOf, ReadsAll, RefusesLine, EndsLines, WritesAs, PieceEnds, RunEnds, Replays};
 
-use crate::lines::{count_lines, next_line};
-use crate::script::{LineEnd, Script};
+use crate::line_end::LineEnd;
+use crate::script::Script;
 use crate::status::Status;
-use crate::transcript::Transcript;
 use actor_ports::{PortError, Sink, Source};
+use script_text::{Transcript, count_lines, next_line};
 use std::alloc::Global;
 
 /// The greatest length of a script, in bytes.
@@ -96,9 +97,9 @@ fn run_script<W: Sink>(
     transcript: &mut Transcript,
     output: &mut W,
 ) -> Status
-    requires opening { state.old ≡ new_script }
+    requires opening { IsOf Unread state.old }
     requires empty { transcript.old ≡ [] }
-    ensures ends { RunEnds (run_lines 1 new_script (lines_of script.now)) result (W.contents output.old) (W.contents output.new) }
+    ensures ends { RunEnds (run_lines 1 Unread (lines_of script.now)) result (W.contents output.old) (W.contents output.new) }
     ensures cause { result ≡ Status.SinkFault → W.write_faults output.old < W.write_faults output.new }
 {
     let mut rest = script;
@@ -141,7 +142,7 @@ fn replay_bytes<W: Sink>(alloc: Global, script: &[u8], output: &mut W) -> Status
     if count_lines(script) > MOST_LINES {
         return write_limit(b"limit lines\n", output);
     }
-    let mut state = Script::new(alloc);
+    let mut state = Script::Unread;
     let mut transcript = Transcript::new(alloc);
     run_script(alloc, script, &mut state, &mut transcript, output)
 }

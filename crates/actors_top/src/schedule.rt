@@ -1,34 +1,18 @@
 // The command that prints the moments of a schedule.
-ghost use Rattle.std.specs.Prelude.{◌≡◌, ◌≢◌, ◌<◌, ◌∷◌, ◌++◌, [], ℕ, suc, codes, decimal, string_bytes, OnOk, IfErr};
+ghost use Rattle.std.specs.Prelude.{◌≡◌, ◌≢◌, ◌<◌, ◌∷◌, ◌++◌, [], ℕ, suc, OnOk, IfErr};
 ghost use Rattle.schedule_text.specs.declared.error.ScheduleError.TheVariants as fault;
 ghost use Rattle.schedule_text.specs.Firing.{firings_from, firings_by, firing_list};
 ghost use Rattle.command_words.specs.Told.{told_schedule};
 ghost use Rattle.actors_top.specs.Schedule.{fault_text, refused_line, moment_line, moment_lines, read_asking, schedule_of, Makes, ScheduleEnds};
 
 use crate::status::Status;
+use crate::text::{push_number, push_text};
 use actor_ports::{PortError, Sink};
 use command_words::ScheduleWords;
-use itoa::Buffer;
 use schedule_text::{
     Moment, Next, Schedule, ScheduleError, print_moment, read_moment, read_schedule,
 };
 use std::alloc::{AllocError, Global};
-
-/// Appends a text.
-fn push_text(text: &mut Vec<u8>, word: &str) -> Result<(), AllocError>
-    ensures { OnOk result (text.new.items ≡ text.old.items ++ word.now) }
-{
-    text.extend_from_slice(word.as_bytes())
-}
-
-/// Appends a word and a number behind it.
-fn push_number(text: &mut Vec<u8>, word: &str, number: u64) -> Result<(), AllocError>
-    ensures { OnOk result (text.new.items ≡ text.old.items ++ word.now ++ decimal number) }
-{
-    let mut buffer = Buffer::new();
-    push_text(text, word)?;
-    text.extend_from_slice(buffer.format(number).as_bytes())
-}
 
 /// Appends what a fault is called.
 fn push_fault(text: &mut Vec<u8>, fault: ScheduleError) -> Result<(), AllocError>

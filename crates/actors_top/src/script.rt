@@ -1,59 +1,33 @@
 // A script between two lines, and what a line of it does.
-ghost use Rattle.std.specs.Prelude.{◌≡◌, List, ℕ};
-ghost use Rattle.actors_top.specs.Replay.{new_script, line_step, event_step, depth_step};
-ghost use Rattle.actors_top.specs.World.{refusal_of};
-ghost use Rattle.actors_top.specs.Told.{event_told};
-ghost use Rattle.actors_top.specs.ReplayTold.{GivesLine};
+ghost use Rattle.std.specs.Prelude.{[], false};
+ghost use Rattle.script_text.specs.ClusterLines.{cluster_line};
+ghost use Rattle.actors_top.specs.Scripts.{ScriptLog, Unread};
+ghost use Rattle.actors_top.specs.Replay.{line_step, cluster_does};
+ghost use Rattle.actors_top.specs.ReplayTold.{IsOf, GivesLine, opened_script};
+ghost use Rattle.actors_top.specs.declared.script.Script.TheVariants.{Cluster};
 
-use crate::depth::Depth;
-use crate::event::{Event, WorldError};
-use crate::reading::{ScriptLine, read_line};
-use crate::transcript::Transcript;
-use crate::world::World;
+use crate::cluster_script::happen;
+use crate::line_end::LineEnd;
+use crate::setup::Setup;
+use crate::solo_script::SoloScript;
+use script_text::{ClusterLine, LineError, Transcript, read_cluster_line, read_cluster_setting};
 use std::alloc::Global;
-use std::marker::Model;
+use world_run::World;
 
-/// The column of a call's number, behind `call `.
-const NUMBER_COLUMN: u64 = 6;
-
-/// The column of a setting's type, behind `reentrant `.
-const KIND_COLUMN: u64 = 11;
-
-/// Why a line ends the replay.
-#[derive(Clone, Copy)]
-pub(crate) enum LineEnd {
-    /// The line is refused at this column.
-    Refused { column: u64 },
-    /// There was no memory for it.
-    OutOfMemory,
-}
-
-/// The world of a script, and whether an event line has come.
+/// A script, whose first line tells its kind.
 #[derive(Drop)]
-pub(crate) struct Script {
-    started: bool,
-    world: World,
-}
-
-impl Model for Script {
-    ghost use Rattle.actors_top.specs.Replay.{ScriptState};
-
-    ghost Value = { ScriptState };
-
-    ghost view = { λ a. record { started = a.started; world = a.world } };
+pub(crate) enum Script {
+    /// No line has come.
+    Unread,
+    /// A script of cells alone.
+    Solo(SoloScript),
+    /// A cluster script of which no event has come.
+    Opening(Setup),
+    /// A cluster script of which an event has come.
+    Cluster(World),
 }
 
 impl Script {
-    /// A script of which no line has come.
-    pub(crate) fn new(alloc: Global) -> Script
-        ensures { result ≡ new_script }
-    {
-        Script {
-            started: false,
-            world: World::new(alloc),
-        }
-    }
-
     /// Does what a line says, and adds what it prints.
     pub(crate) fn line(
         &mut self,
@@ -61,53 +35,84 @@ impl Script {
         line: &[u8],
         transcript: &mut Transcript,
     ) -> Result<(), LineEnd>
-        ensures { GivesLine result (line_step self.old line.now) self.new transcript.old transcript.new }
+        ensures { (log : ScriptLog) → IsOf log self.old → GivesLine result (line_step log line.now) self.new transcript.old transcript.new }
     {
-        match read_line(line, self.started) {
-            Err(column) => Err(LineEnd::Refused { column }),
-            Ok(ScriptLine::Blank) => Ok(()),
-            Ok(ScriptLine::Idle { .. }) => Ok(()),
-            Ok(ScriptLine::Drain { .. }) => Ok(()),
-            Ok(ScriptLine::Reentrant { kind, depth }) => self.set_depth(alloc, kind, depth),
-            Ok(ScriptLine::Does { event }) => self.event(alloc, event, transcript),
+        match self {
+            Script::Unread => self.first_line(alloc, line, transcript),
+            Script::Solo(script) => script.line(alloc, line, transcript),
+            Script::Opening(setup) => {
+                let (done, world) = opening_line(alloc, setup, line, transcript);
+                if let Some(world) = world {
+                    *self = Script::Cluster(world);
+                }
+                done
+            }
+            Script::Cluster(world) => running_line(alloc, world, line, transcript),
         }
     }
 
-    /// Turns reentrancy on for a type, once.
-    fn set_depth(&mut self, alloc: Global, kind: &[u8], depth: Depth) -> Result<(), LineEnd>
-        ensures { (text : List ℕ) → GivesLine result (depth_step self.old kind.now depth.value) self.new text text }
-    {
-        if self.world.has_depth(kind) {
-            return Err(LineEnd::Refused {
-                column: KIND_COLUMN,
-            });
-        }
-        match self.world.set_depth(alloc, kind, depth.value) {
-            Ok(()) => Ok(()),
-            Err(_) => Err(LineEnd::OutOfMemory),
-        }
-    }
-
-    /// Lets an event happen.
-    fn event(
+    /// Does what the first line says, which tells the kind of the script.
+    fn first_line(
         &mut self,
         alloc: Global,
-        event: Event<'_>,
+        line: &[u8],
         transcript: &mut Transcript,
     ) -> Result<(), LineEnd>
-        ensures { GivesLine result (event_step self.old.world (event_told event.entry) (refusal_of self.old.world (event_told event.entry))) self.new transcript.old transcript.new }
+        ensures { IsOf Unread self.old → GivesLine result (line_step Unread line.now) self.new transcript.old transcript.new }
     {
-        self.started = true;
-        match self.world.step(alloc, event) {
-            Ok(outcome) => match transcript.add_outcome(&outcome) {
-                Ok(()) => Ok(()),
-                Err(_) => Err(LineEnd::OutOfMemory),
-            },
-            Err(WorldError::WrongNumber { .. }) => Err(LineEnd::Refused {
-                column: NUMBER_COLUMN,
-            }),
-            Err(WorldError::Spent { .. }) => Err(LineEnd::Refused { column: 1 }),
-            Err(WorldError::OutOfMemory) => Err(LineEnd::OutOfMemory),
+        match read_cluster_setting(line) {
+            Err(column) => Err(LineEnd::Refused { column }),
+            Ok(Some(parts)) => {
+                *self = Script::Opening(Setup::new(alloc, parts));
+                Ok(())
+            }
+            Ok(None) => {
+                let mut script = SoloScript::new(alloc);
+                let done = script.line(alloc, line, transcript);
+                *self = Script::Solo(script);
+                done
+            }
         }
+    }
+}
+
+/// Does what a line of a cluster script says of which no event has come. The first event opens the world, which is
+/// given back.
+fn opening_line(
+    alloc: Global,
+    setup: &mut Setup,
+    line: &[u8],
+    transcript: &mut Transcript,
+) -> (Result<(), LineEnd>, Option<World>)
+    ensures { GivesLine result.0 (cluster_does setup.old [] (cluster_line false line.now)) (opened_script setup.new result.1) transcript.old transcript.new }
+{
+    match read_cluster_line(alloc, line, false) {
+        Err(LineError::BadColumn { column }) => (Err(LineEnd::Refused { column }), None),
+        Err(LineError::OutOfMemory) => (Err(LineEnd::OutOfMemory), None),
+        Ok(ClusterLine::Blank) => (Ok(()), None),
+        Ok(ClusterLine::Sets { setting }) => (setup.set(alloc, setting), None),
+        Ok(ClusterLine::Does { column, event }) => {
+            let mut world = setup.open(alloc);
+            let done = happen(alloc, &mut world, column, event, transcript);
+            (done, Some(world))
+        }
+    }
+}
+
+/// Does what a line of a cluster script says of which an event has come, so that no setting can stand in it.
+fn running_line(
+    alloc: Global,
+    world: &mut World,
+    line: &[u8],
+    transcript: &mut Transcript,
+) -> Result<(), LineEnd>
+    ensures { (log : ScriptLog) → IsOf log (Cluster world.old) → GivesLine result (line_step log line.now) (Cluster world.new) transcript.old transcript.new }
+{
+    match read_cluster_line(alloc, line, true) {
+        Err(LineError::BadColumn { column }) => Err(LineEnd::Refused { column }),
+        Err(LineError::OutOfMemory) => Err(LineEnd::OutOfMemory),
+        Ok(ClusterLine::Blank) => Ok(()),
+        Ok(ClusterLine::Sets { .. }) => unreachable!(),
+        Ok(ClusterLine::Does { column, event }) => happen(alloc, world, column, event, transcript),
     }
 }

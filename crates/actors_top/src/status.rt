@@ -14,7 +14,7 @@ pub enum Status {
     SourceFault = 4,
     /// The sink failed; a front of the output was written.
     SinkFault = 5,
-    /// Want of memory; a front of the output was written, of a schedule nothing.
+    /// Want of memory; a front of the output was written, of a schedule or a drill nothing.
     OutOfMemory = 8,
     /// The script is above its limit of bytes or lines, which was printed.
     Limit = 10,

@@ -2,6 +2,7 @@
 use crate::{Outside, run};
 use actor_ports::{MemSink, MemSource};
 use std::alloc::Global;
+use std::process::Abort;
 use std::test::Fail;
 
 /// The status of a run with the one word `replay`, and what it wrote; the reads and writes whose numbers are
@@ -22,100 +23,92 @@ fn replay(
     Ok((status, out.output))
 }
 
-#[test]
-fn empty_script_prints_nothing(rt: HostRuntime) -> Result<(), Fail> {
-    let (status, output) = replay(rt.alloc(), b"", &[], &[])?;
-    assert_eq!(rt; status, 0);
-    assert_eq!(rt; output.bytes(), b"".as_slice());
+/// The replay of the script ends with this status, and prints this.
+pub(crate) fn prints(
+    rt: &impl Abort,
+    alloc: Global,
+    script: &str,
+    status: u8,
+    output: &str,
+) -> Result<(), Fail> {
+    let (ended, printed) = replay(alloc, script.as_bytes(), &[], &[])?;
+    assert!(rt; ended == status, "{script}");
+    assert!(rt; printed.bytes() == output.as_bytes(), "{script}");
     Ok(())
 }
 
 #[test]
+fn empty_script_prints_nothing(rt: HostRuntime) -> Result<(), Fail> {
+    prints(&rt, rt.alloc(), "", 0, "")
+}
+
+#[test]
 fn second_call_waits_for_first(rt: HostRuntime) -> Result<(), Fail> {
-    let script = b"call 1 counter/7\ncall 2 counter/7\nend 1\n";
-    let (status, output) = replay(rt.alloc(), script, &[], &[])?;
-    assert_eq!(rt; status, 0);
-    assert_eq!(rt;
-        output.bytes(),
-        b"begin 1\nwait 2 1\nend 1 begin 2\n".as_slice()
-    );
-    Ok(())
+    let script = "call 1 counter/7\ncall 2 counter/7\nend 1\n";
+    prints(&rt, rt.alloc(), script, 0, "begin 1\nwait 2 1\nend 1 begin 2\n")
 }
 
 #[test]
 fn depth_limits_calls_of_one_chain(rt: HostRuntime) -> Result<(), Fail> {
     let script =
-        b"reentrant counter 2\ncall 1 counter/7 chain x\ncall 2 counter/7 chain x\ncall 3 counter/7 chain x\ncall 4 counter/8 chain x\n";
-    let (status, output) = replay(rt.alloc(), script, &[], &[])?;
-    assert_eq!(rt; status, 0);
-    assert_eq!(rt;
-        output.bytes(),
-        b"begin 1\nbegin 2\ndepth 3 2\nbegin 4\n".as_slice()
-    );
-    Ok(())
+        "reentrant counter 2\ncall 1 counter/7 chain x\ncall 2 counter/7 chain x\ncall 3 counter/7 chain x\ncall 4 counter/8 chain x\n";
+    prints(&rt, rt.alloc(), script, 0, "begin 1\nbegin 2\ndepth 3 2\nbegin 4\n")
 }
 
 #[test]
 fn other_chain_waits_until_chain_ends(rt: HostRuntime) -> Result<(), Fail> {
     let script =
-        b"reentrant counter 2\ncall 1 counter/7 chain x\ncall 2 counter/7 chain x\ncall 3 counter/7 chain y\nend 1\nend 2\nend 2\nend 4\n";
-    let (status, output) = replay(rt.alloc(), script, &[], &[])?;
-    assert_eq!(rt; status, 0);
-    assert_eq!(rt;
-        output.bytes(),
-        b"begin 1\nbegin 2\nwait 3 1\nend 1\nend 2 begin 3\nalready-ended 2\nnone\n".as_slice()
-    );
-    Ok(())
+        "reentrant counter 2\ncall 1 counter/7 chain x\ncall 2 counter/7 chain x\ncall 3 counter/7 chain y\nend 1\nend 2\nend 2\nend 4\n";
+    let output = "begin 1\nbegin 2\nwait 3 1\nend 1\nend 2 begin 3\nalready-ended 2\nnone\n";
+    prints(&rt, rt.alloc(), script, 0, output)
 }
 
 #[test]
 fn refused_word_is_named_by_column(rt: HostRuntime) -> Result<(), Fail> {
-    let table: [(&[u8], &[u8]); 40] = [
-        (b"call 2 counter/7", b"bad line 1 column 6\n"),
-        (b"call 1 counter", b"bad line 1 column 8\n"),
-        (b"call", b"bad line 1 column 5\n"),
-        (b"call ", b"bad line 1 column 6\n"),
-        (b"call 1", b"bad line 1 column 7\n"),
-        (b"call  1 counter/7", b"bad line 1 column 6\n"),
-        (b"call 01 counter/7", b"bad line 1 column 6\n"),
-        (b"call 1000000000000 counter/7", b"bad line 1 column 6\n"),
-        (b"call 1 counter/", b"bad line 1 column 8\n"),
-        (b"call 1 counter/7/8", b"bad line 1 column 8\n"),
-        (b"call 1 counter/7 ", b"bad line 1 column 18\n"),
-        (b"call 1 counter/7 x", b"bad line 1 column 18\n"),
-        (b"call 1 counter/7 chain", b"bad line 1 column 23\n"),
-        (b"call 1 counter/7 chain ", b"bad line 1 column 24\n"),
-        (b"call 1 counter/7 chain x y", b"bad line 1 column 26\n"),
-        (b"call 2 counter", b"bad line 1 column 8\n"),
-        (b"end", b"bad line 1 column 4\n"),
-        (b"end x", b"bad line 1 column 5\n"),
-        (b"end 1 2", b"bad line 1 column 7\n"),
-        (b"end 1\r", b"bad line 1 column 5\n"),
-        (b"poll", b"bad line 1 column 5\n"),
-        (b"poll 1 1", b"bad line 1 column 8\n"),
-        (b"hold counter", b"bad line 1 column 6\n"),
-        (b"hold counter/7 8", b"bad line 1 column 16\n"),
-        (b"release", b"bad line 1 column 8\n"),
-        (b"release counter/7 ", b"bad line 1 column 19\n"),
-        (b"reentrant", b"bad line 1 column 10\n"),
-        (b"reentrant counter", b"bad line 1 column 18\n"),
-        (b"reentrant counter 0", b"bad line 1 column 19\n"),
-        (b"reentrant counter 1025", b"bad line 1 column 19\n"),
-        (b"reentrant counter 2 3", b"bad line 1 column 21\n"),
-        (b"reentrant coun/ter 2", b"bad line 1 column 11\n"),
-        (b"reentrant a 2\nreentrant a 3", b"bad line 2 column 11\n"),
-        (b"idle", b"bad line 1 column 5\n"),
-        (b"drain 1 2", b"bad line 1 column 9\n"),
-        (b"end 1\nidle 1", b"none\nbad line 2 column 1\n"),
-        (b"cluster 2", b"bad line 1 column 1\n"),
-        (b"ends 1", b"bad line 1 column 1\n"),
-        (b" ", b"bad line 1 column 1\n"),
-        (b"# text\n\n\tend 1", b"bad line 3 column 1\n"),
+    let table: [(&str, &str); 40] = [
+        ("call 2 counter/7", "bad line 1 column 6\n"),
+        ("call 1 counter", "bad line 1 column 8\n"),
+        ("call", "bad line 1 column 5\n"),
+        ("call ", "bad line 1 column 6\n"),
+        ("call 1", "bad line 1 column 7\n"),
+        ("call  1 counter/7", "bad line 1 column 6\n"),
+        ("call 01 counter/7", "bad line 1 column 6\n"),
+        ("call 1000000000000 counter/7", "bad line 1 column 6\n"),
+        ("call 1 counter/", "bad line 1 column 8\n"),
+        ("call 1 counter/7/8", "bad line 1 column 8\n"),
+        ("call 1 counter/7 ", "bad line 1 column 18\n"),
+        ("call 1 counter/7 x", "bad line 1 column 18\n"),
+        ("call 1 counter/7 chain", "bad line 1 column 23\n"),
+        ("call 1 counter/7 chain ", "bad line 1 column 24\n"),
+        ("call 1 counter/7 chain x y", "bad line 1 column 26\n"),
+        ("call 2 counter", "bad line 1 column 8\n"),
+        ("end", "bad line 1 column 4\n"),
+        ("end x", "bad line 1 column 5\n"),
+        ("end 1 2", "bad line 1 column 7\n"),
+        ("end 1\r", "bad line 1 column 5\n"),
+        ("poll", "bad line 1 column 5\n"),
+        ("poll 1 1", "bad line 1 column 8\n"),
+        ("hold counter", "bad line 1 column 6\n"),
+        ("hold counter/7 8", "bad line 1 column 16\n"),
+        ("release", "bad line 1 column 8\n"),
+        ("release counter/7 ", "bad line 1 column 19\n"),
+        ("reentrant", "bad line 1 column 10\n"),
+        ("reentrant counter", "bad line 1 column 18\n"),
+        ("reentrant counter 0", "bad line 1 column 19\n"),
+        ("reentrant counter 1025", "bad line 1 column 19\n"),
+        ("reentrant counter 2 3", "bad line 1 column 21\n"),
+        ("reentrant coun/ter 2", "bad line 1 column 11\n"),
+        ("reentrant a 2\nreentrant a 3", "bad line 2 column 11\n"),
+        ("idle", "bad line 1 column 5\n"),
+        ("drain 1 2", "bad line 1 column 9\n"),
+        ("end 1\nidle 1", "none\nbad line 2 column 1\n"),
+        ("end 1\ncluster 2", "none\nbad line 2 column 1\n"),
+        ("ends 1", "bad line 1 column 1\n"),
+        (" ", "bad line 1 column 1\n"),
+        ("# text\n\n\tend 1", "bad line 3 column 1\n"),
     ];
-    for (script, written) in table {
-        let (status, output) = replay(rt.alloc(), script, &[], &[])?;
-        assert_eq!(rt; status, 3, "{script:?}");
-        assert_eq!(rt; output.bytes(), written, "{script:?}");
+    for (script, output) in table {
+        prints(&rt, rt.alloc(), script, 3, output)?;
     }
     Ok(())
 }

@@ -16,7 +16,7 @@ use Rattle.world_events.specs.declared.settings.WorldSettings.{WorldSettings}
 use Rattle.cluster_model.specs.Messages.{LockAt, table_of}
 use Rattle.cluster_model.specs.World as world
 use Rattle.cluster_model.specs.World.{ClusterState}
-use Rattle.cluster_model.specs.Invariant.{IsRoundSound, RoundFacts}
+use Rattle.cluster_model.specs.Invariant.{WasTold, IsRoundSound, RoundFacts}
 use Rattle.cluster_model.specs.Cluster.{last_of, VersionsBelowNext, OneTablePerVersion, MembersOrStopped, InformedAreTargets, AcksAreReached, ActiveMeansOwned, NobodyBehindUnlock, TurnsUnderOneChain, ClusterInvariant}
 use Rattle.cluster_model.proofs.Joins.{entry_of, one_entry}
 use Rattle.cluster_model.proofs.PartKeeps.{told_update}
@@ -59,6 +59,12 @@ module _ (owner : PlacementTable → ActorKey → Option HostInfo) (part_of : Ac
         round = λ stage e. (round_at stage e).used;
         left = λ stage j e i l. (round_at stage e).left_target j i l;
         told = λ stage j e i k. (round_at stage e).told_target j (last_of w) i k;
+        sent = λ stage m e k. elim (t.safe.safe.members.told m (last_of w) k) [
+          | inl i ↦ (
+              let a = entry_of w.placement.members m i in
+              inl (a.0, a.1, a.2, (round_at stage e).told_target a.0 (last_of w) a.1 (subst (λ (z : Member). WasTold w.messages z (last_of w)) a.2 k)))
+          | inr stopped ↦ inr stopped
+        ];
         lock_came = λ p i. (t.safe.safe.parts p i).lock_came;
         update_came = λ p i. (t.safe.safe.parts p i).update_came;
         unlock_came = λ p i. (t.safe.safe.parts p i).unlock_came;

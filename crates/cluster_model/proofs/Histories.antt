@@ -30,7 +30,7 @@ use Rattle.cluster_model.proofs.Basics.{same_member-true, same_member-self, In-s
 
 -- ---- lists by place
 
-some_same : {A : Type 0} (a b : A) → Some a ≡ Some b → a ≡ b
+pub some_same : {A : Type 0} (a b : A) → Some a ≡ Some b → a ≡ b
 some_same {A = A} a b e = ap (λ (o : Option A). elim o [ None ↦ a | Some x ↦ x ]) e
 
 pub get-set : {A : Type 0} (xs : List A) (n i : ℕ) (x y z : A) → slice_get xs n ≡ Some z → slice_get (set xs n x) i ≡ Some y → ((i ≡ n) × (y ≡ x)) ⊎ ((i ≡ n → ⊥) × (slice_get xs i ≡ Some y))

@@ -17,3 +17,10 @@ pub mod Clusters
 pub mod Memories
 pub mod Bootings
 pub mod Growths
+pub mod Counts
+pub mod PartCalls
+pub mod AskedLines
+pub mod Askings
+pub mod AskedRuns
+pub mod Endings
+pub mod Balances

@@ -1,12 +1,15 @@
 -- The worked scripts, as tests of the definitions: each closes by computing. Here the last host of a table has every
 -- actor, and a member has one part.
-use Rattle.std.specs.Prelude.{◌≡◌, ℕ, true, false, List, [], ◌∷◌, ◌++◌, Option, None, Some, Result, Ok, Err}
+use Rattle.std.specs.Prelude.{◌≡◌, ℕ, true, false, List, [], ◌∷◌, ◌++◌, Option, None, Some, Result, Ok, Err, codes}
+use Rattle.std.specs.Fmt.{digits}
 use Rattle.std.proofs.Common.{refl}
 use Rattle.actor_names.specs.declared.member.Member.{Member}
 use Rattle.actor_names.specs.declared.actor_key.ActorKey.{ActorKey}
 use Rattle.place_table.specs.declared.host.HostInfo.{HostInfo}
 use Rattle.place_table.specs.declared.ack_stage.AckStage.TheVariants as stages
 use Rattle.place_table.specs.Hosts.{PlacementTable}
+use Rattle.part_core.specs.Marks.{TurnBegan, TurnEnded, BecameActive, PartOpened}
+use Rattle.part_core.specs.Part.{new_part, made_chain}
 use Rattle.round_core.specs.declared.event.PlaceReply.TheVariants as place
 use Rattle.world_events.specs.declared.settings.WorldSettings.{WorldSettings}
 use Rattle.world_events.specs.declared.event.WorldEvent.{WorldEvent}
@@ -17,6 +20,8 @@ use Rattle.world_events.specs.declared.outcome.Outcome.TheVariants as out
 use Rattle.world_events.specs.declared.outcome.TurnOutcome.TheVariants as turn
 use Rattle.world_events.specs.declared.error.WorldError.{WorldError}
 use Rattle.world_events.specs.declared.error.WorldError.TheVariants as refused
+use Rattle.cluster_model.specs.Asked.{asked_calls, chain_under}
+use Rattle.cluster_model.specs.Counts.{begun_turns, open_turns}
 use Rattle.cluster_model.specs.World.{ClusterState, opening_cluster, cluster_run, outcomes}
 
 abbrev a : List ℕ
@@ -27,6 +32,12 @@ b = 98 ∷ []
 
 abbrev counter : List ℕ
 counter = 99 ∷ []
+
+abbrev c : List ℕ
+c = 99 ∷ []
+
+abbrev d : List ℕ
+d = 100 ∷ []
 
 abbrev member_of : List ℕ → ℕ → Member
 member_of n i = record { node = n; boot = i }
@@ -125,3 +136,59 @@ wrong_number_is_refused = refl
 stopped_part_is_stopped : outcomes owner part_of opened (Stop a/1 0 ∷ Part 2 0 ∷ Stop a/1 0 ∷ Hold a/1 key ∷ Call 1 a/1 key 0 None ∷ Closing a/1 0 ∷ Tick a/1 ∷ Collect a/1 ∷ [])
     ≡ done (Stopped ∷ Ignored ∷ Stopped ∷ Stopped ∷ Stopped ∷ Stopped ∷ TickEnded 0 ∷ out.NoAck ∷ [])
 stopped_part_is_stopped = refl
+
+-- ---- which lines asked the calls
+
+-- A call of a member that was never booted prints `none`, and its number is free for the next line; a refused call keeps
+-- its number, and no turn comes of it.
+calls_are_those_of_their_lines : asked_calls (Call 1 b/2 key 0 None ∷ Call 1 a/1 key 0 (Some c) ∷ Call 2 a/1 key 9 None ∷ Call 3 a/1 key 0 (Some d) ∷ [])
+    (outcomes owner part_of opened (Call 1 b/2 key 0 None ∷ Call 1 a/1 key 0 (Some c) ∷ Call 2 a/1 key 9 None ∷ Call 3 a/1 key 0 (Some d) ∷ []))
+    ≡ record { number = 1; member = a/1; key = key; chain = Some c } ∷ record { number = 3; member = a/1; key = key; chain = Some d } ∷ []
+calls_are_those_of_their_lines = refl
+
+-- with reentrancy off a call has no chain, also where its line names one
+chain_is_ignored_without_reentrancy : (cluster_run owner part_of opened (Call 1 a/1 key 0 (Some c) ∷ [])).marks
+    ≡ record { member = a/1; what = PartOpened 0 1 } ∷ record { member = a/1; what = BecameActive key 1 } ∷ record { member = a/1; what = TurnBegan key 1 None } ∷ []
+chain_is_ignored_without_reentrancy = refl
+
+-- with reentrancy on, the chain of a turn is the one that its line names, else `<node>.<boot>.<part>.<number>`
+abbrev reentrant : WorldSettings
+reentrant = record { parts = 1; kinds = record { kind = counter; idle_ms = 3600000; drain_ms = 60000; depth = 2 } ∷ []; idle_ms = 3600000; drain_ms = 60000 }
+
+abbrev reentrant_opened : ClusterState
+reentrant_opened = cluster_run owner part_of (opening_cluster reentrant) (Boot a (counter ∷ []) ∷ opening)
+
+chain_is_that_of_its_line : (cluster_run owner part_of reentrant_opened (Call 1 a/1 key 0 (Some c) ∷ Call 2 a/1 key 0 None ∷ End 1 ∷ [])).marks
+    ≡ record { member = a/1; what = PartOpened 0 1 } ∷ record { member = a/1; what = BecameActive key 1 } ∷ record { member = a/1; what = TurnBegan key 1 (Some c) }
+    ∷ record { member = a/1; what = TurnEnded key 1 } ∷ record { member = a/1; what = TurnBegan key 2 (Some (made_chain a/1 0 2)) } ∷ []
+chain_is_that_of_its_line = refl
+
+made_chain_is_text : made_chain a/1 0 2 ≡ codes "a.1.0.2"
+unfolding digits
+made_chain_is_text = refl
+
+-- the mark names the part's number of the call; the script's number leads to it, and so to the line
+call_stands_where_it_was_asked : (cluster_run owner part_of reentrant_opened (Call 1 a/1 key 9 None ∷ Call 2 a/1 key 0 (Some c) ∷ [])).calls ≡ None ∷ Some (record { place = 0; call = 1 }) ∷ []
+call_stands_where_it_was_asked = refl
+
+line_is_that_of_its_number : asked_calls (Call 1 a/1 key 9 None ∷ Call 2 a/1 key 0 (Some c) ∷ []) (outcomes owner part_of reentrant_opened (Call 1 a/1 key 9 None ∷ Call 2 a/1 key 0 (Some c) ∷ []))
+    ≡ record { number = 2; member = a/1; key = key; chain = Some c } ∷ []
+line_is_that_of_its_number = refl
+
+-- the chain under which a line asks: none with reentrancy off, the one named, else the part's own
+chain_is_none_without_reentrancy : chain_under (new_part a/1 0 []) key 2 (Some c) ≡ None
+chain_is_none_without_reentrancy = refl
+
+chain_is_the_named_one : chain_under (new_part a/1 0 (record { kind = counter; idle_ms = 0; drain_ms = 0; depth = 2 } ∷ [])) key 2 (Some c) ≡ Some c
+chain_is_the_named_one = refl
+
+chain_is_the_parts_own : chain_under (new_part a/1 0 (record { kind = counter; idle_ms = 0; drain_ms = 0; depth = 2 } ∷ [])) key 2 None ≡ Some (made_chain a/1 0 2)
+chain_is_the_parts_own = refl
+
+-- ---- counts
+
+turns_are_counted : begun_turns (cluster_run owner part_of reentrant_opened (Call 1 a/1 key 0 (Some c) ∷ Call 2 a/1 key 0 (Some c) ∷ End 1 ∷ [])).marks ≡ 2
+turns_are_counted = refl
+
+open_turns_are_counted : open_turns (cluster_run owner part_of reentrant_opened (Call 1 a/1 key 0 (Some c) ∷ Call 2 a/1 key 0 (Some c) ∷ End 1 ∷ [])).marks ≡ 1
+open_turns_are_counted = refl

@@ -37,12 +37,12 @@ use Rattle.cluster_model.proofs.Lines.{IsSafeWorld, AreKept, run_kept}
 use Rattle.cluster_model.proofs.Worlds.{step_safe, safe_kept, new_world_safe}
 
 -- a place in two lists joined
-get-append : {A : Type 0} (xs ys : List A) (i : ℕ) (x : A) → slice_get (xs ++ ys) i ≡ Some x → (slice_get xs i ≡ Some x) ⊎ ((j : ℕ) × (i ≡ length xs + j) × (slice_get ys j ≡ Some x))
+pub get-append : {A : Type 0} (xs ys : List A) (i : ℕ) (x : A) → slice_get (xs ++ ys) i ≡ Some x → (slice_get xs i ≡ Some x) ⊎ ((j : ℕ) × (i ≡ length xs + j) × (slice_get ys j ≡ Some x))
 get-append [] ys i x e = inr (i, omega arith, e)
 get-append (z ∷ xs) ys zero x e = inl e
 get-append (z ∷ xs) ys (suc i) x e = elim (get-append xs ys i x e) [ inl h ↦ inl h | inr h ↦ inr (h.0, (let a = h.1 in omega arith), h.2) ]
 
-get-left : {A : Type 0} (xs ys : List A) (i : ℕ) (x : A) → slice_get xs i ≡ Some x → slice_get (xs ++ ys) i ≡ Some x
+pub get-left : {A : Type 0} (xs ys : List A) (i : ℕ) (x : A) → slice_get xs i ≡ Some x → slice_get (xs ++ ys) i ≡ Some x
 get-left [] ys i x e = absurd (cc)
 get-left (z ∷ xs) ys zero x e = e
 get-left (z ∷ xs) ys (suc i) x e = get-left xs ys i x e
@@ -191,7 +191,7 @@ module _ (owner : PlacementTable → ActorKey → Option HostInfo) (part_of : Ac
     pub safe : IsSafeWorld owner part_of w
     pub told : IsTold w
 
-  told_kept : AreKept owner part_of IsToldWorld
+  pub told_kept : AreKept owner part_of IsToldWorld
   told_kept =
       record {
         safe = λ w t. t.safe;
@@ -216,7 +216,7 @@ module _ (owner : PlacementTable → ActorKey → Option HostInfo) (part_of : Ac
   no_split [] after x e = cc
   no_split (y ∷ before) after x e = cc
 
-  new_world_told : (settings : WorldSettings) → IsTold (world.opening_cluster settings)
+  pub new_world_told : (settings : WorldSettings) → IsTold (world.opening_cluster settings)
   new_world_told settings =
       record {
         fits = record {

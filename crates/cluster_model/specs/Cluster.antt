@@ -33,7 +33,8 @@ abbrev pub last_of : ClusterState → ℕ
 last_of w = last_version w.placement
 
 -- Every version is below the next one, and each version that a part has now came by a message. A round's version is
--- the next one less one; those left are targets, and who was told its version and is a member is one.
+-- the next one less one; those left are targets, and who was told its version and is a member is one. So each message of
+-- its version went to one of its targets, but for members that have gone since, whose parts have all stopped.
 pub record VersionsBelowNext (w : ClusterState) : Type 0 where
   pub messages : (m : Member) (v : ℕ) → WasTold w.messages m v → v < w.placement.next_version
   pub seen : (p : PartState) → In p w.parts → p.seen < w.placement.next_version
@@ -42,6 +43,8 @@ pub record VersionsBelowNext (w : ClusterState) : Type 0 where
   pub round : (stage : AckStage) → w.placement.phase ≡ Running stage → 0 < last_of w
   pub left : (stage : AckStage) (j : Joined) → w.placement.phase ≡ Running stage → In j w.placement.members → j.left ≡ true → j.target ≡ true
   pub told : (stage : AckStage) (j : Joined) → w.placement.phase ≡ Running stage → In j w.placement.members → WasTold w.messages j.host.member (last_of w) → j.target ≡ true
+  pub sent : (stage : AckStage) (m : Member) → w.placement.phase ≡ Running stage → WasTold w.messages m (last_of w) →
+      ((j : Joined) × In j w.placement.members × (m ≡ j.host.member) × (j.target ≡ true)) ⊎ AllStopped w.parts m
   pub lock_came : (p : PartState) → In p w.parts → 0 < p.seen → In (Tells p.member (LockAt p.seen)) w.messages
   pub update_came : (p : PartState) → In p w.parts → 0 < p.table.version → In (Tells p.member (UpdateTo p.table)) w.messages
   pub unlock_came : (p : PartState) → In p w.parts → 0 < p.opened → In (Tells p.member (UnlockAt p.opened)) w.messages

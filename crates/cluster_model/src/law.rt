@@ -8,20 +8,41 @@ ghost use Rattle.part_core.specs.Part.{PartState};
 ghost use Rattle.round_core.specs.Runs.{ForgetsNothing};
 ghost use Rattle.world_events.specs.declared.event.WorldEvent.{WorldEvent};
 ghost use Rattle.world_events.specs.declared.settings.WorldSettings.{WorldSettings};
-ghost use Rattle.cluster_model.specs.World.{opening_cluster, cluster_run, cluster_step};
+ghost use Rattle.cluster_model.specs.World.{opening_cluster, cluster_run, cluster_step, outcomes};
+ghost use Rattle.cluster_model.specs.Counts.{TurnsAreCounted};
+ghost use Rattle.cluster_model.specs.Asked.{asked_calls, TurnsAreAsked, OverlapsAreNamedAlike, EndedHadBegun, PartsHaveSettings};
 ghost use Rattle.cluster_model.specs.Invariant.{IsActiveOnce};
 ghost use Rattle.cluster_model.specs.Cluster.{ClusterInvariant, HasCome, NamedWereBooted};
 
-/// Whatever the owners of actors and their parts are: after every list of events, with any deliveries, losses,
-/// repeats, joins, leaves and restarts, the cluster invariant holds, and no actor is active on two members. What a part has seen,
-/// installed and opened at any moment came by messages that are among those of every later moment. Where members
-/// have a part at all, each one that a message or the placement names was booted. No event lowers a greatest boot,
-/// and who is a member after it and wasn't before has a boot above the greatest one of its node. An event that breaks the fail-stop premise is refused and changes nothing.
+/// Whatever the owners of actors and their parts are, this holds after every list of events, with any deliveries, losses,
+/// repeats, joins, leaves and restarts. Every prefix of a list is a list, so it holds at each moment on the way. An event
+/// that breaks the fail-stop premise is refused and changes nothing.
+///
+/// `invariant`: the cluster invariant, single activation and isolated turns among it; no open part leaves a call waiting
+/// that could run. `once`: no actor is active on two members. `asked`: each turn that began, each that is open and each
+/// call that waits is of a `call` line of the script that begins or waits, and has the actor, the member and the chain of
+/// that line. `named`: so two turns of one actor that overlap are of lines that name one chain, where both name one.
+/// `ended`: each turn that ended had begun. `counted`: as many turns are open in the parts as began and haven't ended.
+/// `settings`: each part has the settings of its member's boot line.
+/// `came`: what a part has seen, installed and opened at any moment came by messages that are among those of every later
+/// moment. `booted`: where members have a part at all, each one that a message or the placement names was booted.
+/// `memory`: no event lowers a greatest boot, and who is a member after it and wasn't before has a boot above the greatest
+/// one of its node.
 pub fn cluster_law()
     ensures invariant { (owner : PlacementTable → ActorKey → Option HostInfo) (part_of : ActorKey → ℕ → ℕ) (settings : WorldSettings) (events : List WorldEvent) →
         ClusterInvariant owner part_of (cluster_run owner part_of (opening_cluster settings) events) }
     ensures once { (owner : PlacementTable → ActorKey → Option HostInfo) (part_of : ActorKey → ℕ → ℕ) (settings : WorldSettings) (events : List WorldEvent) →
         IsActiveOnce (cluster_run owner part_of (opening_cluster settings) events).parts }
+    ensures asked { (owner : PlacementTable → ActorKey → Option HostInfo) (part_of : ActorKey → ℕ → ℕ) (settings : WorldSettings) (events : List WorldEvent) →
+        TurnsAreAsked part_of (cluster_run owner part_of (opening_cluster settings) events) (asked_calls events (outcomes owner part_of (opening_cluster settings) events)) }
+    ensures named { (owner : PlacementTable → ActorKey → Option HostInfo) (part_of : ActorKey → ℕ → ℕ) (settings : WorldSettings) (events : List WorldEvent) →
+        OverlapsAreNamedAlike part_of (cluster_run owner part_of (opening_cluster settings) events) (asked_calls events (outcomes owner part_of (opening_cluster settings) events)) }
+    ensures ended { (owner : PlacementTable → ActorKey → Option HostInfo) (part_of : ActorKey → ℕ → ℕ) (settings : WorldSettings) (events : List WorldEvent) →
+        EndedHadBegun (cluster_run owner part_of (opening_cluster settings) events).marks }
+    ensures counted { (owner : PlacementTable → ActorKey → Option HostInfo) (part_of : ActorKey → ℕ → ℕ) (settings : WorldSettings) (events : List WorldEvent) →
+        TurnsAreCounted (cluster_run owner part_of (opening_cluster settings) events) }
+    ensures settings { (owner : PlacementTable → ActorKey → Option HostInfo) (part_of : ActorKey → ℕ → ℕ) (settings : WorldSettings) (events : List WorldEvent) →
+        PartsHaveSettings (cluster_run owner part_of (opening_cluster settings) events) }
     ensures came { (owner : PlacementTable → ActorKey → Option HostInfo) (part_of : ActorKey → ℕ → ℕ) (settings : WorldSettings) (earlier later : List WorldEvent) (p : PartState) →
         In p (cluster_run owner part_of (opening_cluster settings) earlier).parts → HasCome (cluster_run owner part_of (cluster_run owner part_of (opening_cluster settings) earlier) later).messages p }
     ensures booted { (owner : PlacementTable → ActorKey → Option HostInfo) (part_of : ActorKey → ℕ → ℕ) (settings : WorldSettings) (events : List WorldEvent) → 0 < settings.parts →

@@ -1,5 +1,5 @@
 // A seat more, and a seat less. Neither waits for anybody.
-ghost use Rattle.std.specs.Prelude.{◌≡◌, ◌≢◌, [], IfOk};
+ghost use Rattle.std.specs.Prelude.{◌≡◌, ◌≢◌, [], IfOk, IsOk};
 ghost use mathlib.Core.List.{IsPrefix};
 ghost use Rattle.step_gate.specs.History.{longer};
 ghost use Rattle.step_gate.specs.Gates.{seen_of, mine_of, number_of, IsSeatOf, KeepsMine};
@@ -21,10 +21,11 @@ impl<M: Machine> Gate<M> {
         other
     }
 
-    /// A second seat, which has seen as much and has made no entry. It takes no memory.
+    /// A second seat, which has seen as much and has made no entry. It takes no memory, so it is never refused.
     pub fn split(&self, mut seat: Seat<M>) -> (Seat<M>, Result<Seat<M>, OutOfMemory>)
         requires { IsSeatOf M.moves self.now seat }
         ensures kept { IsSeatOf M.moves self.now result.0 × KeepsMine seat result.0 × (seen_of result.0 ≡ seen_of seat) }
+        ensures never_refused { IsOk result.1 }
         ensures given { IfOk result.1 (λ s. IsSeatOf M.moves self.now s × (seen_of s ≡ seen_of seat) × (mine_of s ≡ []) × (number_of s ≢ number_of seat)) }
     {
         let other = self.split_in(&mut seat);

@@ -1,5 +1,5 @@
 // The calls of the script, in the order in which they were asked.
-ghost use Rattle.std.specs.Prelude.{◌≡◌, ◌<◌, ◌^◌, ◌++◌, ◌∷◌, [], ℕ, Some, length, OnOk, option_map};
+ghost use Rattle.std.specs.Prelude.{◌≡◌, ◌<◌, ◌^◌, ◌++◌, ◌∷◌, [], ℕ, suc, Some, length, OnOk, option_map};
 ghost use Rattle.cluster_model.specs.World.{CallPlace, call_at, script_number, place_of_call};
 ghost use Rattle.world_run.specs.CallIndex.{HasRoom, call_place};
 
@@ -63,6 +63,13 @@ impl Calls {
         ensures fits { result < 2 ^ 63 }
     {
         self.items.len()
+    }
+
+    /// The number of the next call.
+    pub(crate) fn next_call(&self) -> u64
+        ensures { result ≡ suc (length self.now.calls) }
+    {
+        self.items.len() as u64 + 1
     }
 
     /// Where a call was asked, if it wasn't refused.

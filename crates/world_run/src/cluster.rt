@@ -1,13 +1,15 @@
 // The cluster of a world: the placement and the messages, the parts of all members, and the calls of the script.
-ghost use Rattle.std.specs.Prelude.{◌≡◌, ◌<◌, ◌≤◌, suc, length};
+ghost use Rattle.std.specs.Prelude.{◌≡◌, ◌<◌, ◌≤◌, ◌*◌, suc, length, slice_get};
 ghost use Rattle.part_core.specs.Settings.{AreShallow};
 ghost use Rattle.round_core.specs.Placement.{last_version};
 ghost use Rattle.cluster_model.specs.World.{opening_cluster};
+ghost use Rattle.world_run.specs.Looks.{member_in};
 ghost use Rattle.world_run.specs.Worlds.{Happens, IsFit, view_of};
 
 use crate::calls::Calls;
 use crate::parts::Parts;
 use crate::post::Post;
+use actor_names::Member;
 use std::alloc::Global;
 use std::marker::Model;
 use world_events::{Outcome, WorldError, WorldEvent, WorldSettings};
@@ -80,6 +82,13 @@ impl Cluster {
         ensures { result ≡ self.now.boots }
     {
         self.parts.boots()
+    }
+
+    /// The member of this number, counted from 0 in order of boot.
+    pub(crate) fn member(&self, n: u64) -> Option<Member>
+        ensures { result ≡ member_in (slice_get self.now.parts (n * self.now.settings.parts)) }
+    {
+        self.parts.member(n)
     }
 
     /// How many messages were added.

@@ -1,7 +1,7 @@
 // Messages as they are kept.
 ghost use Rattle.std.specs.Prelude.{◌≡◌, ℕ, List, IfOk};
 ghost use Rattle.place_table.specs.Hosts.{PlacementTable};
-ghost use Rattle.world_run.specs.Post.{messages_in, numbered, asked_of, kept_answer, updated_version, spot_for, is_register, place_wants};
+ghost use Rattle.world_run.specs.Post.{messages_in, numbered, asked_of, kept_answer, updated_version, spot_for, is_request, is_register, place_wants};
 
 use actor_names::{Member, OutOfMemory};
 use part_core::PartEvent;
@@ -151,6 +151,16 @@ pub(crate) fn spot_for(tables: &[Table], version: Option<u64>) -> Spot
     Spot {
         table: count,
         pending: Some(version),
+    }
+}
+
+/// Whether the message is a request.
+pub(crate) fn is_request(message: &Kept) -> bool
+    ensures { result ≡ is_request message.now }
+{
+    match message {
+        Kept::Register { .. } | Kept::Beat { .. } | Kept::Ack { .. } | Kept::Leave { .. } => true,
+        _ => false,
     }
 }
 

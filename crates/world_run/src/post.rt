@@ -6,10 +6,12 @@ ghost use Rattle.round_core.specs.Placement.{new_placement, last_version, placem
 ghost use Rattle.cluster_model.specs.Messages.{Message};
 ghost use Rattle.round_core.specs.Records.{record_of};
 ghost use Rattle.cluster_model.specs.World.{restarted_version};
+ghost use Rattle.world_run.specs.Looks.{asks_at};
 ghost use Rattle.world_run.specs.Post.{message_in, told_tables, table_or, late_member, numbered, told_of, is_request, is_register, GivesReply, started_version, last_for, LastAsks, Delivers, Agrees};
 
 use crate::kept::{
-    Kept, Told, asked_at, is_register, kept_answer, place_wants, spot_for, updated_version,
+    Kept, Told, asked_at, is_register, is_request, kept_answer, place_wants, spot_for,
+    updated_version,
 };
 use actor_names::{Member, OutOfMemory};
 use part_core::PartEvent;
@@ -132,6 +134,16 @@ impl Post {
         ensures fits { result < 2 ^ 63 }
     {
         self.messages.len()
+    }
+
+    /// Whether the message of this number is a request, if there is one.
+    pub(crate) fn asks(&self, number: u64) -> Option<bool>
+        ensures { result ≡ asks_at self.now.messages number }
+    {
+        if number == 0 || number > self.messages.len() as u64 {
+            return None;
+        }
+        Some(is_request(&self.messages[number as usize - 1]))
     }
 
     /// The last version used, 0 before the first round.

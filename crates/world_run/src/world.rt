@@ -6,6 +6,8 @@ ghost use Rattle.round_core.specs.Placement.{last_version};
 ghost use Rattle.cluster_model.specs.World.{ClusterState, key_part, cluster_step, opening_cluster};
 ghost use Rattle.world_run.specs.Worlds.{GivesStep, Runs, view_of, open_turns};
 
+mod looks;
+
 use crate::cluster::Cluster;
 use std::alloc::Global;
 use std::marker::Model;

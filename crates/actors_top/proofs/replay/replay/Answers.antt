@@ -1,3 +1,6 @@
+use Rattle.std.proofs.Common.{Err, subst}
+use Rattle.actor_ports.specs.declared.port.PortError.{PortError}
+use Rattle.actors_top.specs.ReplayTold.{ReadsAll}
 use Rattle.actors_top.specs.Replay.{replay_of}
 use Rattle.actors_top.proofs.EndLemmas.{replays_run, replays_fault, replays_no_memory, run_no_source}
 use Rattle.actors_top.proofs.replay.replay.Goals as goal
@@ -18,4 +21,5 @@ returns-in-Err-Failed-clause-replays g c =
 
 pub returns-clause-replays : goal.returns-clause-replays
 returns-clause-replays g c =
-    replays_no_memory (g.I.Source.remaining c.args.input.now) (g.I.Source.remaining c.read_all.new.input) (g.W.Sink.contents c.args.output.now)
+    replays_no_memory (g.I.Source.remaining c.args.input.now) (g.I.Source.remaining c.read_all.new.input) (g.W.Sink.contents c.args.output.now) c.read_all.new.bytes.items
+    (subst (λ (e : PortError). ReadsAll {X = Unit {0}} (g.I.Source.remaining c.args.input.now) (g.I.Source.remaining c.read_all.new.input) c.read_all.new.bytes.items (Err e)) c.in-Err-OutOfMemory.field-0-is c.in-Err-OutOfMemory.ensures.read)

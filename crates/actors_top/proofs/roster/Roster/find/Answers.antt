@@ -1,7 +1,0 @@
-use Rattle.std.proofs.Common.{sym, ◌∙◌}
-use Rattle.actors_top.proofs.RosterLemmas.{place_in-position}
-use Rattle.actors_top.proofs.roster.Roster.find.Goals as goal
-
-pub returns : goal.returns
-returns c =
-    rw (← c.self.view_is) (c.get_index_of.ensures.index ∙ sym (place_in-position (λ text. text.items) c.args.text.now c.self.inside.texts.keys))

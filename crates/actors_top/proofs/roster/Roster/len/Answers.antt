@@ -1,5 +1,0 @@
-use Rattle.actors_top.proofs.RosterLemmas.{distinct_from_unique}
-use Rattle.actors_top.proofs.roster.Roster.len.Goals as goal
-
-pub returns-clause-distinct : goal.returns-clause-distinct
-returns-clause-distinct c = rw (← c.self.view_is) (distinct_from_unique (λ text. text.items) c.self.inside.texts.keys c.len.ensures.unique)

@@ -1,8 +1,0 @@
-use Rattle.std.proofs.Common.{sym, ap, ◌∙◌, is_some}
-use Rattle.actors_top.proofs.TypeLemmas.{has_depth-place}
-use Rattle.actors_top.proofs.types.Types.has.Goals as goal
-
-pub returns : goal.returns
-returns c =
-    rw (← c.self.view_is)
-    (c.is_some.ensures ∙ ap is_some c.find.ensures ∙ sym (has_depth-place c.args.kind.now c.self.inside.kinds c.self.inside.depths.items c.self.invariant.each))

@@ -1,0 +1,6 @@
+use Rattle.part_core.specs.Machine.{PartAllows}
+use Rattle.step_gate.specs.Gates.{IsSeatOf}
+use Rattle.gate_trial.proofs.tests.draw_often.Given as goal
+
+abbrev pub invariant-loop : goal.invariant-loop
+invariant-loop g l = IsSeatOf PartAllows l.gate l.seat

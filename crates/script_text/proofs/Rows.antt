@@ -1,0 +1,125 @@
+-- Worked lines and outcomes, as tests of the definitions: each closes by computing.
+use Rattle.std.proofs.Common.{◌≡◌, [], ◌∷◌, None, Some, Ok, Err, true, false, refl}
+use Rattle.std.specs.Prelude.{codes}
+use Rattle.std.specs.Fmt.{digits}
+use Rattle.actor_names.specs.declared.actor_key.ActorKey.{ActorKey}
+use Rattle.actor_names.specs.declared.member.Member.{Member}
+use Rattle.place_table.specs.declared.ack_stage.AckStage.TheVariants as stage
+use Rattle.round_core.specs.declared.event.PlaceReply.TheVariants as reply
+use Rattle.world_events.specs.declared.event.WorldEvent.TheVariants as lines
+use Rattle.world_events.specs.declared.outcome.TurnOutcome.TheVariants as turn
+use Rattle.world_events.specs.declared.outcome.Outcome.TheVariants as out
+use Rattle.world_events.specs.Solo as solo
+use Rattle.script_text.specs.Reading as setting
+use Rattle.script_text.specs.SoloLines.{solo_line}
+use Rattle.script_text.specs.SoloLines as says
+use Rattle.script_text.specs.ClusterLines.{cluster_line, parts_line, Blank, Sets, Does}
+use Rattle.script_text.specs.Outcomes.{outcome_text}
+
+abbrev a/1 : Member
+a/1 = record { node = codes "a"; boot = 1 }
+
+abbrev key : ActorKey
+key = record { kind = codes "counter"; id = codes "k0" }
+
+-- lines of a solo script, with the column at which a wrong number or a second depth is refused
+solo_call : solo_line true (codes "call 2 counter/k0 chain x") ≡ Ok (says.Does 6 (solo.Call 2 (codes "counter/k0") (Some (codes "x"))))
+solo_call = refl
+
+solo_depth : solo_line false (codes "reentrant counter 2") ≡ Ok (says.Sets (setting.Reentrant 11 (codes "counter") 2))
+solo_depth = refl
+
+solo_late_depth : solo_line true (codes "reentrant counter 2") ≡ Err 1
+solo_late_depth = refl
+
+solo_end_of_two : solo_line true (codes "end 1 2") ≡ Err 7
+solo_end_of_two = refl
+
+-- lines of a cluster script
+boot_of_two : cluster_line true (codes "boot a counter,nested") ≡ Ok (Does 1 (lines.Boot (codes "a") (codes "counter" ∷ codes "nested" ∷ [])))
+boot_of_two = refl
+
+call_in_full : cluster_line true (codes "call 1 a/1 counter/k0 least 2 chain x") ≡ Ok (Does 6 (lines.Call 1 a/1 key 2 (Some (codes "x"))))
+call_in_full = refl
+
+call_without_least : cluster_line true (codes "call 1 a/1 counter/k0 chain x") ≡ Ok (Does 6 (lines.Call 1 a/1 key 0 (Some (codes "x"))))
+call_without_least = refl
+
+call_alone : cluster_line false (codes "call 1 a/1 counter/k0") ≡ Ok (Does 6 (lines.Call 1 a/1 key 0 None))
+call_alone = refl
+
+at_moment : cluster_line true (codes "at 999999999999") ≡ Ok (Does 4 (lines.At 999999999999))
+at_moment = refl
+
+part_of_message : cluster_line true (codes "part 2 0") ≡ Ok (Does 1 (lines.Part 2 0))
+part_of_message = refl
+
+restart : cluster_line true (codes "restart") ≡ Ok (Does 1 lines.Restart)
+restart = refl
+
+early_depth : cluster_line false (codes "reentrant counter 2") ≡ Ok (Sets (setting.Reentrant 11 (codes "counter") 2))
+early_depth = refl
+
+comment : cluster_line true (codes "# boot a") ≡ Ok Blank
+comment = refl
+
+-- refused lines, with the column
+least_behind_chain : cluster_line true (codes "call 1 a/1 counter/k0 chain x least 2") ≡ Err 31
+least_behind_chain = refl
+
+type_twice : cluster_line true (codes "boot a counter,counter") ≡ Err 8
+type_twice = refl
+
+missing_part : cluster_line true (codes "part 2") ≡ Err 7
+missing_part = refl
+
+two_spaces : cluster_line true (codes "poll  1") ≡ Err 6
+two_spaces = refl
+
+late_cluster : cluster_line false (codes "cluster 2") ≡ Err 1
+late_cluster = refl
+
+late_idle : cluster_line true (codes "idle 5") ≡ Err 1
+late_idle = refl
+
+-- first lines
+cluster_of_16 : parts_line (codes "cluster 16") ≡ Ok (Some 16)
+cluster_of_16 = refl
+
+cluster_of_17 : parts_line (codes "cluster 17") ≡ Err 9
+cluster_of_17 = refl
+
+cluster_of_none : parts_line (codes "cluster") ≡ Err 8
+cluster_of_none = refl
+
+solo_first : parts_line (codes "end 1") ≡ Ok None
+solo_first = refl
+
+-- lines of outcomes
+elsewhere_line : outcome_text (out.Elsewhere 7 3 a/1) ≡ codes "elsewhere 7 3 a/1\n"
+unfolding digits
+elsewhere_line = refl
+
+booted_line : outcome_text (out.Booted a/1 12) ≡ codes "boot a/1 msg 12\n"
+unfolding digits
+booted_line = refl
+
+ack_line : outcome_text (out.AckAdded 4 stage.Update 2) ≡ codes "msg 4 ack update 2\n"
+unfolding digits
+ack_line = refl
+
+stale_line : outcome_text (out.Answered 4 (reply.StaleBoot 2)) ≡ codes "msg 4 stale-boot 2\n"
+unfolding digits
+stale_line = refl
+
+opened_line : outcome_text (out.Opened 5 2 1) ≡ codes "open 5 begun 2 moved 1\n"
+unfolding digits
+opened_line = refl
+
+closed_line : outcome_text (out.Closed key (Some 3)) ≡ codes "closed counter/k0 begin 3\n"
+unfolding digits
+closed_line = refl
+
+ended_line : outcome_text (out.Turn (turn.Ended 1 (Some 2))) ≡ codes "end 1 begin 2\n"
+unfolding digits
+ended_line = refl

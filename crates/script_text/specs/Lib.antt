@@ -1,0 +1,8 @@
+pub mod Lines
+pub mod Reading
+pub mod SoloLines
+pub mod ClusterWords
+pub mod ClusterLines
+pub mod Outcomes
+pub mod Told
+pub mod LinesTold

@@ -1,0 +1,43 @@
+// Texts that have a name of two pieces, of a length that isn't known.
+ghost use Rattle.std.specs.Prelude.{◌≡◌, ◌++◌, length, take, codes, OnOk, OnErr};
+
+use std::alloc::AllocError;
+
+/// Appends the pieces one after another, as many as there is memory for, with a slash behind the second.
+fn append_pieces(
+    into: &mut Vec<u8>,
+    front: &[u8],
+    first: &[u8],
+    second: &[u8],
+    back: &[u8],
+) -> Result<(), AllocError>
+    ensures added { OnOk result (into.new.items ≡ into.old.items ++ (front.now ++ first.now ++ codes "/" ++ second.now ++ back.now)) }
+    ensures kept { take (length into.old.items) into.new.items ≡ into.old.items }
+{
+    into.extend_from_slice(front)?;
+    into.extend_from_slice(first)?;
+    into.extend_from_slice(b"/")?;
+    into.extend_from_slice(second)?;
+    into.extend_from_slice(back)
+}
+
+/// Appends the pieces, with a slash behind the second; where there is no memory for all of them, nothing.
+pub(crate) fn append_pair(
+    into: &mut Vec<u8>,
+    front: &[u8],
+    first: &[u8],
+    second: &[u8],
+    back: &[u8],
+) -> Result<(), AllocError>
+    ensures added { OnOk result (into.new.items ≡ into.old.items ++ (front.now ++ first.now ++ codes "/" ++ second.now ++ back.now)) }
+    ensures unchanged { OnErr result (into.new.items ≡ into.old.items) }
+{
+    let start = into.len();
+    match append_pieces(into, front, first, second, back) {
+        Ok(()) => Ok(()),
+        Err(e) => {
+            into.truncate(start);
+            Err(e)
+        }
+    }
+}

@@ -1,0 +1,17 @@
+pub mod InternerLemmas
+pub mod PlaceLemmas
+pub mod TypeLemmas
+pub mod ActorLemmas
+pub mod WorldLemmas
+pub mod CellWithin
+pub mod CallLemmas
+pub mod ActorMarks
+pub mod StepMarks
+pub mod StepTurns
+pub mod LogLemmas
+pub mod Actors
+pub mod CellFollows
+pub mod RunFollows
+pub mod RunTurns
+pub mod Laws
+pub mod Rows

@@ -1,0 +1,18 @@
+// The world of a solo script: the cells of its actors, without members, parts and tables.
+//
+// Promise: each step is that of the definition (`specs/World`), or is refused exactly by its cause; and over every list
+// of depths and events the turns of one actor never mix, as the log of the events with their outcomes tells them, and
+// no actor that has nothing open leaves a call waiting (`solo_law`). Stands on `world_events` and `turn_core`.
+#![tactic(auto)]
+
+mod calling;
+mod interner;
+mod law;
+#[cfg(test)]
+mod tests;
+mod turns;
+mod types;
+mod world;
+
+pub use law::solo_law;
+pub use world::SoloWorld;

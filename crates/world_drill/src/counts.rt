@@ -1,0 +1,18 @@
+// What a drill counts.
+
+/// What a drill counts.
+#[derive(Clone, Copy, Debug, PartialEq, Eq)]
+pub struct DrillCounts {
+    /// The steps.
+    pub steps: u64,
+    /// The boots that were drawn.
+    pub boots: u64,
+    /// The messages that were added.
+    pub messages: u64,
+    /// The turns that began.
+    pub begun: u64,
+    /// The turns that are open at the end.
+    pub open_turns: u64,
+    /// The last version that the placement used, 0 where it used none.
+    pub version: u64,
+}

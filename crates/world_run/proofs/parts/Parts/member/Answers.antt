@@ -1,0 +1,20 @@
+use Rattle.std.proofs.Common.{◌≡◌, ◌<◌, ℕ, ◌+◌, ◌*◌, List, length, Some, None, ap, sym, ◌∙◌, subst, arith}
+use Rattle.std.specs.Prelude.{slice_get}
+use Rattle.std.proofs.lemmas.Option.{slice_get-get_or}
+use Rattle.world_run.specs.Looks.{member_in}
+use Rattle.world_run.specs.Views.{PartsView, states_of}
+use Rattle.world_run.proofs.Members.{member_laid, none_laid}
+use Rattle.world_run.proofs.parts.Parts.member.Goals as goal
+
+pub returns-then-n-len : goal.returns-then-n-len
+returns-then-n-len c =
+    subst (λ (v : PartsView). None ≡ member_in (slice_get v.parts (c.args.n * v.per))) c.self.view_is
+    (none_laid c.self.inside.per c.args.n c.self.inside.nodes.items (states_of c.self.inside.items.items) c.self.invariant.laid (omega arith))
+
+pub returns : goal.returns
+returns c =
+    let nodes = c.self.inside.nodes.items in
+    let node : List ℕ = c.index.result.now in
+    let here = slice_get-get_or nodes c.args.n node (omega arith) ∙ ap (λ (u : List ℕ). Some u) (sym c.index.ensures) in
+    subst (λ (v : PartsView). Some (record { node = node; boot = c.args.n + 1 }) ≡ member_in (slice_get v.parts (c.args.n * v.per))) c.self.view_is
+    (member_laid c.self.inside.per c.args.n nodes (states_of c.self.inside.items.items) node c.self.invariant.many c.self.invariant.laid here)

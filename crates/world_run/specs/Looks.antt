@@ -1,0 +1,19 @@
+-- What a world shows of its members and messages. Own.
+use Rattle.std.specs.Prelude.{ℕ, zero, suc, Bool, true, false, List, Option, None, Some, slice_get, option_map}
+use Rattle.actor_names.specs.declared.member.Member.{Member}
+use Rattle.part_core.specs.Part.{PartState}
+use Rattle.cluster_model.specs.Messages.{Message, Asks, Tells}
+
+-- whose part it is, where there is one
+abbrev pub member_in : Option PartState → Option Member
+member_in None = None
+member_in (Some p) = Some p.member
+
+abbrev pub asks : Message → Bool
+asks (Asks request) = true
+asks (Tells member answer) = false
+
+-- whether the message of this number is a request, where there is one; messages are numbered from 1
+abbrev pub asks_at : List Message → ℕ → Option Bool
+asks_at ms zero = None
+asks_at ms (suc k) = option_map asks (slice_get ms k)
