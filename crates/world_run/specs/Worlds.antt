@@ -1,6 +1,6 @@
 -- What contracts see of the world of a cluster script: the cluster's state without its marks, and how many turns began
 -- and ended, which the marks tell. Own.
-use Rattle.std.specs.Prelude.{◌≡◌, ◌⊎◌, ℕ, zero, suc, ◌+◌, ◌-◌, ◌<◌, length, slice_get, List, [], ◌∷◌, ◌++◌, MatchResult, Option, None, Some, IfSome, Result, Ok, Err}
+use Rattle.std.specs.Prelude.{◌≡◌, ◌⊎◌, ℕ, ◌+◌, ◌-◌, ◌<◌, length, slice_get, List, [], ◌∷◌, ◌++◌, MatchResult, Option, None, Some, IfSome, Result, Ok, Err}
 use Rattle.part_core.specs.Marks.{PartMark, TurnBegan, TurnEnded, BecameActive, BecameInactive, PartOpened}
 use Rattle.part_core.specs.Part.{PartState, ring_owner}
 use Rattle.part_core.specs.Rooms.{IsInRange}
