@@ -272,7 +272,7 @@ hold_outcome replies.NotHeld = out.Turn turn.NotHeld
 hold_outcome replies.Stopped = out.Stopped
 hold_outcome reply = out.Turn turn.NotThere
 
--- of a message that is delivered: a part that has stopped, or isn't changed, ignores it
+-- of a message that is delivered: a part that isn't changed ignores it
 abbrev pub seen_outcome : ReceiptState → SeenStage → Outcome
 seen_outcome r seen.Locked = out.Locked r.version
 seen_outcome r seen.Draining = out.Updated r.version false
@@ -283,6 +283,7 @@ abbrev pub told_outcome : PartReply → Outcome
 told_outcome (replies.TableStep r true) = seen_outcome r r.stage
 told_outcome (replies.Opened r begun moved) = out.Opened r.version begun moved
 told_outcome (replies.NotDrained r) = out.NotDrained r.version
+told_outcome replies.Stopped = out.Stopped
 told_outcome reply = out.Ignored
 
 -- of a part's Tick: the turns that it ended

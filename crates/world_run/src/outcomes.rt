@@ -101,6 +101,7 @@ pub(crate) fn told_outcome(reply: PartReply) -> Outcome
         PartReply::NotDrained { receipt } => Outcome::NotDrained {
             version: receipt.version(),
         },
+        PartReply::Stopped => Outcome::Stopped,
         _ => Outcome::Ignored,
     }
 }
