@@ -1,12 +1,11 @@
 -- The parts of a member stand together.
 use Rattle.std.proofs.Common.{◌≡◌, ◌≢◌, ℕ, ◌+◌, ◌*◌, ◌<◌, ◌≤◌, Bool, true, false, List, [], ◌∷◌, ◌++◌, length, set, refl, sym, ap, ◌∙◌, subst, arith, append_assoc, append-nil, mul-le-mul_right}
-use Rattle.std.specs.Prelude.{zero, suc, map, ◌&&◌, ◌==◌, bytes_eq, slice_get, Option, None, Some}
-use Rattle.std.proofs.lemmas.Bool.{and_parts, eqb-true, ne_eqb}
+use Rattle.std.specs.Prelude.{zero, suc, slice_get, Some}
 use Rattle.std.proofs.lemmas.List.{length-append, length-map}
 use Rattle.actor_names.specs.declared.member.Member.{Member}
 use Rattle.part_core.specs.Keys.{same_member}
 use Rattle.part_core.specs.Part.{PartState}
-use Rattle.cluster_model.proofs.Basics.{same_member-true, same_member-self}
+use Rattle.cluster_model.proofs.Basics.{same_member-true}
 use Rattle.world_run.specs.Layout.{PartTag, tag_of, tags_of, member_tags, all_tags, HasNone, IsFirst}
 
 record Split (ps : List PartState) (xs ys : List PartTag) : Type 0 where

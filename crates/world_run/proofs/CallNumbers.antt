@@ -1,9 +1,9 @@
 -- Where a call that a part began stands among the calls of the script.
 use Rattle.std.proofs.Common.{◌≡◌, ◌≢◌, ℕ, ◌+◌, ◌-◌, ◌<◌, ◌≤◌, Bool, true, false, cond, List, [], ◌∷◌, ◌++◌, length, get_or, Option, None, Some, refl, sym, ap, ◌∙◌, subst, arith, Bor}
-use Rattle.std.specs.Prelude.{zero, suc, ◌&&◌, ◌==◌, map, slice_get, option_map, unwrap_or, is_some}
+use Rattle.std.specs.Prelude.{zero, suc, ◌&&◌, ◌==◌, slice_get, option_map, unwrap_or, is_some}
 use Rattle.std.specs.Option.{option_copied}
 use Rattle.std.specs.HashMap.{HashMap, get}
-use Rattle.std.proofs.lemmas.Bool.{and_parts, eqb-true, cond_both}
+use Rattle.std.proofs.lemmas.Bool.{and_parts, eqb-true}
 use Rattle.std.proofs.lemmas.Option.{slice_get-get_or}
 use Rattle.cluster_model.specs.World.{CallPlace, script_number, the_call, call_at}
 use Rattle.world_run.specs.declared.calls.CallAt.{CallAt}

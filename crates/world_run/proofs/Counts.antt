@@ -1,6 +1,6 @@
 -- How many turns a step of a part begins and ends, told by its reply and by the calls that it lends.
-use Rattle.std.proofs.Common.{◌≡◌, ℕ, Bool, true, false, cond, not, List, [], ◌∷◌, ◌++◌, length, refl, sym, ap, ◌∙◌}
-use Rattle.std.specs.Prelude.{Option, None, Some, Result, Ok, Err, ◌&&◌, ◌==◌, nat_lt, nat_le}
+use Rattle.std.proofs.Common.{◌≡◌, ℕ, Bool, true, false, cond, not, List, [], ◌∷◌, ◌++◌, length, refl, sym, ap}
+use Rattle.std.specs.Prelude.{Option, None, Some, Result, Ok, Err, ◌&&◌, ◌==◌, nat_lt}
 use Rattle.std.proofs.lemmas.Bool.{cond_both}
 use Rattle.actor_names.specs.declared.actor_key.ActorKey.{ActorKey}
 use Rattle.place_table.specs.declared.host.HostInfo.{HostInfo}
@@ -14,7 +14,7 @@ use Rattle.turn_core.specs.declared.answer.CellEnd.{CellEnd}
 use Rattle.turn_core.specs.declared.answer.CellEnd.TheVariants as ending
 use Rattle.turn_core.specs.declared.answer.CellPoll.{CellPoll}
 use Rattle.turn_core.specs.declared.answer.CellPoll.TheVariants as polling
-use Rattle.turn_core.specs.Cell.{CellState, is_free, is_open_chain, next_call, without_call, admit_call, cell_end, cell_poll}
+use Rattle.turn_core.specs.Cell.{CellState, is_free, is_open_chain}
 use Rattle.part_cells.specs.declared.actor_cell.ActorCell.{ActorCell}
 use Rattle.part_cells.specs.Cells.{cell_at, cell_of_call}
 use Rattle.part_core.specs.Keys.{same_member}

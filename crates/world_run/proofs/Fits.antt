@@ -1,20 +1,19 @@
 -- What the safety of a cluster gives of the next event, and of the world after it.
-use Rattle.std.proofs.Common.{◌≡◌, ℕ, ◌+◌, ◌<◌, ◌≤◌, ◌^◌, Bool, true, false, cond, List, [], ◌∷◌, ◌++◌, refl, sym, ap, ◌∙◌, subst, inl, inr, arith}
+use Rattle.std.proofs.Common.{◌≡◌, ℕ, ◌+◌, ◌<◌, ◌≤◌, ◌^◌, true, false, cond, List, [], ◌∷◌, ◌++◌, refl, sym, ap, ◌∙◌, subst, inl, inr, arith}
 use Rattle.std.specs.Prelude.{zero, suc, ◌==◌, nat_le, slice_get, length, Option, None, Some, Result, Ok, Err, is_ok}
 use Rattle.std.proofs.lemmas.Bool.{cond_both, cond-false, lt-leb}
 use Rattle.actor_names.specs.declared.member.Member.{Member}
-use Rattle.place_table.specs.Hosts.{PlacementTable}
 use Rattle.turn_core.specs.CellSound.{In}
 use Rattle.part_core.specs.declared.event.PartEvent.{PartEvent}
 use Rattle.part_core.specs.declared.event.PartEvent.TheVariants as events_of
 use Rattle.part_core.specs.declared.event.PartReply.{PartReply}
-use Rattle.part_core.specs.Part.{PartState, part_step, ring_owner}
+use Rattle.part_core.specs.Part.{PartState, ring_owner}
 use Rattle.member_roster.specs.Members.{late_of}
 use Rattle.member_core.specs.declared.ack.Ack as declared
 use Rattle.member_core.specs.Acks.{collected, are_stopped}
 use Rattle.round_core.specs.declared.event.PlaceReply.{PlaceReply}
 use Rattle.round_core.specs.declared.event.PlaceReply.TheVariants as replies
-use Rattle.round_core.specs.Placement.{PlacementState, PlacementStep, placement_step, last_version}
+use Rattle.round_core.specs.Placement.{PlacementStep, placement_step, last_version}
 use Rattle.world_events.specs.declared.event.WorldEvent.{WorldEvent}
 use Rattle.world_events.specs.declared.event.WorldEvent.TheVariants as lines
 use Rattle.world_events.specs.declared.outcome.Outcome.{Outcome}
@@ -29,8 +28,8 @@ use Rattle.cluster_model.proofs.Basics.{In-slice_get}
 use Rattle.cluster_model.proofs.Lines.{IsSafeWorld, line_kept}
 use Rattle.cluster_model.proofs.Worlds.{safe_kept}
 use Rattle.world_run.specs.Post.{numbered, told_of, AgreesOn, Agrees}
-use Rattle.world_run.specs.Views.{capped, more}
-use Rattle.world_run.specs.Worlds.{WorldView, view_of, cluster_of, after, Gives, GivesStep, Happens, IsToldInRange, IsFit, post_of, turns_begun, turns_ended}
+use Rattle.world_run.specs.Views.{capped}
+use Rattle.world_run.specs.Worlds.{WorldView, view_of, cluster_of, after, GivesStep, Happens, IsToldInRange, IsFit, post_of, turns_begun, turns_ended}
 use Rattle.world_run.proofs.Unmarked.{marked, adds, happens_marked, begun-append, ended-append, more-capped}
 
 -- ---- fits

@@ -1,7 +1,7 @@
 -- What the code of a world does is what happens in the model.
-use Rattle.std.proofs.Common.{◌≡◌, ◌≢◌, ◌⊎◌, ℕ, ◌<◌, ◌+◌, ◌-◌, Bool, true, false, cond, List, [], ◌∷◌, ◌++◌, length, set, refl, sym, ap, ◌∙◌, subst, inl, inr, arith}
+use Rattle.std.proofs.Common.{◌≡◌, ◌≢◌, ℕ, ◌<◌, ◌+◌, ◌-◌, Bool, true, false, cond, List, [], ◌∷◌, ◌++◌, length, set, refl, sym, ap, ◌∙◌, subst, inl, inr, arith}
 use Rattle.std.specs.Prelude.{zero, suc, ◌==◌, slice_get, Option, None, Some, Result, Ok, Err}
-use Rattle.std.proofs.lemmas.Bool.{cond_both, true≢false, eq-eqb}
+use Rattle.std.proofs.lemmas.Bool.{true≢false, eq-eqb}
 use Rattle.actor_names.specs.declared.member.Member.{Member}
 use Rattle.actor_names.specs.declared.actor_key.ActorKey.{ActorKey}
 use Rattle.part_core.specs.declared.event.PartEvent.{PartEvent}
@@ -21,7 +21,7 @@ use Rattle.cluster_model.specs.Messages.{Answer, LockAt, UpdateTo, UnlockAt, Say
 use Rattle.world_run.specs.declared.kept.Told.{Told}
 use Rattle.world_run.specs.Layout.{IsFirst, counted_from}
 use Rattle.world_run.specs.Post.{PostView, numbered, told_of}
-use Rattle.world_run.specs.Views.{PartsView, more, began_in, ended_in, stepped, MayWant, wants, StepsAt}
+use Rattle.world_run.specs.Views.{PartsView, more, stepped, MayWant, wants, StepsAt}
 use Rattle.world_run.specs.Worlds.{WorldView, turns_begun, turns_ended, cluster_of, after, Gives, Ticks, viewed}
 use Rattle.world_run.proofs.Steps.{part_at}
 use Rattle.world_run.proofs.Scans.{booted-first, places-first}

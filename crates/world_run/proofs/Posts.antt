@@ -1,6 +1,6 @@
 -- Messages as they are kept, and the tables that were told.
-use Rattle.std.proofs.Common.{◌≡◌, ◌≢◌, ◌⊎◌, inl, inr, ℕ, ◌+◌, ◌-◌, ◌<◌, ◌≤◌, Bool, true, false, cond, not, List, [], ◌∷◌, ◌++◌, length, get_or, refl, sym, ap, ◌∙◌, subst, arith, append-nil, append_assoc}
-use Rattle.std.specs.Prelude.{zero, suc, ◌&&◌, ◌==◌, map, slice_get, Option, None, Some, MatchOption}
+use Rattle.std.proofs.Common.{◌≡◌, ◌≢◌, ◌⊎◌, inl, inr, ℕ, ◌+◌, ◌-◌, ◌<◌, ◌≤◌, Bool, true, false, cond, not, List, [], ◌∷◌, ◌++◌, length, get_or, refl, sym, ap, ◌∙◌, subst, arith, append-nil}
+use Rattle.std.specs.Prelude.{zero, suc, ◌==◌, slice_get, Option, None, Some, MatchOption}
 use Rattle.std.specs.Option.{option_to_list}
 use Rattle.std.proofs.lemmas.Bool.{eqb-true, eq-eqb, cond_both}
 use Rattle.std.proofs.lemmas.List.{map-append, length-append, length-map}
@@ -17,12 +17,12 @@ use Rattle.round_core.specs.Records.{restart_record}
 use Rattle.cluster_model.specs.World.{restarted_version}
 use Rattle.round_core.specs.Rooms as rooms
 use Rattle.round_core.specs.Rooms.{PlacementView}
-use Rattle.cluster_model.specs.Messages.{Request, Answer, LockAt, UpdateTo, UnlockAt, Says, Message, Asks, Tells, table_of, answer_of, change_of, asker_of}
+use Rattle.cluster_model.specs.Messages.{Request, UpdateTo, Message, Asks, Tells, table_of, answer_of, change_of, asker_of}
 use Rattle.world_run.specs.declared.kept.Kept.{Kept}
 use Rattle.world_run.specs.declared.kept.Kept.TheVariants as kept
 use Rattle.world_run.specs.declared.kept.Spot.{Spot}
 use Rattle.world_run.specs.declared.kept.Asked.{Asked}
-use Rattle.world_run.specs.Post.{PostView, table_or, message_in, messages_in, pending_table, told_tables, names_table, brings, IsPostKept, numbered, AgreesOn, kept_answer, updated_version, has_version, spot_for, is_register, place_wants, last_for, started_version, asked_of, GivesReply, Agrees, Delivers, is_request}
+use Rattle.world_run.specs.Post.{PostView, table_or, message_in, messages_in, told_tables, names_table, brings, IsPostKept, numbered, AgreesOn, kept_answer, updated_version, has_version, spot_for, is_register, place_wants, last_for, started_version, asked_of, GivesReply, Agrees, Delivers, is_request}
 
 -- ---- messages by their number
 

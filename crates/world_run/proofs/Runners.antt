@@ -1,5 +1,5 @@
 -- The first member that a Tick of the placement would drop and that has a running part.
-use Rattle.std.proofs.Common.{◌≡◌, ℕ, ◌+◌, ◌<◌, Bool, true, false, cond, List, [], ◌∷◌, length, drop, refl, sym, ap, ◌∙◌, subst, arith}
+use Rattle.std.proofs.Common.{◌≡◌, ℕ, ◌+◌, ◌<◌, Bool, true, false, cond, List, [], ◌∷◌, length, drop, refl, sym, ap, ◌∙◌, arith}
 use Rattle.std.specs.Prelude.{zero, suc, slice_get, Option, None, Some}
 use Rattle.actor_names.specs.declared.member.Member.{Member}
 use Rattle.member_roster.specs.Members.{Joined, is_late, late_of}

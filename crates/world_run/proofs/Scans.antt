@@ -1,5 +1,5 @@
 -- What the cluster model's searches through all parts find, where the parts of a member stand together.
-use Rattle.std.proofs.Common.{◌≡◌, ◌≢◌, ℕ, ◌+◌, ◌-◌, ◌<◌, ◌≤◌, Bool, true, false, not, cond, List, [], ◌∷◌, ◌++◌, length, refl, sym, ap, ◌∙◌, subst, arith, append_assoc, append-nil}
+use Rattle.std.proofs.Common.{◌≡◌, ◌≢◌, ℕ, ◌+◌, ◌-◌, ◌<◌, ◌≤◌, Bool, true, false, not, cond, List, [], ◌∷◌, ◌++◌, length, refl, sym, ap, ◌∙◌, subst, arith, append_assoc}
 use Rattle.std.specs.Prelude.{zero, suc, map, ◌&&◌, ◌||◌, ◌==◌, slice_get, Option, None, Some}
 use Rattle.std.proofs.lemmas.Bool.{ne_eqb, eq-eqb, eqb-true, true≢false}
 use Rattle.std.proofs.lemmas.List.{length-append, length-map}
@@ -10,7 +10,7 @@ use Rattle.part_core.specs.declared.receipt.SeenStage.TheVariants as seen
 use Rattle.part_core.specs.declared.stage.Stage.{Stage}
 use Rattle.part_core.specs.declared.stage.Stage.TheVariants.{Locked, Updated, Open, Stopped}
 use Rattle.part_core.specs.Part.{PartState, is_stopped, is_drained, seen_stage, receipt_of, ring_owner}
-use Rattle.member_core.specs.Acks.{is_stopped_stage, are_stopped, is_of_part, other_place}
+use Rattle.member_core.specs.Acks.{is_stopped_stage, is_of_part, other_place}
 use Rattle.cluster_model.specs.World.{key_part, is_part, up, place_of_part, places_of, was_booted, all_stopped, receipts_of}
 use Rattle.cluster_model.proofs.Basics.{same_member-self}
 use Rattle.world_run.specs.Layout.{PartTag, tag_of, tags_of, member_tags, HasNone, IsFirst, with_found, segment, are_all_stopped, counted_from}

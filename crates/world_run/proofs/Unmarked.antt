@@ -1,6 +1,6 @@
 -- A step looks at no mark: it adds its own to those that were there.
 use Rattle.std.proofs.Common.{◌≡◌, ℕ, ◌+◌, Bool, true, false, cond, List, [], ◌∷◌, ◌++◌, refl, sym, ap, ◌∙◌, arith, append-nil, append_assoc}
-use Rattle.std.specs.Prelude.{zero, suc, ◌==◌, slice_get, set, length, Option, None, Some, Result, Ok, Err}
+use Rattle.std.specs.Prelude.{zero, suc, ◌==◌, slice_get, set, length, Option, None, Some, Result}
 use Rattle.actor_names.specs.declared.member.Member.{Member}
 use Rattle.part_core.specs.declared.event.PartEvent.{PartEvent}
 use Rattle.part_core.specs.declared.event.PartEvent.TheVariants as events
@@ -17,11 +17,11 @@ use Rattle.world_events.specs.declared.event.WorldEvent.TheVariants as lines
 use Rattle.world_events.specs.declared.error.WorldError.{WorldError}
 use Rattle.world_events.specs.declared.outcome.Outcome.{Outcome}
 use Rattle.world_events.specs.declared.outcome.Outcome.TheVariants as out
-use Rattle.cluster_model.specs.Messages.{Request, Answer, Message, Asks, Tells, change_of, told_event}
+use Rattle.cluster_model.specs.Messages.{Request, Message, Asks, Tells, change_of, told_event}
 use Rattle.cluster_model.specs.World as world
 use Rattle.cluster_model.specs.World.{ClusterState, WorldStep, CallPlace, TraceMark, key_part, tagged, ask_of}
 use Rattle.world_run.specs.Views.{capped, more, began_in, ended_in}
-use Rattle.world_run.specs.Worlds.{WorldView, turns_begun, turns_ended, view_of, cluster_of, after}
+use Rattle.world_run.specs.Worlds.{turns_begun, turns_ended}
 
 -- ---- counts
 

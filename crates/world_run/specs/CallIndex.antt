@@ -1,5 +1,5 @@
 -- The calls of a script, and where each call that a part began stands among them. Own.
-use Rattle.std.specs.Prelude.{◌≡◌, ℕ, suc, ◌-◌, ◌<◌, Bool, ◌&&◌, ◌==◌, if◌then◌else◌, List, [], ◌∷◌, map, length, Option, None, Some, option_map}
+use Rattle.std.specs.Prelude.{◌≡◌, ℕ, suc, ◌<◌, Bool, ◌&&◌, ◌==◌, if◌then◌else◌, List, [], ◌∷◌, map, Option, None, Some, option_map}
 use Rattle.std.specs.HashMap.{HashMap, get}
 use Rattle.cluster_model.specs.World.{CallPlace}
 use Rattle.world_run.specs.declared.calls.CallAt.{CallAt}

@@ -4,7 +4,6 @@ use Rattle.actor_names.specs.declared.member.Member.{Member}
 use Rattle.place_table.specs.declared.host.HostInfo.{HostInfo}
 use Rattle.place_table.specs.Hosts.{PlacementTable}
 use Rattle.part_core.specs.Part.{no_table}
-use Rattle.part_core.specs.declared.event.PartEvent.{PartEvent}
 use Rattle.round_core.specs.declared.event.PlaceEvent.{PlaceEvent}
 use Rattle.round_core.specs.declared.event.PlaceEvent.TheVariants as changes
 use Rattle.round_core.specs.declared.event.PlaceReply.{PlaceReply}
@@ -12,7 +11,7 @@ use Rattle.round_core.specs.declared.event.PlaceReply.TheVariants as replies
 use Rattle.round_core.specs.Placement.{PlacementState, placement_step}
 use Rattle.round_core.specs.Records.{RecordOf}
 use Rattle.member_roster.specs.Members.{Joined, is_late}
-use Rattle.cluster_model.specs.Messages.{Request, Register, Beat, Ack, Leave, Answer, LockAt, UpdateTo, UnlockAt, Says, Message, Asks, Tells, table_of, answer_of, change_of, asker_of, told_event}
+use Rattle.cluster_model.specs.Messages.{Request, Register, Beat, Ack, Leave, LockAt, UpdateTo, UnlockAt, Says, Message, Asks, Tells, table_of, answer_of, change_of, asker_of, told_event}
 use Rattle.world_run.specs.declared.kept.Kept.{Kept}
 use Rattle.world_run.specs.declared.kept.Kept.TheVariants as kept
 use Rattle.world_run.specs.declared.kept.Told.{Told}

@@ -1,6 +1,6 @@
 -- What contracts see of the world of a cluster script: the cluster's state without its marks, and how many turns began
 -- and ended, which the marks tell. Own.
-use Rattle.std.specs.Prelude.{◌≡◌, ◌⊎◌, ℕ, zero, suc, ◌+◌, ◌-◌, ◌<◌, length, slice_get, List, [], ◌∷◌, Option, None, Some, IfSome, Result, Ok, Err}
+use Rattle.std.specs.Prelude.{◌≡◌, ◌⊎◌, ℕ, ◌+◌, ◌-◌, ◌<◌, length, slice_get, List, [], ◌∷◌, ◌++◌, MatchResult, Option, None, Some, IfSome, Result, Ok, Err}
 use Rattle.part_core.specs.Marks.{PartMark, TurnBegan, TurnEnded, BecameActive, BecameInactive, PartOpened}
 use Rattle.part_core.specs.Part.{PartState, ring_owner}
 use Rattle.part_core.specs.Rooms.{IsInRange}
@@ -13,7 +13,7 @@ use Rattle.world_events.specs.declared.outcome.Outcome.TheVariants as out
 use Rattle.world_events.specs.declared.error.WorldError.{WorldError}
 use Rattle.world_events.specs.declared.error.WorldError.TheVariants.{OutOfMemory}
 use Rattle.cluster_model.specs.Messages.{Message}
-use Rattle.cluster_model.specs.World.{ClusterState, CallPlace, TraceMark, WorldStep, key_part, call_at, tick_each, happens}
+use Rattle.cluster_model.specs.World.{ClusterState, CallPlace, TraceMark, WorldStep, key_part, call_at, tick_each, happens, cluster_step}
 use Rattle.world_run.specs.CallIndex.{CallsView, call_place}
 use Rattle.world_run.specs.declared.calls.CallAt.{CallAt}
 use Rattle.world_run.specs.Layout.{counted_from}
@@ -155,3 +155,15 @@ Ticks result old new at count turns = Gives (Ok (out.TickEnded result)) old new 
 abbrev pub AskedAt : Option CallAt → WorldView → ℕ → Type 0
 AskedAt (Some c) v call = (call_at v.calls call ≡ Some (call_place c)) × (c.place < length v.parts)
 AskedAt None v call = (c : CallPlace) → call_at v.calls call ≡ Some c → slice_get v.parts c.place ≡ None
+
+-- ---- runs
+
+-- The events are done in their order, up to the first one that is refused or wants memory, which is the result; the
+-- outcomes of those before it are added to the ones that were there.
+abbrev pub Runs : ClusterState → List WorldEvent → List Outcome → Result (Unit {0}) WorldError → List Outcome → WorldView → Type 0
+Runs w [] before result outcomes v = (result ≡ Ok tt) × (outcomes ≡ before) × (v ≡ view_of w)
+Runs w (e ∷ es) before result outcomes v =
+    ((result ≡ Err OutOfMemory) × (outcomes ≡ before) × (v ≡ view_of w))
+    ⊎ MatchResult (cluster_step ring_owner key_part w e).outcome
+    (λ o. Runs (cluster_step ring_owner key_part w e).world es (before ++ o ∷ []) result outcomes v)
+    (λ x. (result ≡ Err x) × (outcomes ≡ before) × (v ≡ view_of (cluster_step ring_owner key_part w e).world))

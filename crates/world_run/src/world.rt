@@ -4,7 +4,7 @@ ghost use Rattle.part_core.specs.Settings.{AreShallow};
 ghost use Rattle.part_core.specs.Part.{ring_owner};
 ghost use Rattle.round_core.specs.Placement.{last_version};
 ghost use Rattle.cluster_model.specs.World.{ClusterState, key_part, cluster_step, opening_cluster};
-ghost use Rattle.world_run.specs.Worlds.{GivesStep, view_of, open_turns};
+ghost use Rattle.world_run.specs.Worlds.{GivesStep, Runs, view_of, open_turns};
 
 mod looks;
 
@@ -119,5 +119,23 @@ impl World {
             self.cluster.set_events(events + 1);
         }
         result
+    }
+
+    /// What comes of events in their order, up to the first one that is refused or wants memory; the outcomes of those
+    /// before it are added at the end.
+    pub fn run(
+        &mut self,
+        alloc: Global,
+        events: Vec<WorldEvent>,
+        outcomes: &mut Vec<Outcome>,
+    ) -> Result<(), WorldError>
+        ensures { (w : ClusterState) → view_of w ≡ self.old → Runs w events.items outcomes.old.items result outcomes.new.items self.new }
+    {
+        for event in events {
+            outcomes.reserve(1)?;
+            let outcome = self.step(alloc, event)?;
+            outcomes.push(outcome).unwrap();
+        }
+        Ok(())
     }
 }

@@ -1,8 +1,5 @@
-use Rattle.std.proofs.Common.{◌≡◌, ◌<◌, ℕ, Bool, true, false, List, length, drop, sym, ap, ◌∙◌, subst, arith}
-use Rattle.std.specs.Prelude.{slice_get}
-use Rattle.member_roster.specs.Members.{late_of}
-use Rattle.part_core.specs.Part.{PartState}
-use Rattle.cluster_model.specs.World.{all_stopped, running_among}
+use Rattle.std.proofs.Common.{◌≡◌, false, sym, ap, ◌∙◌, arith}
+use Rattle.cluster_model.specs.World.{all_stopped}
 use Rattle.world_run.specs.Views.{PartsView}
 use Rattle.world_run.proofs.Runners.{joined_at, runs_here, stopped_here, heard_here}
 use Rattle.world_run.proofs.deliveries.first_running.Goals.{in-Some+else-not-all_stopped, in_default}

@@ -6,7 +6,6 @@ use Rattle.actor_names.specs.declared.member.Member.{Member}
 use Rattle.place_table.specs.declared.ack_stage.AckStage.{AckStage}
 use Rattle.world_run.specs.declared.kept.Kept.{Kept}
 use Rattle.world_run.specs.declared.kept.Kept.TheVariants as kept
-use Rattle.world_run.specs.declared.kept.Asked.{Asked}
 use Rattle.world_run.specs.Post.{message_in, messages_in, numbered, asked_of}
 use Rattle.world_run.proofs.Posts.{numbered_at}
 use Rattle.world_run.proofs.kept.asked_at.Goals as goal

@@ -4,7 +4,7 @@ use Rattle.part_core.specs.declared.settings.TypeSettings.{TypeSettings}
 use Rattle.part_core.specs.Settings.{AreShallow}
 use Rattle.part_core.specs.Part.{new_part}
 use Rattle.part_core.specs.Rooms.{PartView}
-use Rattle.cluster_model.specs.World.{settings_for, new_parts}
+use Rattle.cluster_model.specs.World.{settings_for}
 use Rattle.world_run.specs.Views.{states_of}
 use Rattle.world_run.proofs.Makings.{made-more, shallow_for}
 use Rattle.world_run.proofs.making.make_parts.Goals as goal

@@ -4,7 +4,7 @@ use Rattle.std.specs.HashMap.{get}
 use Rattle.cluster_model.specs.World.{CallPlace}
 use Rattle.world_run.specs.declared.calls.CallAt.{CallAt}
 use Rattle.world_run.specs.declared.calls.Calls.TheInside.{Inside}
-use Rattle.world_run.specs.CallIndex.{CallsView, calls_of, first_call, same_pair, IsIndexed}
+use Rattle.world_run.specs.CallIndex.{calls_of, first_call, same_pair, IsIndexed}
 use Rattle.world_run.proofs.CallNumbers.{indexed_put, indexed_keep, calls-push, length-calls, first_absent, first_present}
 use Rattle.world_run.proofs.calls.Calls.put.Goals.{then-is_none, else-is_none}
 use Rattle.world_run.proofs.calls.Calls.put.Goals as goal

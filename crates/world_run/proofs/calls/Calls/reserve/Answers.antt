@@ -1,4 +1,4 @@
-use Rattle.std.proofs.Common.{◌≡◌, ◌∙◌, sym, ap, List}
+use Rattle.std.proofs.Common.{◌∙◌, sym, ap, List}
 use Rattle.std.specs.Prelude.{Option}
 use Rattle.world_run.specs.declared.calls.CallAt.{CallAt}
 use Rattle.world_run.specs.CallIndex.{calls_of, first_call}

@@ -1,10 +1,8 @@
-use Rattle.std.proofs.Common.{◌≡◌, ap, sym, ◌∙◌, subst}
-use Rattle.std.specs.Prelude.{Option, Some, Result, Ok}
-use Rattle.part_core.specs.declared.event.PartEvent.TheVariants as events
+use Rattle.std.proofs.Common.{ap, sym, subst}
+use Rattle.std.specs.Prelude.{Some, Result, Ok}
 use Rattle.world_events.specs.declared.event.WorldEvent.TheVariants as lines
 use Rattle.world_events.specs.declared.outcome.Outcome.{Outcome}
 use Rattle.world_events.specs.declared.error.WorldError.{WorldError}
-use Rattle.cluster_model.specs.World as world
 use Rattle.world_run.specs.Worlds.{WorldView, Happens, AskedAt, viewed}
 use Rattle.world_run.specs.CallIndex.{call_place}
 use Rattle.world_run.proofs.Givings.{end_gives}

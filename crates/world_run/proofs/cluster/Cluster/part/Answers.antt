@@ -1,12 +1,11 @@
-use Rattle.std.proofs.Common.{◌≡◌, ap, sym, ◌∙◌, subst}
-use Rattle.std.specs.Prelude.{Option, Some, Result, Ok}
+use Rattle.std.proofs.Common.{ap, sym, ◌∙◌, subst}
+use Rattle.std.specs.Prelude.{Result, Ok}
 use Rattle.world_run.specs.Post.{PostView}
 use Rattle.part_core.specs.declared.event.PartEvent.{PartEvent}
 use Rattle.world_run.specs.Views.{StepsAt}
 use Rattle.world_events.specs.declared.event.WorldEvent.TheVariants as lines
 use Rattle.world_events.specs.declared.outcome.Outcome.{Outcome}
 use Rattle.world_events.specs.declared.error.WorldError.{WorldError}
-use Rattle.cluster_model.specs.World as world
 use Rattle.world_run.specs.Worlds.{WorldView, Happens, viewed}
 use Rattle.world_run.proofs.Givings.{part_gives}
 use Rattle.world_run.proofs.cluster.Cluster.part.Goals as goal

@@ -1,11 +1,10 @@
-use Rattle.std.proofs.Common.{◌≡◌, ℕ, inr, ap, sym, ◌∙◌, subst}
-use Rattle.std.specs.Prelude.{Option, Some, Result, Ok}
+use Rattle.std.proofs.Common.{ℕ, inr, ap, subst}
+use Rattle.std.specs.Prelude.{Result, Ok}
 use Rattle.world_events.specs.declared.outcome.Outcome.TheVariants as out
 use Rattle.world_run.specs.Post.{PostView}
 use Rattle.world_events.specs.declared.event.WorldEvent.TheVariants as lines
 use Rattle.world_events.specs.declared.outcome.Outcome.{Outcome}
 use Rattle.world_events.specs.declared.error.WorldError.{WorldError}
-use Rattle.cluster_model.specs.World as world
 use Rattle.world_run.specs.Worlds.{WorldView, Happens, viewed}
 use Rattle.world_run.proofs.cluster.Cluster.restart.Goals as goal
 

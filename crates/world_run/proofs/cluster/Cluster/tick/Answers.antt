@@ -1,12 +1,10 @@
-use Rattle.std.proofs.Common.{◌≡◌, ◌<◌, ◌≤◌, ◌+◌, ℕ, length, ap, sym, subst, arith}
-use Rattle.std.specs.Prelude.{Result, Ok}
+use Rattle.std.proofs.Common.{◌≡◌, ℕ, length, ap, sym, subst, arith}
+use Rattle.std.specs.Prelude.{Ok}
 use Rattle.world_events.specs.declared.outcome.Outcome.{Outcome}
-use Rattle.world_events.specs.declared.outcome.Outcome.TheVariants as out
-use Rattle.world_events.specs.declared.error.WorldError.{WorldError}
 use Rattle.world_events.specs.declared.event.WorldEvent.TheVariants as lines
 use Rattle.cluster_model.specs.World as world
 use Rattle.world_run.specs.Layout.{HasNone, IsFirst}
-use Rattle.world_run.specs.Worlds.{WorldView, Happens, Ticks, cluster_of, Gives}
+use Rattle.world_run.specs.Worlds.{WorldView, Happens, Ticks}
 use Rattle.world_run.proofs.Scans.{booted-none, first-within}
 use Rattle.world_run.proofs.Givings.{gives_false, gives_nothing, tick_each_gives}
 use Rattle.world_run.proofs.cluster.Cluster.tick.Goals as goal

@@ -1,6 +1,6 @@
-use Rattle.std.proofs.Common.{◌≡◌, ◌≢◌, ◌<◌, ◌≤◌, ◌+◌, ◌-◌, ℕ, Bool, true, false, List, [], ◌∷◌, length, refl, sym, ap, ◌∙◌, subst, arith}
+use Rattle.std.proofs.Common.{◌≡◌, ◌≢◌, ◌≤◌, ◌+◌, ◌-◌, ℕ, Bool, true, false, List, length, refl, sym, ap, ◌∙◌, subst, arith}
 use Rattle.std.specs.Prelude.{Option, Some, IsSome, slice_get, ◌&&◌}
-use Rattle.part_core.specs.Part.{PartState, is_stopped, receipt_of, ring_owner}
+use Rattle.part_core.specs.Part.{PartState, receipt_of, ring_owner}
 use Rattle.part_core.specs.declared.receipt.SeenStage.{SeenStage}
 use Rattle.part_core.specs.declared.receipt.SeenStage.TheVariants as seen
 use Rattle.member_core.specs.Acks.{is_stopped_stage}

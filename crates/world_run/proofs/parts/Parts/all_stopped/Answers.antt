@@ -1,7 +1,7 @@
-use Rattle.std.proofs.Common.{◌≡◌, ◌<◌, ◌≤◌, ℕ, List, length, sym, ap, ◌∙◌, subst, arith}
+use Rattle.std.proofs.Common.{◌≡◌, length, sym, ap, ◌∙◌, arith}
 use Rattle.std.specs.Prelude.{map}
 use Rattle.std.proofs.lemmas.List.{length-map}
-use Rattle.world_run.specs.Layout.{IsFirst, segment, are_all_stopped}
+use Rattle.world_run.specs.Layout.{segment, are_all_stopped}
 use Rattle.world_run.specs.Views.{PartsView, state_in}
 use Rattle.world_run.proofs.Scans.{stopped-none, stopped-first, first-within}
 use Rattle.world_run.proofs.parts.Parts.all_stopped.Goals as goal

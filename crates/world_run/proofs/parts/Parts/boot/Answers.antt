@@ -1,4 +1,4 @@
-use Rattle.std.proofs.Common.{◌≡◌, ℕ, ◌++◌, ◌∷◌, [], List, length, sym, ap, ◌∙◌, subst, arith}
+use Rattle.std.proofs.Common.{◌≡◌, ℕ, ◌++◌, ◌∷◌, [], List, length, sym, ap, ◌∙◌, subst}
 use Rattle.std.specs.Prelude.{suc}
 use Rattle.std.proofs.lemmas.List.{map-append}
 use Rattle.part_core.specs.Rooms.{PartView}

@@ -1,4 +1,4 @@
-use Rattle.std.proofs.Common.{◌≡◌, ℕ, Bool, List}
+use Rattle.std.proofs.Common.{◌≡◌, ℕ, List}
 use Rattle.std.specs.Prelude.{Option, None, Some, is_some, MatchOption}
 use Rattle.std.proofs.Common.{sym, ◌∙◌}
 use Rattle.actor_names.specs.declared.member.Member.{Member}

@@ -1,4 +1,4 @@
-use Rattle.std.proofs.Common.{◌≡◌, ◌%◌, ℕ, sym, ap, ◌∙◌}
+use Rattle.std.proofs.Common.{◌%◌, ℕ, ap, ◌∙◌}
 use Rattle.place_table.specs.Hosts.{key_place}
 use Rattle.cluster_model.specs.World.{key_part, place_of_part}
 use Rattle.world_run.specs.Views.{PartsView}

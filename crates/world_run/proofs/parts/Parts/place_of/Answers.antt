@@ -1,4 +1,4 @@
-use Rattle.std.proofs.Common.{◌≡◌, ◌<◌, ◌≤◌, ℕ, sym, ap, subst, arith}
+use Rattle.std.proofs.Common.{◌≡◌, sym, ap, arith}
 use Rattle.world_run.specs.Views.{PartsView}
 use Rattle.world_run.proofs.Scans.{place-none, place-first, place-past, first-within}
 use Rattle.world_run.proofs.parts.Parts.place_of.Goals as goal

@@ -1,8 +1,6 @@
 use Rattle.std.proofs.Common.{◌≡◌, List, sym, ap, ◌∙◌}
-use Rattle.std.specs.Prelude.{None}
 use Rattle.place_table.specs.Hosts.{PlacementTable}
-use Rattle.round_core.specs.Placement.{PlacementState, placement_step}
-use Rattle.cluster_model.specs.Messages.{Message}
+use Rattle.round_core.specs.Placement.{placement_step}
 use Rattle.world_run.specs.Post.{PostView, told_tables, messages_in}
 use Rattle.world_run.proofs.Posts.{gives_other, settled}
 use Rattle.world_run.proofs.post.Post.change.Goals as goal

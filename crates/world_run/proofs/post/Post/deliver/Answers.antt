@@ -1,9 +1,7 @@
 use Rattle.std.proofs.Common.{◌≡◌, ℕ, ◌++◌, ◌∷◌, [], List, length, sym, ap, ◌∙◌, subst, arith, append-nil}
-use Rattle.std.specs.Prelude.{Option, Some, None}
+use Rattle.std.specs.Prelude.{Some}
 use Rattle.place_table.specs.Hosts.{PlacementTable}
-use Rattle.round_core.specs.Placement.{PlacementState}
 use Rattle.cluster_model.specs.Messages.{Message, Tells, answer_of}
-use Rattle.world_run.specs.declared.kept.Asked.{Asked}
 use Rattle.world_run.specs.declared.kept.Kept.{Kept}
 use Rattle.world_run.specs.declared.kept.Spot.{Spot}
 use Rattle.world_run.specs.Post.{PostView, told_tables, messages_in, numbered, asked_of, kept_answer, updated_version, spot_for, last_for, IsPostKept, GivesReply, AgreesOn}

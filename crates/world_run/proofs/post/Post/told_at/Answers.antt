@@ -1,16 +1,15 @@
-use Rattle.std.proofs.Common.{◌≡◌, ◌≢◌, ◌<◌, ◌≤◌, ◌-◌, ℕ, List, length, get_or, refl, sym, ap, ◌∙◌, subst, arith}
-use Rattle.std.specs.Prelude.{Option, Some, None, slice_get}
+use Rattle.std.proofs.Common.{◌≡◌, ◌≢◌, ◌≤◌, ◌-◌, ℕ, List, length, get_or, refl, sym, ap, ◌∙◌, arith}
+use Rattle.std.specs.Prelude.{Option, Some, None}
 use Rattle.std.proofs.lemmas.Option.{slice_get-get_or}
 use Rattle.place_table.specs.Hosts.{PlacementTable}
 use Rattle.actor_names.specs.declared.member.Member.{Member}
 use Rattle.round_core.specs.declared.event.PlaceReply.{PlaceReply}
-use Rattle.part_core.specs.declared.event.PartEvent.{PartEvent}
 use Rattle.part_core.specs.declared.event.PartEvent.TheVariants as events
 use Rattle.cluster_model.specs.Messages.{Message}
 use Rattle.world_run.specs.declared.kept.Kept.{Kept}
 use Rattle.world_run.specs.declared.kept.Kept.TheVariants as kept
 use Rattle.world_run.specs.declared.kept.Told.{Told}
-use Rattle.world_run.specs.Post.{PostView, message_in, messages_in, told_tables, table_or, numbered, told_of, names_table}
+use Rattle.world_run.specs.Post.{PostView, message_in, messages_in, told_tables, numbered, told_of}
 use Rattle.world_run.proofs.Posts.{numbered_at}
 use Rattle.world_run.proofs.post.Post.told_at.Goals as goal
 

@@ -1,8 +1,5 @@
-use Rattle.std.proofs.Common.{◌≡◌, ◌<◌, ◌+◌, ◌^◌, ℕ, true, false, sym, ap, ◌∙◌, subst, arith}
-use Rattle.std.specs.Prelude.{Result, Ok, Err, is_ok}
+use Rattle.std.proofs.Common.{◌≡◌, ◌+◌, ℕ, sym, ap, ◌∙◌, subst, arith}
 use Rattle.part_core.specs.Part.{ring_owner}
-use Rattle.world_events.specs.declared.outcome.Outcome.{Outcome}
-use Rattle.world_events.specs.declared.error.WorldError.{WorldError}
 use Rattle.cluster_model.specs.World.{key_part, cluster_step}
 use Rattle.cluster_model.proofs.Lines.{IsSafeWorld}
 use Rattle.world_run.specs.Worlds.{WorldView, Happens, GivesStep, cluster_of}
