@@ -132,9 +132,9 @@ nothing_is_named = refl
 wrong_number_is_refused : outcomes owner part_of opened (Call 2 a/1 key 0 None ∷ []) ≡ Err (refused.WrongNumber 1) ∷ []
 wrong_number_is_refused = refl
 
--- a part that has stopped ignores messages, and says of all else that it has stopped
+-- a part that has stopped says so to all but a tick and a collection
 stopped_part_is_stopped : outcomes owner part_of opened (Stop a/1 0 ∷ Part 2 0 ∷ Stop a/1 0 ∷ Hold a/1 key ∷ Call 1 a/1 key 0 None ∷ Closing a/1 0 ∷ Tick a/1 ∷ Collect a/1 ∷ [])
-    ≡ done (Stopped ∷ Ignored ∷ Stopped ∷ Stopped ∷ Stopped ∷ Stopped ∷ TickEnded 0 ∷ out.NoAck ∷ [])
+    ≡ done (Stopped ∷ Stopped ∷ Stopped ∷ Stopped ∷ Stopped ∷ Stopped ∷ TickEnded 0 ∷ out.NoAck ∷ [])
 stopped_part_is_stopped = refl
 
 -- ---- which lines asked the calls
