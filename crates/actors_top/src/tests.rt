@@ -45,14 +45,26 @@ fn empty_script_prints_nothing(rt: HostRuntime) -> Result<(), Fail> {
 #[test]
 fn second_call_waits_for_first(rt: HostRuntime) -> Result<(), Fail> {
     let script = "call 1 counter/7\ncall 2 counter/7\nend 1\n";
-    prints(&rt, rt.alloc(), script, 0, "begin 1\nwait 2 1\nend 1 begin 2\n")
+    prints(
+        &rt,
+        rt.alloc(),
+        script,
+        0,
+        "begin 1\nwait 2 1\nend 1 begin 2\n",
+    )
 }
 
 #[test]
 fn depth_limits_calls_of_one_chain(rt: HostRuntime) -> Result<(), Fail> {
     let script =
         "reentrant counter 2\ncall 1 counter/7 chain x\ncall 2 counter/7 chain x\ncall 3 counter/7 chain x\ncall 4 counter/8 chain x\n";
-    prints(&rt, rt.alloc(), script, 0, "begin 1\nbegin 2\ndepth 3 2\nbegin 4\n")
+    prints(
+        &rt,
+        rt.alloc(),
+        script,
+        0,
+        "begin 1\nbegin 2\ndepth 3 2\nbegin 4\n",
+    )
 }
 
 #[test]
