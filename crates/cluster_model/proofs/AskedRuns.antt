@@ -22,7 +22,8 @@ use Rattle.cluster_model.proofs.Askings.{run_asked}
 use Rattle.cluster_model.proofs.Basics.{In-append, In-right, In-middle, In-set, In-slice_get}
 use Rattle.cluster_model.proofs.Boots.{In-new_parts}
 use Rattle.cluster_model.proofs.Clusters.{run_invariant}
-use Rattle.cluster_model.proofs.Lines.{IsSafeWorld, AreKept, run_kept}
+use Rattle.cluster_model.specs.Invariant.{IsSafeWorld}
+use Rattle.cluster_model.proofs.Lines.{AreKept, run_kept}
 use Rattle.cluster_model.proofs.Worlds.{step_safe, safe_kept, new_world_safe}
 
 -- a chain under which a line asked is the one that it names
@@ -52,7 +53,7 @@ module _ (owner : PlacementTable → ActorKey → Option HostInfo) (part_of : Ac
   -- ---- settings
 
   record AreSettled (w : ClusterState) : Type 0 where
-    safe : IsSafeWorld owner part_of w
+    safe : IsSafeWorld owner w
     kinds : PartsHaveSettings w
 
   more_messages : (w : ClusterState) (ms : List Message) → PartsHaveSettings w → (p : PartState) → In p w.parts → (kinds : List (List ℕ)) × In (Asks (Register (host_of p.member kinds))) (w.messages ++ ms) × (p.kinds ≡ settings_for w.settings kinds)

@@ -27,7 +27,8 @@ use Rattle.cluster_model.proofs.AskedLines.{append_nil, call_at-left, call_at-pu
 use Rattle.cluster_model.proofs.Basics.{In-append, In-set, In-slice_get}
 use Rattle.cluster_model.proofs.Boots.{In-new_parts}
 use Rattle.cluster_model.proofs.Histories.{some_same, get-set_same, get-set_other}
-use Rattle.cluster_model.proofs.Lines.{IsSafeWorld, AreQuietKept, quiet_line}
+use Rattle.cluster_model.specs.Invariant.{IsSafeWorld}
+use Rattle.cluster_model.proofs.Lines.{AreQuietKept, quiet_line}
 use Rattle.cluster_model.proofs.Named.{same_place, ask_heard}
 use Rattle.cluster_model.proofs.PartCalls.{HaveTypesDepth, types_depth_kept, AllHave, ask_takes, step_has}
 use Rattle.cluster_model.proofs.Runs.{get-left}
@@ -85,7 +86,7 @@ module _ (owner : PlacementTable → ActorKey → Option HostInfo) (part_of : Ac
     pub one_number : (i j : ℕ) (c : CallPlace) → call_at calls i ≡ Some c → call_at calls j ≡ Some c → i ≡ j
 
   pub record AreAsked (asked : List AskedCall) (w : ClusterState) : Type 0 where
-    pub safe : IsSafeWorld owner part_of w
+    pub safe : IsSafeWorld owner w
     pub all : AreAskedAt w.settings.parts w.parts w.calls w.marks asked
 
   -- what a step of a part at a place makes of the cells and the marks

@@ -40,7 +40,8 @@ use Rattle.cluster_model.specs.World.{ClusterState, tagged, new_parts}
 use Rattle.cluster_model.proofs.Basics.{In-slice_get}
 use Rattle.cluster_model.proofs.Counts.{begun_turns-append, over_turns-append, begun_turns-tagged, over_turns-tagged, next_ends_none, ends_begin_none, inactive_begins_none}
 use Rattle.cluster_model.proofs.Histories.{some_same}
-use Rattle.cluster_model.proofs.Lines.{IsSafeWorld, AreKept, run_kept}
+use Rattle.cluster_model.specs.Invariant.{IsSafeWorld}
+use Rattle.cluster_model.proofs.Lines.{AreKept, run_kept}
 use Rattle.cluster_model.proofs.Worlds.{step_safe, safe_kept, new_world_safe}
 
 -- ---- marks
@@ -326,7 +327,7 @@ open_in-new (p ∷ ps) m kinds i n = let more = open_in-new ps m kinds i n in om
 
 module _ (owner : PlacementTable → ActorKey → Option HostInfo) (part_of : ActorKey → ℕ → ℕ) where
   record AreBalanced (w : ClusterState) : Type 0 where
-    safe : IsSafeWorld owner part_of w
+    safe : IsSafeWorld owner w
     balance : open_in w.parts + over_turns w.marks ≡ begun_turns w.marks
 
   balance_step : (w : ClusterState) (n : ℕ) (p : PartState) (e : PartEvent) → AreBalanced w → slice_get w.parts n ≡ Some p

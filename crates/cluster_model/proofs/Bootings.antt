@@ -27,7 +27,8 @@ use Rattle.cluster_model.specs.World.{ClusterState, new_parts}
 use Rattle.cluster_model.specs.Invariant.{IsBooted}
 use Rattle.cluster_model.specs.Cluster.{named_in}
 use Rattle.cluster_model.proofs.Basics.{In-slice_get}
-use Rattle.cluster_model.proofs.Lines.{IsSafeWorld, IsHonest, AreKept, run_kept}
+use Rattle.cluster_model.specs.Invariant.{IsSafeWorld}
+use Rattle.cluster_model.proofs.Lines.{IsHonest, AreKept, run_kept}
 use Rattle.cluster_model.proofs.Worlds.{safe_kept, new_world_safe}
 
 -- ---- members after a step of the placement
@@ -96,7 +97,7 @@ booted_new ps m kinds (suc n) l = (new_part m 0 kinds, In-right ps (new_part m 0
 
 module _ (owner : PlacementTable → ActorKey → Option HostInfo) (part_of : ActorKey → ℕ → ℕ) where
   pub record AreAllBooted (w : ClusterState) : Type 0 where
-    pub safe : IsSafeWorld owner part_of w
+    pub safe : IsSafeWorld owner w
     pub some : 0 < w.settings.parts
     pub named : (x : Message) → In x w.messages → IsBooted w.parts (named_in x)
     pub joined : (m : Member) → HasMember (hosts_of w.placement.members) m → IsBooted w.parts m

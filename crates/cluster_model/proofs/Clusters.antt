@@ -20,7 +20,7 @@ use Rattle.cluster_model.specs.Invariant.{WasTold, IsRoundSound, RoundFacts}
 use Rattle.cluster_model.specs.Cluster.{last_of, VersionsBelowNext, OneTablePerVersion, MembersOrStopped, InformedAreTargets, AcksAreReached, ActiveMeansOwned, NobodyBehindUnlock, TurnsUnderOneChain, ClusterInvariant}
 use Rattle.cluster_model.proofs.Joins.{entry_of, one_entry}
 use Rattle.cluster_model.proofs.PartKeeps.{told_update}
-use Rattle.cluster_model.proofs.Lines.{IsSafeWorld}
+use Rattle.cluster_model.specs.Invariant.{IsSafeWorld}
 use Rattle.cluster_model.proofs.Runs.{IsToldWorld, run_told}
 use Rattle.cluster_model.proofs.Isolation.{single_activation, overlap_chain, few_before}
 
@@ -28,7 +28,7 @@ table_from : (t : PlacementTable) (v : ℕ) (hosts : List HostInfo) → t.versio
 table_from t v hosts a b = λ i. record { version = a i; hosts = b i }
 
 module _ (owner : PlacementTable → ActorKey → Option HostInfo) (part_of : ActorKey → ℕ → ℕ) (w : ClusterState) (t : IsToldWorld owner part_of w) where
-  abbrev s : IsSafeWorld owner part_of w
+  abbrev s : IsSafeWorld owner w
   s = t.safe
 
   used : 1 ≤ w.placement.next_version

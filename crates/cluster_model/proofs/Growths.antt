@@ -12,12 +12,13 @@ use Rattle.cluster_model.specs.Messages.{Message}
 use Rattle.cluster_model.specs.World as world
 use Rattle.cluster_model.specs.World.{ClusterState}
 use Rattle.cluster_model.specs.Cluster.{HasCome}
-use Rattle.cluster_model.proofs.Lines.{IsSafeWorld, AreKept, run_kept}
+use Rattle.cluster_model.specs.Invariant.{IsSafeWorld}
+use Rattle.cluster_model.proofs.Lines.{AreKept, run_kept}
 use Rattle.cluster_model.proofs.Worlds.{safe_kept, run_safe}
 
 module _ (owner : PlacementTable → ActorKey → Option HostInfo) (part_of : ActorKey → ℕ → ℕ) (ms : List Message) where
   pub record HasGrown (w : ClusterState) : Type 0 where
-    pub safe : IsSafeWorld owner part_of w
+    pub safe : IsSafeWorld owner w
     pub kept : (x : Message) → In x ms → In x w.messages
 
   grown_kept : AreKept owner part_of HasGrown

@@ -16,7 +16,6 @@ use Rattle.part_core.specs.Part.{PartState, part_step}
 use Rattle.round_core.specs.declared.event.PlaceEvent.{PlaceEvent}
 use Rattle.round_core.specs.declared.event.PlaceEvent.TheVariants as changes
 use Rattle.round_core.specs.Placement.{placement_step, placement_restarted}
-use Rattle.round_core.proofs.Reached.{IsReached}
 use Rattle.member_roster.specs.Members.{late_of}
 use Rattle.member_core.specs.declared.ack.Ack as declared
 use Rattle.member_core.specs.Acks.{collected, are_stopped}
@@ -29,14 +28,10 @@ use Rattle.world_events.specs.declared.outcome.Outcome.TheVariants as out
 use Rattle.cluster_model.specs.Messages.{Request, Register, Beat, Ack, Leave, Answer, Message, Asks, Tells, change_of, asker_of, told_event}
 use Rattle.cluster_model.specs.World as world
 use Rattle.cluster_model.specs.World.{ClusterState, WorldStep, CallPlace, most_events, ask_of}
-use Rattle.cluster_model.specs.Invariant.{IsBooted, IsHeard, AllStopped, IsSafe}
+use Rattle.cluster_model.specs.Invariant.{IsBooted, IsHeard, AllStopped, IsSafe, IsSafeWorld}
 use Rattle.cluster_model.proofs.Named.{booted_part, all_stopped_all, none_running, same_place, told_heard, told_asks_not, ask_heard, ask_asks, In-message_at, In-receipts_of}
 
 module _ (owner : PlacementTable → ActorKey → Option HostInfo) (part_of : ActorKey → ℕ → ℕ) where
-  pub record IsSafeWorld (w : ClusterState) : Type 0 where
-    pub reached : IsReached w.placement
-    pub safe : IsSafe owner w.placement w.parts w.messages w.boots
-
   -- what is known of a request that is added
   abbrev pub MayAsk : ClusterState → Request → Type 0
   MayAsk w (Register h) = ⊥
@@ -52,7 +47,7 @@ module _ (owner : PlacementTable → ActorKey → Option HostInfo) (part_of : Ac
 
   -- what every event but a call comes down to: no part that takes a step is asked
   pub record AreQuietKept (P : ClusterState → Type 0) : Type 0 where
-    pub safe : (w : ClusterState) → P w → IsSafeWorld w
+    pub safe : (w : ClusterState) → P w → IsSafeWorld owner w
     pub other : (w : ClusterState) (now events : ℕ) → P w → P (record w { now = now; events = events })
     pub step : (w : ClusterState) (n : ℕ) (p : PartState) (e : PartEvent) → P w → slice_get w.parts n ≡ Some p → IsHeard w.messages p.member e →
         ((k : ActorKey) → IsAsked e k → ⊥) → P (world.with_step owner part_of w n p (part_step owner p e))
@@ -64,7 +59,7 @@ module _ (owner : PlacementTable → ActorKey → Option HostInfo) (part_of : Ac
 
   -- the same of every event, for a property that doesn't look at the calls
   pub record AreKept (P : ClusterState → Type 0) : Type 0 where
-    pub safe : (w : ClusterState) → P w → IsSafeWorld w
+    pub safe : (w : ClusterState) → P w → IsSafeWorld owner w
     pub other : (w : ClusterState) (now : ℕ) (calls : List (Option CallPlace)) (events : ℕ) → P w → P (record w { now = now; calls = calls; events = events })
     pub step : (w : ClusterState) (n : ℕ) (p : PartState) (e : PartEvent) → P w → slice_get w.parts n ≡ Some p → IsHeard w.messages p.member e →
         ((k : ActorKey) → IsAsked e k → part_of k w.settings.parts ≡ p.number) → P (world.with_step owner part_of w n p (part_step owner p e))

@@ -11,7 +11,8 @@ use Rattle.world_events.specs.declared.event.WorldEvent.{WorldEvent}
 use Rattle.cluster_model.specs.Messages.{change_of}
 use Rattle.cluster_model.specs.World as world
 use Rattle.cluster_model.specs.World.{ClusterState}
-use Rattle.cluster_model.proofs.Lines.{IsSafeWorld, AreKept, step_kept}
+use Rattle.cluster_model.specs.Invariant.{IsSafeWorld}
+use Rattle.cluster_model.proofs.Lines.{AreKept, step_kept}
 use Rattle.cluster_model.proofs.Worlds.{safe_kept}
 
 -- to forget nothing twice is to forget nothing
@@ -28,7 +29,7 @@ forgets_over s t u a b =
 
 module _ (owner : PlacementTable → ActorKey → Option HostInfo) (part_of : ActorKey → ℕ → ℕ) (s : PlacementState) where
   pub record Remembers (w : ClusterState) : Type 0 where
-    pub safe : IsSafeWorld owner part_of w
+    pub safe : IsSafeWorld owner w
     pub kept : ForgetsNothing s w.placement
 
   remembers_kept : AreKept owner part_of Remembers
@@ -44,7 +45,7 @@ module _ (owner : PlacementTable → ActorKey → Option HostInfo) (part_of : Ac
         boot = λ w m kinds fresh t. record { safe = (safe_kept owner part_of).boot w m kinds fresh t.safe; kept = t.kept };
       }
 
-pub world_forgets : (owner : PlacementTable → ActorKey → Option HostInfo) (part_of : ActorKey → ℕ → ℕ) (w : ClusterState) (e : WorldEvent) → IsSafeWorld owner part_of w →
+pub world_forgets : (owner : PlacementTable → ActorKey → Option HostInfo) (part_of : ActorKey → ℕ → ℕ) (w : ClusterState) (e : WorldEvent) → IsSafeWorld owner w →
     ForgetsNothing w.placement (world.cluster_step owner part_of w e).world.placement
 world_forgets owner part_of w e s =
     let t = step_kept owner part_of (Remembers owner part_of w.placement) (remembers_kept owner part_of w.placement) w e (record { safe = s; kept = forgets_self w.placement }) in t.kept

@@ -33,7 +33,8 @@ use Rattle.cluster_model.proofs.PartKeeps.{active_once}
 use Rattle.cluster_model.proofs.Boots.{In-new_parts}
 use Rattle.cluster_model.proofs.Histories.{FitsHistory, get-set_same, fits_step, never_step, chain_step}
 use Rattle.cluster_model.proofs.Openings.{FitsOpenings, openings_step, given_step, rise_step}
-use Rattle.cluster_model.proofs.Lines.{IsSafeWorld, AreKept, run_kept}
+use Rattle.cluster_model.specs.Invariant.{IsSafeWorld}
+use Rattle.cluster_model.proofs.Lines.{AreKept, run_kept}
 use Rattle.cluster_model.proofs.Worlds.{step_safe, safe_kept, new_world_safe}
 
 -- a place in two lists joined
@@ -91,7 +92,7 @@ module _ (owner : PlacementTable → ActorKey → Option HostInfo) (part_of : Ac
     ],
   )
 
-  with_step_told : (w : ClusterState) (n : ℕ) (p : PartState) (e : PartEvent) → IsSafeWorld owner part_of w → IsTold w → slice_get w.parts n ≡ Some p → IsHeard w.messages p.member e →
+  with_step_told : (w : ClusterState) (n : ℕ) (p : PartState) (e : PartEvent) → IsSafeWorld owner w → IsTold w → slice_get w.parts n ≡ Some p → IsHeard w.messages p.member e →
       ((k : ActorKey) → IsAsked e k → part_of k w.settings.parts ≡ p.number) →
       IsToldAt w.settings (set w.parts n (part_step owner p e).part) (w.marks ++ tagged p.member (part_step owner p e).marks) w.messages
   with_step_told w n p e s t at heard asked =
@@ -133,7 +134,7 @@ module _ (owner : PlacementTable → ActorKey → Option HostInfo) (part_of : Ac
       subst (λ (z : List ℕ). world.depth_in s x ≤ world.depth_in s z) e (omega arith))
       (λ _. h))
 
-  boot_told : (w : ClusterState) (m : Member) (kinds : List TypeSettings) (n : ℕ) → ((kind : List ℕ) → (settings_of kinds kind).depth ≤ world.depth_in w.settings kind) → m.boot ≡ suc w.boots → IsSafeWorld owner part_of w → IsTold w → IsToldAt w.settings (w.parts ++ new_parts m kinds 0 n) w.marks w.messages
+  boot_told : (w : ClusterState) (m : Member) (kinds : List TypeSettings) (n : ℕ) → ((kind : List ℕ) → (settings_of kinds kind).depth ≤ world.depth_in w.settings kind) → m.boot ≡ suc w.boots → IsSafeWorld owner w → IsTold w → IsToldAt w.settings (w.parts ++ new_parts m kinds 0 n) w.marks w.messages
   boot_told w m kinds n deep fresh s t =
       let other : (i : ℕ) (p : PartState) → slice_get w.parts i ≡ Some p → p.member ≡ m → ⊥ = λ i p g a.
       (let b = (s.safe.parts p (In-slice_get w.parts i p g)).booted in let c : p.member.boot ≡ suc w.boots = ap (λ (z : Member). z.boot) a ∙ fresh in absurd (omega arith)) in
@@ -188,7 +189,7 @@ module _ (owner : PlacementTable → ActorKey → Option HostInfo) (part_of : Ac
   -- ---- every list of events
 
   pub record IsToldWorld (w : ClusterState) : Type 0 where
-    pub safe : IsSafeWorld owner part_of w
+    pub safe : IsSafeWorld owner w
     pub told : IsTold w
 
   pub told_kept : AreKept owner part_of IsToldWorld

@@ -18,7 +18,8 @@ use Rattle.round_core.specs.declared.phase.RoundPhase.{RoundPhase}
 use Rattle.round_core.specs.declared.phase.RoundPhase.TheVariants.{Running}
 use Rattle.round_core.specs.Placement.{PlacementState, last_version, stage_reply, placement_step}
 use Rattle.round_core.specs.Runs.{Steps, Restarts}
-use Rattle.round_core.proofs.Reached.{IsReached, new_reached, event_reached}
+use Rattle.round_core.specs.Reached.{IsReached}
+use Rattle.round_core.proofs.Reached.{new_reached, event_reached}
 use Rattle.member_core.specs.Progress.{MemberReached}
 use Rattle.world_events.specs.declared.settings.WorldSettings.{WorldSettings}
 use Rattle.world_events.specs.declared.event.WorldEvent.{WorldEvent}
@@ -32,7 +33,8 @@ use Rattle.cluster_model.proofs.PartKeeps.{part_safe, active_once}
 use Rattle.cluster_model.proofs.Places.{IsReplyOf, IsStepSafe, register_safe, beat_safe, ack_safe, leave_safe, lost_safe, tick_safe, restart_safe}
 use Rattle.cluster_model.proofs.Messages.{IsPlain, push_plain, push_told, stage_answer}
 use Rattle.cluster_model.proofs.Boots.{boot_safe}
-use Rattle.cluster_model.proofs.Lines.{IsSafeWorld, MayAsk, IsHonest, AreKept, run_kept}
+use Rattle.cluster_model.specs.Invariant.{IsSafeWorld}
+use Rattle.cluster_model.proofs.Lines.{MayAsk, IsHonest, AreKept, run_kept}
 
 tells_asks : (m : Member) (a : Answer) (r : Request) → Tells m a ≡ Asks r → ⊥
 tells_asks m a r e = cc
@@ -102,19 +104,19 @@ module _ (owner : PlacementTable → ActorKey → Option HostInfo) (part_of : Ac
 
   -- ---- the seven changes
 
-  answered : (w : ClusterState) (r : Request) → IsSafeWorld owner part_of w → IsStepSafe owner w.parts w.messages w.boots (asker_of r) (placement_step w.placement (change_of r) w.now) →
-      IsSafeWorld owner part_of (world.answers w r (placement_step w.placement (change_of r) w.now)).world
+  answered : (w : ClusterState) (r : Request) → IsSafeWorld owner w → IsStepSafe owner w.parts w.messages w.boots (asker_of r) (placement_step w.placement (change_of r) w.now) →
+      IsSafeWorld owner (world.answers w r (placement_step w.placement (change_of r) w.now)).world
   answered w r s t =
       let reached = event_reached w.placement (Steps (change_of r) w.now) s.reached in
       record { reached = reached; safe = reply_told w.parts w.messages w.boots (placement_step w.placement (change_of r) w.now).state (asker_of r) _ reached t.reply t.safe }
 
-  answer_safe : (w : ClusterState) (r : Request) → IsSafeWorld owner part_of w → In (Asks r) w.messages → IsSafeWorld owner part_of (world.answers w r (placement_step w.placement (change_of r) w.now)).world
+  answer_safe : (w : ClusterState) (r : Request) → IsSafeWorld owner w → In (Asks r) w.messages → IsSafeWorld owner (world.answers w r (placement_step w.placement (change_of r) w.now)).world
   answer_safe w (Register h) s i = answered w (Register h) s (register_safe owner w.parts w.messages w.boots w.placement h w.now s.reached.kept.used (s.safe.booted.registers h i) s.safe)
   answer_safe w (Beat m) s i = answered w (Beat m) s (beat_safe owner w.parts w.messages w.boots w.placement m w.now s.reached.kept.used s.safe)
   answer_safe w (Ack m st v) s i = answered w (Ack m st v) s (ack_safe owner w.parts w.messages w.boots w.placement m st v w.now s.reached.kept.used (s.safe.members.acks m st v i) s.safe)
   answer_safe w (Leave m) s i = answered w (Leave m) s (leave_safe owner w.parts w.messages w.boots w.placement m w.now s.reached.kept.used (s.safe.members.leaves m i) s.safe)
 
-  change_safe : (w : ClusterState) (e : PlaceEvent) → IsSafeWorld owner part_of w → IsHonest owner part_of w e → IsSafeWorld owner part_of (record w { placement = (placement_step w.placement e w.now).state })
+  change_safe : (w : ClusterState) (e : PlaceEvent) → IsSafeWorld owner w → IsHonest owner part_of w e → IsSafeWorld owner (record w { placement = (placement_step w.placement e w.now).state })
   change_safe w (changes.Lost m) s h =
       record { reached = event_reached w.placement (Steps (changes.Lost m) w.now) s.reached; safe = lost_safe owner w.parts w.messages w.boots w.placement m w.now s.reached.kept.used h s.safe }
   change_safe w changes.Tick s h =
@@ -125,15 +127,15 @@ module _ (owner : PlacementTable → ActorKey → Option HostInfo) (part_of : Ac
   change_safe w (changes.Leave m) s h = absurd h
   change_safe w changes.Look s h = absurd h
 
-  pub step_safe : (w : ClusterState) (n : ℕ) (p : PartState) (e : PartEvent) → IsSafeWorld owner part_of w → slice_get w.parts n ≡ Some p → IsHeard w.messages p.member e →
-      IsSafeWorld owner part_of (world.with_step owner part_of w n p (part_step owner p e))
+  pub step_safe : (w : ClusterState) (n : ℕ) (p : PartState) (e : PartEvent) → IsSafeWorld owner w → slice_get w.parts n ≡ Some p → IsHeard w.messages p.member e →
+      IsSafeWorld owner (world.with_step owner part_of w n p (part_step owner p e))
   step_safe w n p e s at heard =
       record {
         reached = s.reached;
         safe = part_safe owner _ _ _ _ _ w.parts w.messages w.boots s.safe n p e (part_step owner p e).part at heard (part_stepped owner p e (s.safe.parts p (In-slice_get w.parts n p at)).sound);
       }
 
-  pub safe_kept : AreKept owner part_of (IsSafeWorld owner part_of)
+  pub safe_kept : AreKept owner part_of (IsSafeWorld owner)
   safe_kept =
       record {
         safe = λ w s. s;
@@ -153,7 +155,7 @@ module _ (owner : PlacementTable → ActorKey → Option HostInfo) (part_of : Ac
 
   -- ---- every list of events
 
-  pub new_world_safe : (settings : WorldSettings) → IsSafeWorld owner part_of (world.opening_cluster settings)
+  pub new_world_safe : (settings : WorldSettings) → IsSafeWorld owner (world.opening_cluster settings)
   new_world_safe settings =
       record {
         reached = new_reached;
@@ -167,8 +169,8 @@ module _ (owner : PlacementTable → ActorKey → Option HostInfo) (part_of : Ac
         };
       }
 
-  pub run_safe : (settings : WorldSettings) (es : List WorldEvent) → IsSafeWorld owner part_of (world.cluster_run owner part_of (world.opening_cluster settings) es)
-  run_safe settings es = run_kept owner part_of (IsSafeWorld owner part_of) safe_kept (world.opening_cluster settings) es (new_world_safe settings)
+  pub run_safe : (settings : WorldSettings) (es : List WorldEvent) → IsSafeWorld owner (world.cluster_run owner part_of (world.opening_cluster settings) es)
+  run_safe settings es = run_kept owner part_of (IsSafeWorld owner) safe_kept (world.opening_cluster settings) es (new_world_safe settings)
 
   -- over every list of events no actor is active on two members
   pub run_active_once : (settings : WorldSettings) (es : List WorldEvent) → IsActiveOnce (world.cluster_run owner part_of (world.opening_cluster settings) es).parts

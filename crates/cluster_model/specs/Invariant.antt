@@ -18,11 +18,13 @@ use Rattle.part_core.specs.Sound.{IsPartSound}
 use Rattle.round_core.specs.declared.phase.RoundPhase.{RoundPhase}
 use Rattle.round_core.specs.declared.phase.RoundPhase.TheVariants.{Quiet, Running}
 use Rattle.round_core.specs.Placement.{PlacementState, last_version}
+use Rattle.round_core.specs.Reached.{IsReached}
 use Rattle.round_core.specs.Runs.{HasMember}
 use Rattle.member_roster.specs.declared.book.Known.{Known}
 use Rattle.member_roster.specs.Members.{Joined, greatest_boot, hosts_of}
 use Rattle.member_core.specs.Progress.{MemberReached}
 use Rattle.cluster_model.specs.Messages.{Register, Ack, Leave, Answer, LockAt, UpdateTo, UnlockAt, Says, Message, Asks, Tells}
+use Rattle.cluster_model.specs.World.{ClusterState}
 
 -- ---- messages
 
@@ -146,6 +148,11 @@ module _ (owner : PlacementTable → ActorKey → Option HostInfo) where
 
   abbrev pub IsSafe : PlacementState → List PartState → List Message → ℕ → Type 0
   IsSafe s ps ms boots = IsSafeAt (last_version s) s.members s.boots s.table s.phase ps ms boots
+
+  -- a cluster is safe: its placement is one that a run reaches, and so are its parts and messages
+  pub record IsSafeWorld (w : ClusterState) : Type 0 where
+    pub reached : IsReached w.placement
+    pub safe : IsSafe w.placement w.parts w.messages w.boots
 
 -- no actor is active on two members
 abbrev pub IsActiveOnce : List PartState → Type 0

@@ -6,6 +6,7 @@ use Rattle.std.proofs.lemmas.Slice.Eq.{bytes_eq-Decides}
 use Rattle.actor_names.specs.declared.member.Member.{Member}
 use Rattle.place_table.specs.declared.host.HostInfo.{HostInfo}
 use Rattle.member_roster.specs.Members.{Joined, joined_node, hosts_of, of_node, has_boot, is_here, is_before, is_late, without_node, put_joined, heard_of}
+use Rattle.round_core.specs.Reached.{has_host, Distinct}
 use Rattle.round_core.specs.Runs.{HasMember}
 
 pub same_bytes : (a : List ℕ) → bytes_eq a a ≡ true
@@ -19,14 +20,6 @@ flip_bytes a b e = go (bytes_eq b a) refl
     go false f = f
 
 -- ---- nodes that differ
-
-abbrev pub has_host : List HostInfo → List ℕ → Bool
-has_host [] node = false
-has_host (h ∷ hs) node = bytes_eq node h.member.node || has_host hs node
-
-abbrev pub Distinct : List HostInfo → Type 0
-Distinct [] = Unit {0}
-Distinct (h ∷ hs) = (has_host hs h.member.node ≡ false) × Distinct hs
 
 pub of_node-host : (js : List Joined) (node : List ℕ) → is_some (of_node js node) ≡ has_host (hosts_of js) node
 of_node-host [] node = refl

@@ -9,17 +9,13 @@ use Rattle.round_core.specs.declared.event.PlaceEvent.TheVariants as events
 use Rattle.member_roster.specs.Members.{Joined, hosts_of, of_node, is_here, greatest_boot, heard_at, new_joined}
 use Rattle.round_core.specs.Openings.{IsNewOrUsed}
 use Rattle.round_core.specs.Placement.{PlacementState, Membership, new_placement, settle_round, conclude, not_member, with_member, join_node, is_full, ack_change, remove_member, apply_membership, placement_step, placement_restarted, awoken}
+use Rattle.round_core.specs.Reached.{Distinct, IsReached}
 use Rattle.round_core.specs.Runs.{RunEvent, Steps, Restarts, ForgetsNothing, state_after, run_state}
 use Rattle.round_core.proofs.Durable.{Keeps, keeps_all, hosts_with, conclude_keeps, ack_same}
-use Rattle.round_core.proofs.Hosts.{Distinct, of_node-host, put_distinct, without_distinct, heard_distinct}
+use Rattle.round_core.proofs.Hosts.{of_node-host, put_distinct, without_distinct, heard_distinct}
 use Rattle.round_core.proofs.Memory.{forgets_self, forgets_on, step_forgets, awoken_keeps, awoken_rises}
 use Rattle.round_core.proofs.Openings.{new_kept, used_kept, by_use, restart_kept}
 use Rattle.round_core.proofs.Versions.{Rises, rises_all, rises_on, conclude_rises}
-
-pub record IsReached (s : PlacementState) : Type 0 where
-  pub distinct : Distinct (hosts_of s.members)
-  pub kept : IsNewOrUsed s
-  pub within : s.next_version ≤ 2 ^ 62
 
 -- ---- nodes that differ
 

@@ -15,8 +15,9 @@ use Rattle.round_core.specs.Placement.{PlacementState, Membership, new_placement
 use Rattle.round_core.specs.Records.{RecordOf, may_join, after_removal, after_record, after_records, placement_restored, IsBadAt}
 use Rattle.round_core.specs.Runs.{RunEvent, Steps, Restarts, state_after, record_after, and_then, run_state, run_records}
 use Rattle.round_core.proofs.Durable.{Keeps, hosts_with, hosts_length, conclude_keeps, ack_same, none_parts, recorded_durable}
-use Rattle.round_core.proofs.Hosts.{same_bytes, flip_bytes, has_host, Distinct, of_node-host, put_same, without_same, here_same}
-use Rattle.round_core.proofs.Reached.{IsReached, new_reached, event_reached, step_rises, restart_keeps, restart_rises}
+use Rattle.round_core.specs.Reached.{has_host, Distinct, IsReached}
+use Rattle.round_core.proofs.Hosts.{same_bytes, flip_bytes, of_node-host, put_same, without_same, here_same}
+use Rattle.round_core.proofs.Reached.{new_reached, event_reached, step_rises, restart_keeps, restart_rises}
 use Rattle.round_core.proofs.Versions.{Rises}
 
 -- ---- members that are dropped are removed one by one

@@ -3,3 +3,4 @@ pub mod Openings
 pub mod Records
 pub mod Rooms
 pub mod Runs
+pub mod Reached

@@ -21,7 +21,8 @@ use Rattle.cluster_model.specs.World.{ClusterState, WorldStep, CallPlace, tagged
 use Rattle.cluster_model.proofs.Basics.{In-slice_get}
 use Rattle.cluster_model.proofs.Counts.{begun_turns-append, begun_turns-tagged}
 use Rattle.cluster_model.proofs.Histories.{some_same}
-use Rattle.cluster_model.proofs.Lines.{IsSafeWorld, AreQuietKept, quiet_line}
+use Rattle.cluster_model.specs.Invariant.{IsSafeWorld}
+use Rattle.cluster_model.proofs.Lines.{AreQuietKept, quiet_line}
 use Rattle.cluster_model.proofs.Named.{ask_heard}
 use Rattle.cluster_model.proofs.Worlds.{step_safe, safe_kept, new_world_safe}
 use Rattle.world_drill.proofs.Waits.{waits_in, asked_by, step_begins}
@@ -53,7 +54,7 @@ one_asked key (suc least) chain now = refl
 module _ (owner : PlacementTable → ActorKey → Option HostInfo) (part_of : ActorKey → ℕ → ℕ) where
   -- so many turns have begun at most, if those that wait are counted with them
   record BeganAtMost (n : ℕ) (w : ClusterState) : Type 0 where
-    safe : IsSafeWorld owner part_of w
+    safe : IsSafeWorld owner w
     few : begun_turns w.marks + waiting_in w.parts ≤ n
 
   few_step : (n : ℕ) (w : ClusterState) (at : ℕ) (p : PartState) (e : PartEvent) → BeganAtMost n w → slice_get w.parts at ≡ Some p

@@ -25,11 +25,13 @@ use Rattle.cluster_model.specs.World as world
 use Rattle.cluster_model.specs.World.{ClusterState, WorldStep, CallPlace, key_part, most_events}
 use Rattle.cluster_model.specs.Invariant.{version_of}
 use Rattle.cluster_model.proofs.Basics.{In-slice_get}
-use Rattle.cluster_model.proofs.Lines.{IsSafeWorld, line_kept}
+use Rattle.cluster_model.specs.Invariant.{IsSafeWorld}
+use Rattle.cluster_model.proofs.Lines.{line_kept}
 use Rattle.cluster_model.proofs.Worlds.{safe_kept}
 use Rattle.world_run.specs.Post.{numbered, told_of, AgreesOn, Agrees}
 use Rattle.world_run.specs.Views.{capped}
-use Rattle.world_run.specs.Worlds.{WorldView, view_of, cluster_of, after, GivesStep, Happens, IsToldInRange, IsFit, post_of, turns_begun, turns_ended}
+use Rattle.cluster_model.specs.Counts.{begun_turns, over_turns}
+use Rattle.world_run.specs.Worlds.{WorldView, view_of, cluster_of, after, GivesStep, Happens, IsToldInRange, IsFit, post_of}
 use Rattle.world_run.proofs.Unmarked.{marked, adds, happens_marked, begun-append, ended-append, more-capped}
 
 -- ---- fits
@@ -48,13 +50,13 @@ In-numbered ms zero x e = absurd (cc)
 In-numbered ms (suc k) x e = In-slice_get ms k x e
 
 -- the answer to a request carries the one table of its version
-agrees : (v : WorldView) (r : Request) → IsSafeWorld ring_owner key_part (cluster_of v) → In (Asks r) v.messages → Agrees (Some (Asks r)) v.moment (post_of v)
+agrees : (v : WorldView) (r : Request) → IsSafeWorld ring_owner (cluster_of v) → In (Asks r) v.messages → Agrees (Some (Asks r)) v.moment (post_of v)
 agrees v r safe i = go s.reply refl
   where
     s : PlacementStep
     s = placement_step v.placement (change_of r) v.moment
 
-    after_safe : IsSafeWorld ring_owner key_part (world.answers (cluster_of v) r s).world
+    after_safe : IsSafeWorld ring_owner (world.answers (cluster_of v) r s).world
     after_safe = (safe_kept ring_owner key_part).answer (cluster_of v) r safe i
 
     go : (reply : PlaceReply) → s.reply ≡ reply → AgreesOn v.messages v.moment s.state.table reply
@@ -65,18 +67,18 @@ agrees v r safe i = go s.reply refl
     go (replies.Unlock version) e = tt
     go reply e = tt
 
-fits_to : (v : WorldView) (x : Option Message) → IsSafeWorld ring_owner key_part (cluster_of v) → ((m : Message) → x ≡ Some m → In m v.messages) → Agrees x v.moment (post_of v)
+fits_to : (v : WorldView) (x : Option Message) → IsSafeWorld ring_owner (cluster_of v) → ((m : Message) → x ≡ Some m → In m v.messages) → Agrees x v.moment (post_of v)
 fits_to v None safe i = tt
 fits_to v (Some (Tells m a)) safe i = tt
 fits_to v (Some (Asks r)) safe i = agrees v r safe (i (Asks r) refl)
 
-in_range : (v : WorldView) (m : Member) (u : ℕ) (a : Answer) → IsSafeWorld ring_owner key_part (cluster_of v) → In (Tells m a) v.messages → version_of a ≡ Some u → u ≤ 2 ^ 62
+in_range : (v : WorldView) (m : Member) (u : ℕ) (a : Answer) → IsSafeWorld ring_owner (cluster_of v) → In (Tells m a) v.messages → version_of a ≡ Some u → u ≤ 2 ^ 62
 in_range v m u a safe i e =
     let below : u ≤ last_version v.placement = safe.safe.messages.told_below m u (a, i, e) in
     let within = safe.reached.within in
     omega arith
 
-fits_part : (v : WorldView) (x : Option Message) → IsSafeWorld ring_owner key_part (cluster_of v) → ((m : Message) → x ≡ Some m → In m v.messages) → IsToldInRange (told_of x v.moment)
+fits_part : (v : WorldView) (x : Option Message) → IsSafeWorld ring_owner (cluster_of v) → ((m : Message) → x ≡ Some m → In m v.messages) → IsToldInRange (told_of x v.moment)
 fits_part v None safe i = tt
 fits_part v (Some (Asks r)) safe i = tt
 fits_part v (Some (Tells m (LockAt u))) safe i = in_range v m u (LockAt u) safe (i _ refl) refl
@@ -85,7 +87,7 @@ fits_part v (Some (Tells m (UnlockAt u))) safe i = in_range v m u (UnlockAt u) s
 fits_part v (Some (Tells m (Says reply))) safe i = tt
 
 -- each event fits a safe cluster
-pub fits : (v : WorldView) (e : WorldEvent) → IsSafeWorld ring_owner key_part (cluster_of v) → IsFit v e
+pub fits : (v : WorldView) (e : WorldEvent) → IsSafeWorld ring_owner (cluster_of v) → IsFit v e
 fits v (lines.To k) safe = fits_to v (numbered v.messages k) safe (In-numbered v.messages k)
 fits v (lines.Part k i) safe = fits_part v (numbered v.messages k) safe (In-numbered v.messages k)
 fits v (lines.At moment) safe = tt
@@ -109,12 +111,12 @@ fits v lines.Restart safe = tt
 -- ---- safety
 
 -- the world after an event is safe, however many events are counted
-pub stays_safe : (v u : WorldView) (e : WorldEvent) (r : Result Outcome WorldError) (n : ℕ) → IsSafeWorld ring_owner key_part (cluster_of v) → Happens r v u e → IsSafeWorld ring_owner key_part (cluster_of (record u { events = n }))
+pub stays_safe : (v u : WorldView) (e : WorldEvent) (r : Result Outcome WorldError) (n : ℕ) → IsSafeWorld ring_owner (cluster_of v) → Happens r v u e → IsSafeWorld ring_owner (cluster_of (record u { events = n }))
 stays_safe v u e r n safe h = elim h [
-  | inl k ↦ subst (λ (z : WorldView). IsSafeWorld ring_owner key_part (cluster_of (record z { events = n }))) (sym k.1) (record { reached = safe.reached; safe = safe.safe })
+  | inl k ↦ subst (λ (z : WorldView). IsSafeWorld ring_owner (cluster_of (record z { events = n }))) (sym k.1) (record { reached = safe.reached; safe = safe.safe })
   | inr k ↦
-      let s = line_kept ring_owner key_part (IsSafeWorld ring_owner key_part) (safe_kept ring_owner key_part) (cluster_of v) e safe in
-      subst (λ (z : WorldView). IsSafeWorld ring_owner key_part (cluster_of (record z { events = n }))) (sym k.1) (record { reached = s.reached; safe = s.safe })
+      let s = line_kept ring_owner key_part (IsSafeWorld ring_owner) (safe_kept ring_owner key_part) (cluster_of v) e safe in
+      subst (λ (z : WorldView). IsSafeWorld ring_owner (cluster_of (record z { events = n }))) (sym k.1) (record { reached = s.reached; safe = s.safe })
 ]
 
 -- ---- the count of events
@@ -205,8 +207,8 @@ module _ (n : ℕ) where
 -- the view after a step adds the marks' counts to those before
 view_after : (w s : ClusterState) → view_of (marked s (w.marks ++ s.marks)) ≡ after (view_of w) s
 view_after w s = λ i. record (after (view_of w) s) {
-  begun = (ap capped (begun-append w.marks s.marks) ∙ sym (more-capped (turns_begun w.marks) (turns_begun s.marks))) i;
-  ended = (ap capped (ended-append w.marks s.marks) ∙ sym (more-capped (turns_ended w.marks) (turns_ended s.marks))) i;
+  begun = (ap capped (begun-append w.marks s.marks) ∙ sym (more-capped (begun_turns w.marks) (begun_turns s.marks))) i;
+  ended = (ap capped (ended-append w.marks s.marks) ∙ sym (more-capped (over_turns w.marks) (over_turns s.marks))) i;
 }
 
 -- what is done to a view is done to each cluster of this view

@@ -22,7 +22,8 @@ use Rattle.world_run.specs.declared.kept.Told.{Told}
 use Rattle.world_run.specs.Layout.{IsFirst, counted_from}
 use Rattle.world_run.specs.Post.{PostView, numbered, told_of}
 use Rattle.world_run.specs.Views.{PartsView, more, stepped, MayWant, wants, StepsAt}
-use Rattle.world_run.specs.Worlds.{WorldView, turns_begun, turns_ended, cluster_of, after, Gives, Ticks, viewed}
+use Rattle.cluster_model.specs.Counts.{begun_turns, over_turns}
+use Rattle.world_run.specs.Worlds.{WorldView, cluster_of, after, Gives, Ticks, viewed}
 use Rattle.world_run.proofs.Steps.{part_at}
 use Rattle.world_run.proofs.Scans.{booted-first, places-first}
 use Rattle.world_run.proofs.Unmarked.{begun-tagged, ended-tagged, begun-append, ended-append, more-more, marked, adds, ticks_marked}
@@ -220,8 +221,8 @@ tick_gives settings post cv moment events pv new at count turns result reply fin
             | inr w ↦ inr (
               w.0,
               w.1 ∙ (λ i. record (after v end.world) {
-                begun = (ap (λ (n : ℕ). more (more pv.begun n) (turns_begun end.world.marks)) (sym (begun-tagged h.0.member s.marks)) ∙ more-more pv.begun (turns_begun xs) (turns_begun end.world.marks) ∙ ap (λ (n : ℕ). more pv.begun n) (sym (begun-append xs end.world.marks))) i;
-                ended = (ap (λ (n : ℕ). more (more pv.ended n) (turns_ended end.world.marks)) (sym (ended-tagged h.0.member s.marks)) ∙ more-more pv.ended (turns_ended xs) (turns_ended end.world.marks) ∙ ap (λ (n : ℕ). more pv.ended n) (sym (ended-append xs end.world.marks))) i;
+                begun = (ap (λ (n : ℕ). more (more pv.begun n) (begun_turns end.world.marks)) (sym (begun-tagged h.0.member s.marks)) ∙ more-more pv.begun (begun_turns xs) (begun_turns end.world.marks) ∙ ap (λ (n : ℕ). more pv.begun n) (sym (begun-append xs end.world.marks))) i;
+                ended = (ap (λ (n : ℕ). more (more pv.ended n) (over_turns end.world.marks)) (sym (ended-tagged h.0.member s.marks)) ∙ more-more pv.ended (over_turns xs) (over_turns end.world.marks) ∙ ap (λ (n : ℕ). more pv.ended n) (sym (ended-append xs end.world.marks))) i;
               }),
             )
           ])

@@ -21,11 +21,12 @@ use Rattle.cluster_model.specs.Messages.{Request, Message, Asks, Tells, change_o
 use Rattle.cluster_model.specs.World as world
 use Rattle.cluster_model.specs.World.{ClusterState, WorldStep, CallPlace, TraceMark, key_part, tagged, ask_of}
 use Rattle.world_run.specs.Views.{capped, more, began_in, ended_in}
-use Rattle.world_run.specs.Worlds.{turns_begun, turns_ended}
+use Rattle.cluster_model.specs.Counts.{begun_turns, over_turns}
+
 
 -- ---- counts
 
-pub begun-tagged : (m : Member) (ms : List PartMark) → turns_begun (tagged m ms) ≡ began_in ms
+pub begun-tagged : (m : Member) (ms : List PartMark) → begun_turns (tagged m ms) ≡ began_in ms
 begun-tagged m [] = refl
 begun-tagged m (TurnBegan key call chain ∷ ms) = (let e = begun-tagged m ms in omega arith)
 begun-tagged m (TurnEnded key call ∷ ms) = (let e = begun-tagged m ms in omega arith)
@@ -33,7 +34,7 @@ begun-tagged m (BecameActive key version ∷ ms) = (let e = begun-tagged m ms in
 begun-tagged m (BecameInactive key ∷ ms) = (let e = begun-tagged m ms in omega arith)
 begun-tagged m (PartOpened number version ∷ ms) = (let e = begun-tagged m ms in omega arith)
 
-pub ended-tagged : (m : Member) (ms : List PartMark) → turns_ended (tagged m ms) ≡ ended_in ms
+pub ended-tagged : (m : Member) (ms : List PartMark) → over_turns (tagged m ms) ≡ ended_in ms
 ended-tagged m [] = refl
 ended-tagged m (TurnBegan key call chain ∷ ms) = (let e = ended-tagged m ms in omega arith)
 ended-tagged m (TurnEnded key call ∷ ms) = (let e = ended-tagged m ms in omega arith)
@@ -41,11 +42,11 @@ ended-tagged m (BecameActive key version ∷ ms) = (let e = ended-tagged m ms in
 ended-tagged m (BecameInactive key ∷ ms) = (let e = ended-tagged m ms in omega arith)
 ended-tagged m (PartOpened number version ∷ ms) = (let e = ended-tagged m ms in omega arith)
 
-pub begun-append : (xs ys : List TraceMark) → turns_begun (xs ++ ys) ≡ turns_begun xs + turns_begun ys
+pub begun-append : (xs ys : List TraceMark) → begun_turns (xs ++ ys) ≡ begun_turns xs + begun_turns ys
 begun-append [] ys = omega arith
 begun-append (x ∷ xs) ys = (let e = begun-append xs ys in omega arith)
 
-pub ended-append : (xs ys : List TraceMark) → turns_ended (xs ++ ys) ≡ turns_ended xs + turns_ended ys
+pub ended-append : (xs ys : List TraceMark) → over_turns (xs ++ ys) ≡ over_turns xs + over_turns ys
 ended-append [] ys = omega arith
 ended-append (x ∷ xs) ys = (let e = ended-append xs ys in omega arith)
 

@@ -1,7 +1,6 @@
 -- What contracts see of the world of a cluster script: the cluster's state without its marks, and how many turns began
 -- and ended, which the marks tell. Own.
 use Rattle.std.specs.Prelude.{◌≡◌, ◌⊎◌, ℕ, ◌+◌, ◌-◌, ◌<◌, length, slice_get, List, [], ◌∷◌, ◌++◌, MatchResult, Option, None, Some, IfSome, Result, Ok, Err}
-use Rattle.part_core.specs.Marks.{PartMark, TurnBegan, TurnEnded, BecameActive, BecameInactive, PartOpened}
 use Rattle.part_core.specs.Part.{PartState, ring_owner}
 use Rattle.part_core.specs.Rooms.{IsInRange}
 use Rattle.round_core.specs.Placement.{PlacementState}
@@ -12,8 +11,9 @@ use Rattle.world_events.specs.declared.outcome.Outcome.{Outcome}
 use Rattle.world_events.specs.declared.outcome.Outcome.TheVariants as out
 use Rattle.world_events.specs.declared.error.WorldError.{WorldError}
 use Rattle.world_events.specs.declared.error.WorldError.TheVariants.{OutOfMemory}
+use Rattle.cluster_model.specs.Counts.{begun_turns, over_turns}
 use Rattle.cluster_model.specs.Messages.{Message}
-use Rattle.cluster_model.specs.World.{ClusterState, CallPlace, TraceMark, WorldStep, key_part, call_at, tick_each, happens, cluster_step}
+use Rattle.cluster_model.specs.World.{ClusterState, CallPlace, WorldStep, key_part, call_at, tick_each, happens, cluster_step}
 use Rattle.world_run.specs.CallIndex.{CallsView, call_place}
 use Rattle.world_run.specs.declared.calls.CallAt.{CallAt}
 use Rattle.world_run.specs.Layout.{counted_from}
@@ -33,32 +33,6 @@ pub record WorldView : Type 0 where
   pub begun : ℕ  -- turns, up to the greatest number of 64 bits
   pub ended : ℕ  -- the same
 
--- ---- turns in marks
-
-abbrev pub begins_turn : PartMark → ℕ
-begins_turn (TurnBegan key call chain) = 1
-begins_turn (TurnEnded key call) = 0
-begins_turn (BecameActive key version) = 0
-begins_turn (BecameInactive key) = 0
-begins_turn (PartOpened number version) = 0
-
-abbrev pub ends_turn : PartMark → ℕ
-ends_turn (TurnBegan key call chain) = 0
-ends_turn (TurnEnded key call) = 1
-ends_turn (BecameActive key version) = 0
-ends_turn (BecameInactive key) = 0
-ends_turn (PartOpened number version) = 0
-
--- how many turns began
-abbrev pub turns_begun : List TraceMark → ℕ
-turns_begun [] = 0
-turns_begun (x ∷ xs) = begins_turn x.what + turns_begun xs
-
--- how many turns ended
-abbrev pub turns_ended : List TraceMark → ℕ
-turns_ended [] = 0
-turns_ended (x ∷ xs) = ends_turn x.what + turns_ended xs
-
 -- ---- the view of a cluster
 
 abbrev pub view_of : ClusterState → WorldView
@@ -72,8 +46,8 @@ view_of w =
       moment = w.now;
       calls = w.calls;
       events = w.events;
-      begun = capped (turns_begun w.marks);
-      ended = capped (turns_ended w.marks);
+      begun = capped (begun_turns w.marks);
+      ended = capped (over_turns w.marks);
     }
 
 -- how many turns are open
@@ -103,8 +77,8 @@ after v w =
       moment = w.now;
       calls = w.calls;
       events = w.events;
-      begun = more v.begun (turns_begun w.marks);
-      ended = more v.ended (turns_ended w.marks);
+      begun = more v.begun (begun_turns w.marks);
+      ended = more v.ended (over_turns w.marks);
     }
 
 -- the same of a step that begins with no mark

@@ -219,3 +219,56 @@ fn restart_starts_next_version(rt: HostRuntime) -> Result<(), Fail> {
     assert_eq!(rt; world.last_version(), 2);
     Ok(())
 }
+
+/// The actor is held.
+fn hold(world: &mut World, alloc: Global) -> Result<&'static str, Fail> {
+    let member = first()?;
+    let key = actor(alloc)?;
+    Ok(step(world, alloc, WorldEvent::Hold { member, key }))
+}
+
+/// One hold of the actor is over.
+fn release(world: &mut World, alloc: Global) -> Result<&'static str, Fail> {
+    let member = first()?;
+    let key = actor(alloc)?;
+    Ok(step(world, alloc, WorldEvent::Release { member, key }))
+}
+
+#[test]
+fn each_other_event_has_its_outcome(rt: HostRuntime) -> Result<(), Fail> {
+    let alloc = rt.alloc();
+    let mut world = open_world(alloc)?;
+    let _ = call(&mut world, alloc)?;
+    assert_eq!(rt;
+        step(&mut world, alloc, WorldEvent::Poll { call: 1 }),
+        "begun"
+    );
+    assert_eq!(rt; hold(&mut world, alloc)?, "held");
+    assert_eq!(rt; release(&mut world, alloc)?, "released");
+    assert_eq!(rt;
+        step(&mut world, alloc, WorldEvent::At { moment: 10 }),
+        "at"
+    );
+    assert_eq!(rt;
+        step(&mut world, alloc, WorldEvent::Tick { member: first()? }),
+        "tick"
+    );
+    assert_eq!(rt;
+        step(&mut world, alloc, WorldEvent::Beat { member: first()? }),
+        "beat"
+    );
+    assert_eq!(rt;
+        step(&mut world, alloc, WorldEvent::Leave { member: first()? }),
+        "not-stopped"
+    );
+    let _ = stop(&mut world, alloc)?;
+    assert_eq!(rt;
+        step(&mut world, alloc, WorldEvent::Leave { member: first()? }),
+        "leave"
+    );
+    assert_eq!(rt;
+        step(&mut world, alloc, WorldEvent::PlacementTick),
+        "dropped"
+    );
+    Ok(())
+}

@@ -25,15 +25,14 @@ pub struct World {
 
 impl Model for World {
     ghost use Rattle.part_core.specs.Part.{ring_owner};
-    ghost use Rattle.cluster_model.specs.World.{key_part};
-    ghost use Rattle.cluster_model.proofs.Lines.{IsSafeWorld};
+    ghost use Rattle.cluster_model.specs.Invariant.{IsSafeWorld};
     ghost use Rattle.world_run.specs.Worlds.{WorldView, cluster_of};
 
     ghost Value = { WorldView };
 
     ghost view = { λ a. a.cluster };
 
-    ghost invariant = { λ a. IsSafeWorld ring_owner key_part (cluster_of a.cluster) };
+    ghost invariant = { λ a. IsSafeWorld ring_owner (cluster_of a.cluster) };
 }
 
 impl World {

@@ -1,7 +1,7 @@
 use Rattle.std.proofs.Common.{◌≡◌, ◌+◌, ℕ, sym, ap, ◌∙◌, subst, arith}
 use Rattle.part_core.specs.Part.{ring_owner}
 use Rattle.cluster_model.specs.World.{key_part, cluster_step}
-use Rattle.cluster_model.proofs.Lines.{IsSafeWorld}
+use Rattle.cluster_model.specs.Invariant.{IsSafeWorld}
 use Rattle.world_run.specs.Worlds.{WorldView, Happens, GivesStep, cluster_of}
 use Rattle.world_run.proofs.Fits.{fits, stays_safe, step_done, step_refused, is_done, is_refused}
 use Rattle.world_run.proofs.world.World.step.Goals as goal
@@ -11,7 +11,7 @@ happens-result-requires c = fits c.self.inside.cluster c.args.event c.self.invar
 
 pub invariant_of-self : goal.invariant_of-self
 invariant_of-self c =
-    subst (λ (v : WorldView). IsSafeWorld ring_owner key_part (cluster_of v)) (sym c.set_events.ensures)
+    subst (λ (v : WorldView). IsSafeWorld ring_owner (cluster_of v)) (sym c.set_events.ensures)
     (stays_safe c.self.inside.cluster c.happens-result.new.self c.args.event c.happens-result.result (c.events-events.result + 1) c.self.invariant c.happens-result.ensures)
 
 pub invariant_of-self-else-is_ok : goal.invariant_of-self-else-is_ok
