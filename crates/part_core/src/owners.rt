@@ -25,7 +25,7 @@ pub(crate) fn is_same_member(a: &Member, b: &Member) -> bool
 pub(crate) fn owner_host<'a>(table: &'a Table, key: &ActorKey) -> Option<&'a HostInfo>
     ensures { option_copied result ≡ ring_owner table.now key.now }
 {
-    table.owner(key)
+    table.owner_uncounted(key)
 }
 
 /// Whether the table gives the actor to the member.

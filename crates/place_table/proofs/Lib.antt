@@ -3,6 +3,9 @@ pub mod Owners
 pub mod RingSteps
 pub mod Picks
 pub mod TableOwners
+pub mod PointSearch
+pub mod SlotOrder
+pub mod Halving
 pub mod RingBuilds
 pub mod NodeOrder
 pub mod Moves

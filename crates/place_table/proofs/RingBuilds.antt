@@ -14,6 +14,7 @@ use Rattle.place_table.specs.declared.table.TypeRing.{TypeRing}
 use Rattle.place_table.specs.Hosts.{node_of, serves, node_points, point_at, host_points, ring_points}
 use Rattle.place_table.specs.Tables.{slot_point, slot_at, found_node, places_of, row_items, is_known, kept_slots, IsRingOf}
 use Rattle.place_table.proofs.TableOwners.{found_host, empty_from_unserved}
+use Rattle.place_table.proofs.SlotOrder.{empty_ring}
 
 -- ---- one host more
 
@@ -105,9 +106,6 @@ unknown_case kind r rs more false e = more e
 nothing_kept : (kind : List ℕ) (rings : List TypeRing) → is_known kind rings ≡ false → kept_slots kind rings ≡ []
 nothing_kept kind [] e = refl
 nothing_kept kind (r ∷ rs) e = unknown_case kind r rs (nothing_kept kind rs) (bytes_eq r.kind kind) e
-
-empty_ring : (hosts : List HostInfo) (kind : List ℕ) → ring_points hosts kind ≡ [] → IsRingOf hosts kind []
-empty_ring hosts kind e = record { points = sym e; numbers = All-nil (λ (s : Slot). s.host < length hosts) }
 
 -- each type that a host serves is known, so what is kept of any type is its points
 pub rings_kept : (hosts : List HostInfo) (rings : List TypeRing) → All (λ (r : TypeRing). IsRingOf hosts r.kind r.slots.items) rings → ((k : List ℕ) → list_any (λ h. serves h k) hosts ≡ true → is_known k rings ≡ true) → (kind : List ℕ) → IsRingOf hosts kind (kept_slots kind rings)

@@ -1,8 +1,6 @@
 -- One point more on the left of those that a scan from the end has seen.
 use Rattle.std.specs.Prelude.{◌≡◌, ℕ, ◌-◌, ◌<◌, ◌≤◌, Bool, true, false, nat_le, if◌then◌else◌, List, ◌∷◌, length, drop, Option, filter, suc}
-use Rattle.std.proofs.Common.{refl, sym, ◌∙◌, ap, subst, arith, drop-cons, get_or, IfSome, map}
-use Rattle.std.specs.Option.{ForSome}
-use Rattle.std.proofs.lemmas.List.{get_or-map}
+use Rattle.std.proofs.Common.{refl, sym, ◌∙◌, ap, arith, drop-cons, get_or}
 use Rattle.place_table.specs.declared.point.Point.{Point}
 use Rattle.place_table.specs.Ring.{lesser, least}
 
@@ -25,11 +23,3 @@ least_from_back xs place i p from above within read e =
     ap (λ o. if nat_le place p.place then lesser p o else o) e
     ∙ sym (least_if (nat_le place p.place) p (filter (λ q. nat_le place q.place) (drop i xs)))
     ∙ sym (ap (λ ys. least (filter (λ q. nat_le place q.place) ys)) (drop_back xs i p above within read))
-
--- the element of a mapped list
-pub mapped_at : {X Y : Type 0} (f : X → Y) (xs : List X) (i : ℕ) (d : X) → i < length xs → f (get_or xs i d) ≡ get_or (map f xs) i (f (get_or xs i d))
-mapped_at f xs i d within = sym (get_or-map f xs i d (f (get_or xs i d)) within)
-
--- a fact of the value, where there is one, follows along an equation
-pub on_value : {X : Type 0} (P : X → Type 0) (r : Option X) → IfSome r P → ForSome r P
-on_value P r h x e = subst (λ o. IfSome o P) e h

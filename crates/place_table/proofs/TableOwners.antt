@@ -1,5 +1,5 @@
 -- From the kept point that owns a place to the host that owns the actor.
-use Rattle.std.specs.Prelude.{◌≡◌, ℕ, ◌<◌, Bool, true, false, ◌||◌, if◌then◌else◌, List, [], ◌∷◌, ◌++◌, length, map, Some, None, option_map, option_and_then, slice_get, suc, zero}
+use Rattle.std.specs.Prelude.{◌≡◌, ℕ, ◌<◌, Bool, true, false, ◌||◌, if◌then◌else◌, List, [], ◌∷◌, ◌++◌, length, Some, None, option_map, option_and_then, slice_get, suc, zero}
 use Rattle.std.proofs.Common.{refl, sym, ◌∙◌, ap, subst, true≢false, arith, get_or, length-append, is_some}
 use Rattle.std.specs.List.{list_any, AllByRecursion}
 use Rattle.std.specs.List.Sorted.{IsStrictlySortedBy}
@@ -17,7 +17,7 @@ use Rattle.place_table.specs.declared.host.HostInfo.{HostInfo}
 use Rattle.place_table.specs.declared.table.Slot.{Slot}
 use Rattle.place_table.specs.Ring.{owner_point, IsOwner}
 use Rattle.place_table.specs.Hosts.{node_of, node_cmp, serves, node_places, node_points, point_at, ring_points, owner_of, host_of, key_place}
-use Rattle.place_table.specs.Tables.{IsNodeSorted, slot_point, found_node, IsRingOf}
+use Rattle.place_table.specs.Tables.{IsNodeSorted, slot_point, found_node}
 use Rattle.place_table.proofs.Picks.{owner_from_some, empty_from_none}
 
 -- ---- a host found again by its node
@@ -32,7 +32,7 @@ node_differs x h e =
       | false ↦ λ _. refl
     ] refl
 
-later_at : (P : HostInfo → Type 0) (hosts : List HostInfo) (i : ℕ) (h : HostInfo) → AllByRecursion P hosts → slice_get hosts i ≡ Some h → P h
+pub later_at : (P : HostInfo → Type 0) (hosts : List HostInfo) (i : ℕ) (h : HostInfo) → AllByRecursion P hosts → slice_get hosts i ≡ Some h → P h
 later_at P [] i h all e = absurd (true≢false (ap is_some (sym e)))
 later_at P (x ∷ xs) zero h all e = let same : x ≡ h = cc in subst P same all.0
 later_at P (x ∷ xs) (suc i) h all e = later_at P xs i h all.1 e
@@ -79,9 +79,6 @@ empty_from_unserved (x ∷ xs) kind e = unserved_case x (ring_points xs kind) (l
 
 -- ---- the host of the kept point
 
-pub ring_owner : (hosts : List HostInfo) (kind : List ℕ) (slots : List Slot) (place : ℕ) (slot : Slot) → IsRingOf hosts kind slots → Some (slot_point hosts slot) ≡ owner_point (map (slot_point hosts) slots) place → Some (slot_point hosts slot) ≡ owner_point (ring_points hosts kind) place
-ring_owner hosts kind slots place slot ring e = e ∙ ap (λ ps. owner_point ps place) ring.points
-
 pub found_host : (hosts : List HostInfo) (i : ℕ) (h : HostInfo) → i < length hosts → h ≡ get_or hosts i h → slice_get hosts i ≡ Some h
 found_host hosts i h within read = slice_get_read hosts (length hosts) i h refl within read
 
@@ -94,8 +91,8 @@ owner_is hosts key slot h sorted found owns =
 pub owner_point_is : (hosts : List HostInfo) (kind : List ℕ) (place : ℕ) (slot : Slot) (h : HostInfo) → slice_get hosts slot.host ≡ Some h → Some (slot_point hosts slot) ≡ owner_point (ring_points hosts kind) place → (p : Point) × IsOwner (ring_points hosts kind) place p × (p.node ≡ node_of h)
 owner_point_is hosts kind place slot h found owns = (slot_point hosts slot, owner_from_some (ring_points hosts kind) place (slot_point hosts slot) owns, ap found_node found)
 
-pub none_owns : (hosts : List HostInfo) (kind : List ℕ) (slots : List Slot) (place : ℕ) → IsRingOf hosts kind slots → None ≡ owner_point (map (slot_point hosts) slots) place → list_any (λ h. serves h kind) hosts ≡ false
-none_owns hosts kind slots place ring e = unserved_from_empty hosts kind (sym ring.points ∙ empty_from_none (map (slot_point hosts) slots) place e)
+pub none_owns : (hosts : List HostInfo) (kind : List ℕ) (place : ℕ) → None ≡ owner_point (ring_points hosts kind) place → list_any (λ h. serves h kind) hosts ≡ false
+none_owns hosts kind place e = unserved_from_empty hosts kind (empty_from_none (ring_points hosts kind) place e)
 
 pub some_owns : (hosts : List HostInfo) (kind : List ℕ) (place : ℕ) (p : Point) → Some p ≡ owner_point (ring_points hosts kind) place → list_any (λ h. serves h kind) hosts ≡ false → true ≡ false
 some_owns hosts kind place p owns unserved = ap is_some (owns ∙ ap (λ ps. owner_point ps place) (empty_from_unserved hosts kind unserved))
@@ -104,6 +101,5 @@ pub owner_node_is : (hosts : List HostInfo) (key : ActorKey) (slot : Slot) (h : 
 owner_node_is hosts key slot h found owns =
     ap (λ o. Some (found_node o)) (sym found) ∙ ap (λ o. option_map (λ (p : Point). p.node) o) owns
 
-pub no_owner_node : (hosts : List HostInfo) (key : ActorKey) (slots : List Slot) (place : ℕ) → IsRingOf hosts key.kind slots → place ≡ key_place key.id → None ≡ owner_point (map (slot_point hosts) slots) place → None ≡ owner_of hosts key
-no_owner_node hosts key slots place ring e owns =
-    ap (λ o. option_map (λ (p : Point). p.node) o) (owns ∙ ap (λ ps. owner_point ps place) ring.points ∙ ap (λ n. owner_point (ring_points hosts key.kind) n) e)
+pub no_owner_node : (hosts : List HostInfo) (key : ActorKey) → None ≡ owner_point (ring_points hosts key.kind) (key_place key.id) → None ≡ owner_of hosts key
+no_owner_node hosts key owns = ap (λ o. option_map (λ (p : Point). p.node) o) owns

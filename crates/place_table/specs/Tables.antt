@@ -1,6 +1,9 @@
--- What a table keeps beside its hosts: the points of each type. Own.
-use Rattle.std.specs.Prelude.{◌≡◌, ℕ, ◌<◌, if◌then◌else◌, List, [], ◌∷◌, length, All, map, Option, Some, None, Bool, Vec}
-use Rattle.std.specs.List.{slice_get, list_any}
+-- What a table keeps beside its hosts: the points of each type, in order. Own.
+use Rattle.std.specs.Prelude.{◌≡◌, ℕ, ◌<◌, if◌then◌else◌, List, [], ◌∷◌, length, All, map, Option, Some, None, Bool, Vec, nat_le, IsPermutation, IsSorted}
+use Rattle.std.specs.List.{slice_get, list_any, find}
+use Rattle.std.specs.Option.{option_or}
+use Rattle.std.specs.declared.cmp.Ordering.{Ordering}
+use Rattle.std.specs.Ordering.{nat_cmp, on, then_cmp}
 use Rattle.std.specs.declared.alloc.Global.{Global}
 use Rattle.std.specs.List.Sorted.{IsStrictlySortedBy}
 use Rattle.std.specs.Str.{bytes_eq}
@@ -8,6 +11,7 @@ use Rattle.place_table.specs.declared.point.Point.{Point}
 use Rattle.place_table.specs.declared.host.HostInfo.{HostInfo}
 use Rattle.place_table.specs.declared.table.Slot.{Slot}
 use Rattle.place_table.specs.declared.table.TypeRing.{TypeRing}
+use Rattle.place_table.specs.Ring.{point_cmp}
 use Rattle.place_table.specs.Hosts.{node_of, node_cmp, node_places, ring_points}
 
 -- in byte order of node, no node twice
@@ -42,12 +46,26 @@ abbrev pub kept_slots : List ℕ → List TypeRing → List Slot
 kept_slots kind [] = []
 kept_slots kind (ring ∷ rings) = if bytes_eq ring.kind kind then ring.slots.items else kept_slots kind rings
 
--- these are the points of the type among the hosts
-pub record IsRingOf (hosts : List HostInfo) (kind : List ℕ) (slots : List Slot) : Type 0 where
+-- by place, and at one place by the number of the host
+abbrev pub slot_cmp : Slot → Slot → Ordering
+slot_cmp = then_cmp (on (λ s. s.place) nat_cmp) (on (λ s. s.host) nat_cmp)
+
+-- the first of the points at or after the place, or else the first of all
+abbrev pub next_slot : List Slot → ℕ → Option Slot
+next_slot slots place = option_or (find (λ s. nat_le place s.place) slots) (slice_get slots 0)
+
+-- these are the points of the type among the hosts, in the order of the hosts
+pub record IsListOf (hosts : List HostInfo) (kind : List ℕ) (slots : List Slot) : Type 0 where
   pub points : map (slot_point hosts) slots ≡ ring_points hosts kind
   pub numbers : All (λ s. s.host < length hosts) slots
 
--- the hosts are in order, and the points of each type are kept
+-- these are the points of the type among the hosts, in order of place, and at one place in byte order of node
+pub record IsRingOf (hosts : List HostInfo) (kind : List ℕ) (slots : List Slot) : Type 0 where
+  pub points : IsPermutation (ring_points hosts kind) (map (slot_point hosts) slots)
+  pub ordered : IsSorted point_cmp (map (slot_point hosts) slots)
+  pub numbers : All (λ s. s.host < length hosts) slots
+
+-- the hosts are in order, and the points of each type are kept in order
 pub record IsTableKept (hosts : List HostInfo) (rings : List TypeRing) : Type 0 where
   pub ordered : IsNodeSorted hosts
   pub kept : (kind : List ℕ) → IsRingOf hosts kind (kept_slots kind rings)

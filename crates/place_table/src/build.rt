@@ -1,12 +1,13 @@
-// The points of the hosts of a table, hashed once for each host and kept for each type.
+// The points of the hosts of a table, hashed once for each host, and kept in order for each type.
 ghost use Rattle.std.specs.Prelude.{◌≡◌, ◌<◌, ◌++◌, ℕ, List, [], if◌then◌else◌, true, All, map, length, IfOk, OnOk};
 ghost use Rattle.std.specs.List.{list_any};
 ghost use Rattle.std.specs.Str.{bytes_eq};
 ghost use Rattle.place_table.specs.Hosts.{node_of, serves, node_places};
-ghost use Rattle.place_table.specs.Tables.{slot_at, places_of, row_items, is_known, kept_slots, IsRingOf};
+ghost use Rattle.place_table.specs.Tables.{slot_at, places_of, row_items, is_known, kept_slots, IsNodeSorted, IsListOf, IsRingOf};
 
 use crate::hash::point_place;
 use crate::host::HostInfo;
+use crate::slots::sort_slots;
 use crate::table::{Slot, TypeRing};
 use actor_names::{ActorType, Node, OutOfMemory};
 use std::alloc::Global;
@@ -73,20 +74,36 @@ fn push_host(
     Ok(())
 }
 
-// The points of the hosts that serve the type.
-fn ring_of(
+// The points of the hosts that serve the type, in the order of the hosts.
+fn points_of(
     alloc: Global,
     hosts: &[HostInfo],
     rows: &[Vec<u64>],
     kind: &ActorType,
 ) -> Result<Vec<Slot>, OutOfMemory>
     requires { map row_items rows.now ≡ map places_of hosts.now }
-    ensures { IfOk result (λ v. IsRingOf hosts.now kind.now v.items) }
+    ensures { IfOk result (λ v. IsListOf hosts.now kind.now v.items) }
 {
     let mut slots = Vec::new(alloc);
     for i in 0..hosts.len() {
         push_host(&mut slots, &hosts[i], i, rows[i].as_slice(), kind)?;
     }
+    Ok(slots)
+}
+
+// The points of the hosts that serve the type, in order.
+fn ring_of(
+    alloc: Global,
+    hosts: &[HostInfo],
+    rows: &[Vec<u64>],
+    kind: &ActorType,
+) -> Result<Vec<Slot>, OutOfMemory>
+    requires places { map row_items rows.now ≡ map places_of hosts.now }
+    requires order { IsNodeSorted hosts.now }
+    ensures { IfOk result (λ v. IsRingOf hosts.now kind.now v.items) }
+{
+    let mut slots = points_of(alloc, hosts, rows, kind)?;
+    sort_slots(&mut slots);
     Ok(slots)
 }
 
@@ -108,6 +125,7 @@ fn add_ring(
     kind: &ActorType,
 ) -> Result<(), OutOfMemory>
     requires places { map row_items rows.now ≡ map places_of hosts.now }
+    requires order { IsNodeSorted hosts.now }
     requires rings { All (λ r. IsRingOf hosts.now r.kind r.slots.items) rings.old.items }
     ensures rings { OnOk result (All (λ r. IsRingOf hosts.now r.kind r.slots.items) rings.new.items) }
     ensures known { OnOk result (is_known kind.now rings.new.items ≡ true) }
@@ -133,6 +151,7 @@ fn add_rings(
     kinds: &[ActorType],
 ) -> Result<(), OutOfMemory>
     requires places { map row_items rows.now ≡ map places_of hosts.now }
+    requires order { IsNodeSorted hosts.now }
     requires rings { All (λ r. IsRingOf hosts.now r.kind r.slots.items) rings.old.items }
     ensures rings { OnOk result (All (λ r. IsRingOf hosts.now r.kind r.slots.items) rings.new.items) }
     ensures known { OnOk result ((k : List ℕ) → list_any (λ x. bytes_eq x k) kinds.now ≡ true → is_known k rings.new.items ≡ true) }
@@ -150,7 +169,8 @@ pub(crate) fn all_rings(
     hosts: &[HostInfo],
     rows: &[Vec<u64>],
 ) -> Result<Vec<TypeRing>, OutOfMemory>
-    requires { map row_items rows.now ≡ map places_of hosts.now }
+    requires places { map row_items rows.now ≡ map places_of hosts.now }
+    requires order { IsNodeSorted hosts.now }
     ensures { IfOk result (λ v. (kind : List ℕ) → IsRingOf hosts.now kind (kept_slots kind v.items)) }
 {
     let mut rings = Vec::new(alloc);

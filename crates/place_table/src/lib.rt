@@ -15,6 +15,7 @@ mod point;
 mod ring;
 mod slots;
 mod sort;
+mod steps;
 mod table;
 
 pub use ack_stage::AckStage;
@@ -25,6 +26,7 @@ pub use host::{ActorTypes, HostInfo};
 pub use moved::moved_law;
 pub use point::Point;
 pub use ring::ring_pick;
+pub use steps::Steps;
 pub use table::{Table, build_table};
 
 #[cfg(test)]

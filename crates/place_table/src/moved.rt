@@ -38,7 +38,7 @@ fn is_same_node(first: Option<&HostInfo>, second: Option<&HostInfo>) -> bool
 fn has_moved(before: &Table, after: &Table, key: &ActorKey) -> bool
     ensures { IsTrue result ↔ (owner_of after.now.hosts key.now ≢ owner_of before.now.hosts key.now) }
 {
-    !is_same_node(after.owner(key), before.owner(key))
+    !is_same_node(after.owner_uncounted(key), before.owner_uncounted(key))
 }
 
 /// Whether the actor has another owner among the hosts and one more than among the hosts alone, in tables of

@@ -1,13 +1,13 @@
 // The points that a table keeps of a type, and the one of them that owns a place.
-ghost use Rattle.std.specs.Prelude.{◌≡◌, ◌<◌, All, map, length, IfSome, nat_le, if◌then◌else◌, option_map};
-ghost use Rattle.std.specs.Option.{ForSome};
-ghost use Rattle.place_table.specs.Ring.{is_before, lesser, owner_point};
-ghost use Rattle.place_table.specs.Tables.{kept_slots, slot_point};
+ghost use Rattle.std.specs.Prelude.{◌≡◌, ◌+◌, ◌-◌, ◌*◌, ◌^◌, ◌≤◌, length, nat_le, IsPermutation, IsSorted};
+ghost use Rattle.std.specs.List.{position_or_len};
+ghost use Rattle.std.specs.List.Sorted.{IsNonDecreasingBy};
+ghost use Rattle.place_table.specs.Tables.{kept_slots, slot_cmp, next_slot};
 
-use crate::host::HostInfo;
+use crate::steps::Steps;
 use crate::table::{Slot, TypeRing};
 use actor_names::ActorType;
-use std::cmp::Ordering;
+use std::sync::ledger::Ledger;
 
 // The points that are kept of the type.
 pub(crate) fn ring_slots<'a>(rings: &'a [TypeRing], kind: &ActorType) -> &'a [Slot]
@@ -21,68 +21,58 @@ pub(crate) fn ring_slots<'a>(rings: &'a [TypeRing], kind: &ActorType) -> &'a [Sl
     &[]
 }
 
-// Tests whether a point is before another: by place, then in byte order of node.
-fn is_slot_before(hosts: &[HostInfo], p: Slot, q: Slot) -> bool
-    requires first { p.host < length hosts.now }
-    requires second { q.host < length hosts.now }
-    ensures { result ≡ is_before (slot_point hosts.now p) (slot_point hosts.now q) }
+// Puts points in order of place, and at one place in order of their hosts' numbers; takes no memory.
+pub(crate) fn sort_slots(slots: &mut Vec<Slot>)
+    ensures same { IsPermutation slots.old.items slots.new.items }
+    ensures sorted { IsSorted slot_cmp slots.new.items }
 {
-    match p.place.cmp(&q.place) {
-        Ordering::Less => true,
-        Ordering::Equal => {
-            let first = hosts[p.host].member.node.as_slice();
-            first.cmp(&hosts[q.host].member.node.as_slice()) == Ordering::Less
-        }
-        Ordering::Greater => false,
-    }
+    slots.sort_unstable_by(|a, b| a.place.cmp(&b.place).then(a.host.cmp(&b.host)));
 }
 
-// The lesser of a point and the least of those after it.
-fn lesser_slot(hosts: &[HostInfo], p: &Slot, best: Option<Slot>) -> Option<Slot>
-    requires one { p.now.host < length hosts.now }
-    requires other { ForSome best (λ q. q.host < length hosts.now) }
-    ensures least { option_map (slot_point hosts.now) result ≡ lesser (slot_point hosts.now p.now) (option_map (slot_point hosts.now) best) }
-    ensures number { IfSome result (λ q. q.host < length hosts.now) }
+// Looks at a point: tests whether it is at or after the place.
+fn is_from<L: Ledger>(slot: Slot, place: u64, steps: &mut Steps<L>) -> bool
+    ensures from { result ≡ nat_le place slot.place }
+    ensures one { steps.new ≡ steps.old + 1 }
 {
-    match best {
-        None => Some(*p),
-        Some(q) => {
-            if is_slot_before(hosts, q, *p) {
-                Some(q)
-            } else {
-                Some(*p)
-            }
-        }
-    }
+    steps.tick();
+    place <= slot.place
 }
 
-// The same, where only a point at or after the place counts.
-fn lesser_slot_from(hosts: &[HostInfo], p: &Slot, place: u64, best: Option<Slot>) -> Option<Slot>
-    requires one { p.now.host < length hosts.now }
-    requires other { ForSome best (λ q. q.host < length hosts.now) }
-    ensures least { option_map (slot_point hosts.now) result ≡ (if nat_le place p.now.place then lesser (slot_point hosts.now p.now) (option_map (slot_point hosts.now) best) else option_map (slot_point hosts.now) best) }
-    ensures number { IfSome result (λ q. q.host < length hosts.now) }
+// The number of the first point at or after the place, or else how many points there are. They are in order of
+// place, and each look halves those that are left.
+fn first_from<L: Ledger>(slots: &[Slot], place: u64, steps: &mut Steps<L>) -> usize
+    requires { IsNonDecreasingBy (λ s. s.place) slots.now }
+    ensures first { result ≡ position_or_len (λ s. nat_le place s.place) slots.now }
+    ensures counted { steps.old ≤ steps.new }
+    ensures probes { 2 ^ (steps.new - steps.old) ≤ 2 * length slots.now + 2 }
 {
-    if place <= p.place {
-        lesser_slot(hosts, p, best)
-    } else {
-        best
+    let mut low = 0;
+    let mut high = slots.len();
+    while low < high {
+        let mid = low + (high - low) / 2;
+        if is_from(slots[mid], place, steps) {
+            high = mid;
+        } else {
+            low = mid + 1;
+        }
     }
+    low
 }
 
 // The kept point that owns the place.
-pub(crate) fn owner_slot(hosts: &[HostInfo], slots: &[Slot], place: u64) -> Option<Slot>
-    requires { All (λ s. s.host < length hosts.now) slots.now }
-    ensures owner { option_map (slot_point hosts.now) result ≡ owner_point (map (slot_point hosts.now) slots.now) place }
-    ensures number { IfSome result (λ q. q.host < length hosts.now) }
+pub(crate) fn owner_slot<L: Ledger>(
+    slots: &[Slot],
+    place: u64,
+    steps: &mut Steps<L>,
+) -> Option<Slot>
+    requires { IsNonDecreasingBy (λ s. s.place) slots.now }
+    ensures owner { result ≡ next_slot slots.now place }
+    ensures counted { steps.old ≤ steps.new }
+    ensures probes { 2 ^ (steps.new - steps.old) ≤ 2 * length slots.now + 2 }
 {
-    let mut from = None;
-    let mut all = None;
-    let mut i = slots.len();
-    while i > 0 {
-        i -= 1;
-        from = lesser_slot_from(hosts, &slots[i], place, from);
-        all = lesser_slot(hosts, &slots[i], all);
+    let first = first_from(slots, place, steps);
+    match slots.get(first) {
+        Some(slot) => Some(*slot),
+        None => slots.first().copied(),
     }
-    from.or(all)
 }

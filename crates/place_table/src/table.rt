@@ -1,5 +1,5 @@
 // Placement tables.
-ghost use Rattle.std.specs.Prelude.{◌≡◌, ◌↔◌, ◌<◌, ◌≤◌, ℕ, List, [], length, false, IsNone, None, IfSome, IfOk, OnOk, Contains, IsPermutation, option_map, option_and_then};
+ghost use Rattle.std.specs.Prelude.{◌≡◌, ◌↔◌, ◌<◌, ◌≤◌, ◌+◌, ◌-◌, ◌*◌, ◌^◌, ℕ, List, [], length, false, IsNone, None, IfSome, IfOk, OnOk, Contains, IsPermutation, option_map, option_and_then};
 ghost use Rattle.std.specs.List.{list_any};
 ghost use Rattle.std.specs.Option.{option_copied};
 ghost use Rattle.place_table.specs.Hosts.{node_of, serves, ring_points, key_place, host_of, owner_of, table_owner, table_fault, types_fault, same_node_fault, BuildsTable};
@@ -14,10 +14,12 @@ use crate::hash::key_hash;
 use crate::host::HostInfo;
 use crate::slots::{owner_slot, ring_slots};
 use crate::sort::sorted_hosts;
+use crate::steps::Steps;
 use actor_names::{ActorKey, ActorType, OutOfMemory};
 use std::alloc::Global;
-use std::marker::Model;
+use std::marker::{Brand, Model};
 use std::sync::Arc;
+use std::sync::ledger::{Blank, Ledger};
 
 /// A point in 16 bytes: its place, and the number of its host in the table.
 #[derive(Clone, Copy)]
@@ -26,7 +28,7 @@ pub(crate) struct Slot {
     pub(crate) host: usize,
 }
 
-/// The points of one type.
+/// The points of one type, in order of place, and at one place in byte order of node.
 #[derive(Drop)]
 pub(crate) struct TypeRing {
     pub(crate) kind: ActorType,
@@ -76,17 +78,27 @@ impl Table {
         kept.hosts.as_slice()
     }
 
-    /// The host that owns the actor; None where no host serves the type. The actor's id is hashed once, only the
-    /// points of its type are looked at, and no memory is asked for.
-    pub fn owner(&self, key: &ActorKey) -> Option<&HostInfo>
+    /// The host that owns the actor; None where no host serves the type. The actor's id is hashed once, the points
+    /// of its type are searched by halves, and no memory is asked for. Each point that is looked at counts one step.
+    pub fn owner<L: Ledger>(&self, key: &ActorKey, steps: &mut Steps<L>) -> Option<&HostInfo>
         ensures owner { option_copied result ≡ table_owner self.now key.now }
         ensures node { option_map node_of (option_copied result) ≡ owner_of self.now.hosts key.now }
         ensures point { IfSome result (λ h. (p : Point) × IsOwner (ring_points self.now.hosts key.now.kind) (key_place key.now.id) p × (p.node ≡ node_of h.now)) }
         ensures among { IfSome result (λ h. Contains self.now.hosts h.now) }
         ensures none { IsNone result ↔ (list_any (λ h. serves h key.now.kind) self.now.hosts ≡ false) }
+        ensures counted { steps.old ≤ steps.new }
+        ensures probes { 2 ^ (steps.new - steps.old) ≤ 2 * length (ring_points self.now.hosts key.now.kind) + 2 }
     {
         let kept: &Kept = &self.kept;
-        owner_host(kept.hosts.as_slice(), kept.rings.as_slice(), key)
+        owner_host(kept.hosts.as_slice(), kept.rings.as_slice(), key, steps)
+    }
+
+    /// The host that owns the actor, for a caller without interest in the count: looked up with a fresh counter.
+    pub fn owner_uncounted(&self, key: &ActorKey) -> Option<&HostInfo>
+        ensures owner { option_copied result ≡ table_owner self.now key.now }
+        ensures node { option_map node_of (option_copied result) ≡ owner_of self.now.hosts key.now }
+    {
+        fresh_owner::<Brand>(self, key, Blank::new(1))
     }
 
     /// An equal table: it shares hosts and points with the table; no bytes are copied. It asks for no memory, and
@@ -137,17 +149,40 @@ pub fn build_table(alloc: Global, version: u64, hosts: &[HostInfo]) -> Result<Ta
     make_table(alloc, version, hosts)
 }
 
+// The host that owns the actor, looked up with a counter of the ledger that the blank stands for.
+fn fresh_owner<'a, L: Ledger>(
+    table: &'a Table,
+    key: &ActorKey,
+    blank: Blank,
+) -> Option<&'a HostInfo>
+    requires name { blank.name ≡ L.name }
+    requires parts { blank.parts ≡ L.parts }
+    requires some { 0 < blank.parts }
+    ensures owner { option_copied result ≡ table_owner table.now key.now }
+    ensures node { option_map node_of (option_copied result) ≡ owner_of table.now.hosts key.now }
+{
+    let mut steps = Steps::<L>::new(blank);
+    table.owner(key, &mut steps)
+}
+
 // The host that owns the actor among those of a table.
-fn owner_host<'a>(hosts: &'a [HostInfo], rings: &[TypeRing], key: &ActorKey) -> Option<&'a HostInfo>
+fn owner_host<'a, L: Ledger>(
+    hosts: &'a [HostInfo],
+    rings: &[TypeRing],
+    key: &ActorKey,
+    steps: &mut Steps<L>,
+) -> Option<&'a HostInfo>
     requires { IsTableKept hosts.now rings.now }
     ensures owner { option_copied result ≡ option_and_then (host_of hosts.now) (owner_of hosts.now key.now) }
     ensures node { option_map node_of (option_copied result) ≡ owner_of hosts.now key.now }
     ensures point { IfSome result (λ h. (p : Point) × IsOwner (ring_points hosts.now key.now.kind) (key_place key.now.id) p × (p.node ≡ node_of h.now)) }
     ensures among { IfSome result (λ h. Contains hosts.now h.now) }
     ensures none { IsNone result ↔ (list_any (λ h. serves h key.now.kind) hosts.now ≡ false) }
+    ensures counted { steps.old ≤ steps.new }
+    ensures probes { 2 ^ (steps.new - steps.old) ≤ 2 * length (ring_points hosts.now key.now.kind) + 2 }
 {
     let slots = ring_slots(rings, &key.kind);
-    match owner_slot(hosts, slots, key_hash(&key.id)) {
+    match owner_slot(slots, key_hash(&key.id), steps) {
         None => None,
         Some(slot) => Some(&hosts[slot.host]),
     }

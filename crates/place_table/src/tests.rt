@@ -1,7 +1,8 @@
 use super::*;
+use crate::hash::point_place;
 use actor_names::{
-    ActorKey, read_actor_id, read_actor_type, read_address, read_app_id, read_key, read_member,
-    read_node,
+    ActorKey, ActorType, read_actor_id, read_actor_type, read_address, read_app_id, read_key,
+    read_member, read_node,
 };
 use std::alloc::Global;
 use std::test::Fail;
@@ -30,7 +31,7 @@ fn some_hosts(alloc: Global) -> Result<Vec<HostInfo>, Fail> {
 }
 
 fn owner_node<'a>(table: &'a Table, key: &ActorKey) -> &'a [u8] {
-    match table.owner(key) {
+    match table.owner_uncounted(key) {
         None => &[],
         Some(host) => host.member.node.as_slice(),
     }
@@ -130,8 +131,61 @@ fn owners_are_those_of_another_sha256(rt: HostRuntime) -> Result<(), Fail> {
         assert_eq!(rt; owner_node(&table, &timer_key), timer);
     }
     let nobody = read_key(alloc, b"cart/7")?;
-    assert!(rt; table.owner(&nobody).is_none());
+    assert!(rt; table.owner_uncounted(&nobody).is_none());
     assert_eq!(rt; table.version(), 3);
+    Ok(())
+}
+
+// The points of the hosts that serve the type, in the order of the hosts.
+fn all_points(alloc: Global, hosts: &[HostInfo], kind: &ActorType) -> Result<Vec<Point>, Fail> {
+    let mut points = Vec::new(alloc);
+    for host in hosts {
+        let node = host.member.node;
+        for served in host.kinds.as_slice() {
+            if served.as_slice() == kind.as_slice() {
+                for i in 0..100 {
+                    let place = point_place(&node, i);
+                    points.push(Point { place, node })?;
+                }
+            }
+        }
+    }
+    Ok(points)
+}
+
+// Of the ids from 0 on: how many stand after the last point of the type, and how many the table gives to another host
+// than a scan of all points does.
+fn compare_owners(alloc: Global, table: &Table, kind: &[u8], ids: u32) -> Result<(u32, u32), Fail> {
+    let kind = read_actor_type(alloc, kind)?;
+    let points = all_points(alloc, table.hosts(), &kind)?;
+    let mut wrapped: u32 = 0;
+    let mut other: u32 = 0;
+    for number in 0..ids {
+        let id = format!(in alloc; "{number}")?;
+        let key = ActorKey {
+            kind: kind.copy(alloc)?,
+            id: read_actor_id(alloc, id.as_bytes())?,
+        };
+        let place = key_hash(&key.id);
+        if points.iter().all(|p| p.place < place) {
+            wrapped = wrapped.saturating_add(1);
+        }
+        let pick = ring_pick(points.as_slice(), place).ok_or("no point")?;
+        let point = points.get(pick).ok_or("no such point")?;
+        if owner_node(table, &key) != point.node.as_slice() {
+            other = other.saturating_add(1);
+        }
+    }
+    Ok((wrapped, other))
+}
+
+// How many stand after the last point was computed by another SHA-256.
+#[test]
+fn search_gives_what_a_scan_gives(rt: HostRuntime) -> Result<(), Fail> {
+    let alloc = rt.alloc();
+    let table = build_table(alloc, 1, some_hosts(alloc)?.as_slice())?;
+    assert_eq!(rt; compare_owners(alloc, &table, b"counter", 1000)?, (1, 0));
+    assert_eq!(rt; compare_owners(alloc, &table, b"timer", 5000)?, (5, 0));
     Ok(())
 }
 
