@@ -8,6 +8,7 @@ ghost use Rattle.step_gate.specs.Gates.{gate_id, IsSeatOf};
 use crate::gate::{Gate, Seat};
 use crate::plays::{Add, Close, GiveUp, Said, Take};
 use state_machine::Machine;
+use std::hint;
 use std::snapshot::Snapshot;
 use std::sync::Wait;
 use std::sync::atomic::Ordering;
@@ -17,22 +18,37 @@ use std::time::Duration;
 /// The word after 2^62 entries.
 pub(crate) const LAST: u64 = 1 << 63;
 
-/// How often a call that waits for the turn yields before it sleeps.
-const YIELDS: u32 = 64;
+/// How often a call that waits for the turn looks at the word before it sleeps.
+const LOOKS: u32 = 32;
+
+/// How many hints it spins between its first two looks. Each look takes the line of memory from the holder.
+const HINTS: u32 = 16;
+
+/// How often the number of hints doubles, so that the holder makes many steps between two looks.
+const HINT_DOUBLINGS: u32 = 4;
 
 /// How often the longest sleep doubles, from one millisecond.
 const DOUBLINGS: u32 = 4;
+
+// Leaves the word alone for a time that grows from try to try, and lets other threads run.
+fn spin(tries: u32) {
+    let hints = HINTS << tries.min(HINT_DOUBLINGS);
+    for _ in 0..hints {
+        hint::spin_loop();
+    }
+    thread::yield_now();
+}
 
 impl<M: Machine> Gate<M> {
     // Lets other threads run. After some tries it sleeps while the word stays, until the turn is free, for a time
     // that grows to 16 milliseconds at most.
     fn pause<R: Wait>(&self, rt: &R, tries: u32, word: u64) {
-        if tries < YIELDS {
-            thread::yield_now();
+        if tries < LOOKS {
+            spin(tries);
             return;
         }
         let low = (word % (1 << 32)) as u32;
-        let longest = Duration::from_millis(1 << (tries - YIELDS).min(DOUBLINGS));
+        let longest = Duration::from_millis(1 << (tries - LOOKS).min(DOUBLINGS));
         self.bells.asleep.fetch_add(1, Ordering::SeqCst);
         self.table.shared.park_timeout(rt, 0, low, longest);
         self.bells.asleep.fetch_sub(1, Ordering::SeqCst);
