@@ -8,12 +8,11 @@ ghost use Rattle.step_gate.specs.Gates.{gate_id, IsSeatOf};
 use crate::gate::{Gate, Seat};
 use crate::plays::{Add, Close, GiveUp, Said, Take};
 use state_machine::Machine;
-use std::hint;
 use std::snapshot::Snapshot;
 use std::sync::Wait;
 use std::sync::atomic::Ordering;
-use std::thread;
 use std::time::Duration;
+use std::{hint, thread};
 
 /// The word after 2^62 entries.
 pub(crate) const LAST: u64 = 1 << 63;
