@@ -7,7 +7,7 @@ use Rattle.timer_book.specs.declared.entry.TimerEntry.{TimerEntry}
 use Rattle.timer_book.specs.Entries.{entry_place, place_cmp, is_at, IsBelowAll, Ascends, entry_at, put_by, put_entry, without_entry}
 use Rattle.timer_book.specs.Changes.{changed, changed_entry}
 use Rattle.timer_book.proofs.Places.{total, less}
-use Rattle.timer_book.proofs.Forks.{none_behind, tied, tied_cmp}
+use Rattle.timer_book.proofs.Ties.{none_behind, tied, tied_cmp}
 
 module _ (a : List (List ℕ)) where
   below_less : (b : List (List ℕ)) (xs : List TimerEntry) → place_cmp b a ≡ Less → IsBelowAll a xs → IsBelowAll b xs

@@ -3,8 +3,7 @@ mod Maps
 mod Firsts
 mod Actors
 mod Fires
-mod Forks
-mod Runs
+mod Ties
 mod Keeps
-mod Tops
+mod Trees
 mod Rows

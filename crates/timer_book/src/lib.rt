@@ -2,12 +2,10 @@
 //
 // Promise: a book is a count of the numbers drawn and a list of timers in order of key and name, and each call
 // is the change of it that `specs/Book` says. As a machine (`specs/Machine`) it can stand behind a gate. Stands on
-// `state_machine`, `actor_names` and `schedule_text`.
+// `state_machine`, `search_tree`, `actor_names` and `schedule_text`.
 #![tactic(auto)]
 
-mod balance;
 mod book;
-mod change;
 mod entry;
 mod error;
 mod event;
@@ -16,9 +14,10 @@ mod machine;
 mod order;
 mod shelf;
 mod soonest;
+mod standing;
 mod text;
 mod timer;
-mod tree;
+mod timers;
 
 pub use book::{MOST_TIMERS, TimerBook};
 pub use entry::{DueTimer, TimerEntry};

@@ -4,11 +4,12 @@ ghost use Rattle.timer_book.specs.declared.entry.TimerEntry.{TimerEntry};
 ghost use Rattle.timer_book.specs.Entries.{timer_place, entry_at, put_entry, without_entry, count_of, without_actor, due_entry, Ascends};
 ghost use Rattle.timer_book.specs.Book.{registered, started_entry, finished_entry, fired_entry, next_after};
 
-use crate::change::{change, put, remove, remove_all_of};
 use crate::entry::TimerEntry;
-use crate::tree::Tree;
+use crate::standing::NextFiring;
+use crate::timers::{change, count, first, get, put, remove, remove_all_of};
 use actor_names::{ActorKey, OutOfMemory, RecordName};
 use schedule_text::{Moment, Next};
+use search_tree::Tree;
 use std::alloc::Global;
 use std::marker::Model;
 
@@ -18,7 +19,7 @@ const MOST_PUT: u64 = 1 << 62;
 /// Timers in order of type, id and name.
 #[derive(Drop)]
 pub(crate) struct Shelf {
-    tree: Tree,
+    tree: Tree<TimerEntry>,
     // How many timers were put, so no fewer than there are.
     was_put: u64,
     alloc: Global,
@@ -59,14 +60,14 @@ impl Shelf {
     pub(crate) fn count(&self, key: &ActorKey) -> usize
         ensures { result ≡ count_of key.now self.now }
     {
-        self.tree.count(key)
+        count(&self.tree, key)
     }
 
     /// Whether there is a timer of this key and name.
     pub(crate) fn has(&self, key: &ActorKey, name: &RecordName) -> bool
         ensures { result ≡ is_some (entry_at (timer_place key.now name.now) self.now) }
     {
-        match self.tree.get(key, name) {
+        match get(&self.tree, key, name) {
             None => false,
             Some(_) => true,
         }
@@ -99,7 +100,12 @@ impl Shelf {
     {
         match *next {
             Next::At { moment, left } => {
-                change(&mut self.tree, key, name, moment, left, false);
+                let next = NextFiring {
+                    moment,
+                    left,
+                    running: false,
+                };
+                change(&mut self.tree, key, name, &next);
             }
             Next::Done => {
                 let _there = self.remove(key, name);
@@ -114,7 +120,7 @@ impl Shelf {
     pub(crate) fn due(&self, now: Moment) -> Option<&TimerEntry>
         ensures { option_copied result ≡ due_entry now self.now }
     {
-        match self.tree.first() {
+        match first(&self.tree) {
             None => None,
             Some(entry) => {
                 if entry.moment.nanos() <= now.nanos() {
@@ -131,16 +137,19 @@ impl Shelf {
         ensures there { result ≡ is_some (registered self.old key.now name.now number) }
         ensures started { self.new ≡ started_entry (registered self.old key.now name.now number) self.old }
     {
-        match self.tree.get(key, name) {
+        match get(&self.tree, key, name) {
             None => false,
             Some(entry) => {
                 let drawn = entry.number;
                 if drawn != number {
                     return false;
                 }
-                let moment = entry.moment;
-                let left = entry.left;
-                change(&mut self.tree, key, name, moment, left, true);
+                let next = NextFiring {
+                    moment: entry.moment,
+                    left: entry.left,
+                    running: true,
+                };
+                change(&mut self.tree, key, name, &next);
                 true
             }
         }
@@ -157,7 +166,7 @@ impl Shelf {
         ensures next { result ≡ next_after (registered self.old key.now name.now number) ended }
         ensures finished { self.new ≡ finished_entry (registered self.old key.now name.now number) ended self.old }
     {
-        match self.tree.get(key, name) {
+        match get(&self.tree, key, name) {
             None => Next::Done,
             Some(entry) => {
                 if entry.number != number {

@@ -1,6 +1,6 @@
 use Rattle.std.proofs.Common.{◌∙◌, false, arith}
 use Rattle.timer_book.specs.Entries.{entry_place, timer_place}
-use Rattle.timer_book.proofs.Forks.{tied, without_tied}
+use Rattle.timer_book.proofs.Ties.{tied, without_tied}
 use Rattle.timer_book.proofs.Keeps.{ascends_changed, length_changed}
 use Rattle.timer_book.proofs.shelf.Shelf.refire.Goals as goal
 

@@ -1,0 +1,5 @@
+pub mod Cuts
+pub mod Runs
+pub mod Orders
+mod Tops
+mod Rows

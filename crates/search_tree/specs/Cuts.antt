@@ -1,0 +1,25 @@
+-- How a probe stands to elements in order. Own.
+use Rattle.std.specs.Prelude.{◌≡◌, ◌⊎◌, List, [], ◌∷◌}
+use Rattle.std.specs.declared.cmp.Ordering.{Ordering}
+use Rattle.std.specs.declared.cmp.Ordering.TheVariants.{Less, Equal, Greater}
+
+module _ {E : Type 0} (at : E → Ordering) where
+  -- each of them is behind what is looked for
+  abbrev pub AreBehind : List E → Type 0
+  AreBehind [] = Unit {0}
+  AreBehind (x ∷ xs) = (at x ≡ Greater) × AreBehind xs
+
+  -- none of them is before what is looked for
+  abbrev pub NoneBefore : List E → Type 0
+  NoneBefore [] = Unit {0}
+  NoneBefore (x ∷ xs) = ((at x ≡ Equal) ⊎ (at x ≡ Greater)) × NoneBefore xs
+
+  -- first those before what is looked for, then one at most that is it, then those behind it
+  abbrev pub IsCut : List E → Type 0
+  IsCut [] = Unit {0}
+  IsCut (x ∷ xs) = ((at x ≡ Less) ⊎ AreBehind xs) × IsCut xs
+
+  -- the same, with any number that are looked for
+  abbrev pub IsRun : List E → Type 0
+  IsRun [] = Unit {0}
+  IsRun (x ∷ xs) = ((at x ≡ Less) ⊎ (((at x ≡ Equal) × NoneBefore xs) ⊎ ((at x ≡ Greater) × AreBehind xs))) × IsRun xs
