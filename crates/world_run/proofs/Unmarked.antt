@@ -23,7 +23,6 @@ use Rattle.cluster_model.specs.World.{ClusterState, WorldStep, CallPlace, TraceM
 use Rattle.world_run.specs.Views.{capped, more, began_in, ended_in}
 use Rattle.cluster_model.specs.Counts.{begun_turns, over_turns}
 
-
 -- ---- counts
 
 pub begun-tagged : (m : Member) (ms : List PartMark) → begun_turns (tagged m ms) ≡ began_in ms
