@@ -2,7 +2,7 @@
 //
 // A call answers a fault only where the object's own count of faults rose in that call, and where
 // an object tells its bytes the clauses say which were taken or written. The forms in memory tell
-// all; the forms over the library's readers and writers tell nothing, and are trusted and tested.
+// all; the forms over the library's readers and writers tell what those tell.
 // It stands on std alone, and thiserror for the texts of its error.
 #![tactic(auto)]
 

@@ -24,7 +24,8 @@ pub trait Source {
     ghost read_faults: { Self → ℕ };
 
     /// Appends up to `most` bytes to `into` and answers how many; 0 only at the end of what is left.
-    /// After an error nothing was appended, and after `OutOfMemory` nothing was taken either.
+    /// After an error nothing was appended. After `Failed` a front of what was left may be lost, after `OutOfMemory`
+    /// nothing is.
     fn read(&mut self, into: &mut Vec<u8>, most: usize) -> Result<usize, PortError>
         requires { 0 < most }
         ensures most { IfOk result (λ n. n ≤ most) }

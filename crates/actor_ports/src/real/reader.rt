@@ -12,7 +12,7 @@ use std::marker::Model;
 // The most bytes that one read asks the library for.
 const PIECE: usize = 65_536;
 
-/// A source over one of the library's readers. It tells nothing of what is left.
+/// A source over one of the library's readers. It tells of what is left whatever the reader tells.
 ///
 /// Over standard input, in `main(rt: HostRuntime)`:
 /// `let input = ReaderSource::new(rt.alloc(), rt.reader())?;`
@@ -53,7 +53,7 @@ impl<R: Read + Drop> ReaderSource<R> {
 }
 
 impl<R: Read + Drop> Source for ReaderSource<R> {
-    ghost remaining = { λ _. None };
+    ghost remaining = { λ s. R.remaining s.inner };
 
     ghost read_faults = { λ s. s.faults };
 

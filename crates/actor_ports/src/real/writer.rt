@@ -8,7 +8,7 @@ use crate::port::{PortError, Sink};
 use std::io::{ErrorKind, Write};
 use std::marker::Model;
 
-/// A sink over one of the library's writers. It tells nothing of what was written.
+/// A sink over one of the library's writers. It tells of what was written whatever the writer tells.
 ///
 /// Over standard output, in `main(rt: HostRuntime)`:
 /// `let output = WriterSink::new(io::writer(&rt));`
@@ -36,7 +36,7 @@ impl<W: Write + Drop> WriterSink<W> {
 }
 
 impl<W: Write + Drop> Sink for WriterSink<W> {
-    ghost contents = { λ _. None };
+    ghost contents = { λ s. W.contents s.inner };
 
     ghost write_faults = { λ s. s.faults };
 
@@ -66,20 +66,18 @@ fn write_whole<W: Write>(writer: &mut W, bytes: &[u8]) -> bool
     ensures front { WritesKnownFront (W.contents writer.old) (W.contents writer.new) bytes.now }
 {
     let mut done = 0;
-    for _ in 0..u64::MAX {
-        if done == bytes.len() {
-            return writer.flush().is_ok();
-        }
+    while done < bytes.len() {
         let Some(count) = write_piece(writer, &bytes[done..]) else {
             return false;
         };
         done += count;
     }
-    false
+    writer.flush().is_ok()
 }
 
 // One write of the library, again after each interruption. Where nothing is taken it has failed.
 fn write_piece<W: Write>(writer: &mut W, bytes: &[u8]) -> Option<usize>
+    ensures some { IfSome result (λ n. 0 < n) }
     ensures bound { IfSome result (λ n. n ≤ length bytes.now) }
     ensures written { IfSome result (λ n. Appends (W.contents writer.old) (W.contents writer.new) (take n bytes.now)) }
     ensures failed { IfNone result (Keeps (W.contents writer.old) (W.contents writer.new)) }
