@@ -1,0 +1,7 @@
+use Rattle.std.proofs.Common.{take}
+use Rattle.disk_model.specs.Disk.{MayLead}
+use Rattle.disk_model.proofs.torn.tear_all.Given as goal
+
+-- what the changes so far may have made of the synced bytes
+abbrev pub invariant-loop-change : goal.invariant-loop-change
+invariant-loop-change l = MayLead (take l.change-index l.pending) l.synced l.image.items

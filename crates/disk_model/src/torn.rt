@@ -1,0 +1,99 @@
+// What a crash may make of a disk in memory: one of its images, chosen by a number.
+ghost use Rattle.std.specs.Prelude.{◌≡◌, ◌<◌, ◌≤◌, ℕ, length, IfOk};
+ghost use Rattle.disk_model.specs.Disk.{MayMake, MayLead, overwritten};
+
+use crate::change::Change;
+use std::alloc::{AllocError, Global};
+
+// The bytes with others in their place, from `at` on.
+pub(crate) fn overwrite(
+    alloc: Global,
+    bytes: &[u8],
+    at: usize,
+    new: &[u8],
+) -> Result<Vec<u8>, AllocError>
+    requires { at ≤ length bytes.now }
+    ensures { IfOk result (λ v. v.items ≡ overwritten bytes.now at new.now) }
+{
+    let mut next = bytes[..at].to_vec(alloc)?;
+    next.extend_from_slice(new)?;
+    if new.len() < bytes.len() - at {
+        next.extend_from_slice(&bytes[at + new.len()..])?;
+    }
+    Ok(next)
+}
+
+// So many bytes of one value.
+fn fill(alloc: Global, value: u8, n: usize) -> Result<Vec<u8>, AllocError>
+    ensures { IfOk result (λ v. length v.items ≡ n) }
+{
+    Ok(vec![in alloc; value; n]?)
+}
+
+// What is left where a write was under way: one value in its whole range.
+// A range that a cut has put past the end has no effect.
+fn tear_write(
+    alloc: Global,
+    bytes: &[u8],
+    at: u64,
+    n: u64,
+    value: u8,
+) -> Result<Vec<u8>, AllocError>
+    ensures { IfOk result (λ v. MayMake (Change.Over at n) bytes.now v.items) }
+{
+    let place = at as usize;
+    if place > bytes.len() {
+        return bytes.to_vec(alloc);
+    }
+    let torn = fill(alloc, value, n as usize)?;
+    overwrite(alloc, bytes, place, &torn)
+}
+
+// What is left where a cut was under way.
+fn tear_cut(
+    alloc: Global,
+    bytes: &[u8],
+    len: u64,
+    is_made: bool,
+) -> Result<Vec<u8>, AllocError>
+    ensures { IfOk result (λ v. MayMake (Change.CutTo len) bytes.now v.items) }
+{
+    let end = len as usize;
+    if is_made && end < bytes.len() {
+        bytes[..end].to_vec(alloc)
+    } else {
+        bytes.to_vec(alloc)
+    }
+}
+
+// What is left where a change was under way: a write has the low byte of `choice` in its whole range,
+// and a cut was made where the byte above it is even.
+fn tear(
+    alloc: Global,
+    bytes: &[u8],
+    change: Change,
+    choice: u64,
+) -> Result<Vec<u8>, AllocError>
+    ensures { IfOk result (λ v. MayMake change bytes.now v.items) }
+{
+    match change {
+        Change::Over { at, n } => tear_write(alloc, bytes, at, n, (choice % 256) as u8),
+        Change::CutTo { len } => tear_cut(alloc, bytes, len, choice / 256 % 2 == 0),
+    }
+}
+
+// What is left of the bytes where all these changes were under way.
+pub(crate) fn tear_all(
+    alloc: Global,
+    synced: &[u8],
+    pending: &[Change],
+    choice: u64,
+) -> Result<Vec<u8>, AllocError>
+    ensures { IfOk result (λ v. MayLead pending.now synced.now v.items) }
+{
+    let mut image = synced.to_vec(alloc)?;
+    for change in pending {
+        image = tear(alloc, &image, *change, choice)?;
+    }
+    Ok(image)
+}
