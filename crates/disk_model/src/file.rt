@@ -168,7 +168,8 @@ fn fill_from<F: FileExt>(
     let mut done = 0;
     while done < most {
         let room = (most - done).min(PIECE);
-        let Some(count) = read_piece(file, &mut piece[..room], at.saturating_add(done as u64)) else {
+        let Some(count) = read_piece(file, &mut piece[..room], at.saturating_add(done as u64))
+        else {
             return Ok(None);
         };
         if count == 0 {

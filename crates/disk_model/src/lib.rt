@@ -19,3 +19,6 @@ pub use file::FileDisk;
 pub use law::image_law;
 pub use memory::MemDisk;
 pub use past::Past;
+
+#[cfg(test)]
+mod tests;

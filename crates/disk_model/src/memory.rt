@@ -4,7 +4,6 @@ ghost use Rattle.actor_ports.specs.Port.{HasCause, Appends};
 ghost use Rattle.disk_model.specs.Disk.{DiskState, Tells, Writes, Cuts, Syncs, Reads, IsSpent, MayMake, MayLeave};
 ghost use Rattle.disk_model.specs.Memory.{DiskMemory, new_disk, call_after, after_error, after_look, after_change, after_write, after_cut, after_sync};
 
-
 use crate::change::Change;
 use crate::disk::Disk;
 use crate::past::{Past, keep};

@@ -50,12 +50,7 @@ fn tear_write(
 }
 
 // What is left where a cut was under way.
-fn tear_cut(
-    alloc: Global,
-    bytes: &[u8],
-    len: u64,
-    is_made: bool,
-) -> Result<Vec<u8>, AllocError>
+fn tear_cut(alloc: Global, bytes: &[u8], len: u64, is_made: bool) -> Result<Vec<u8>, AllocError>
     ensures { IfOk result (λ v. MayMake (Change.CutTo len) bytes.now v.items) }
 {
     let end = len as usize;
@@ -68,12 +63,7 @@ fn tear_cut(
 
 // What is left where a change was under way: a write has the low byte of `choice` in its whole range,
 // and a cut was made where the byte above it is even.
-fn tear(
-    alloc: Global,
-    bytes: &[u8],
-    change: Change,
-    choice: u64,
-) -> Result<Vec<u8>, AllocError>
+fn tear(alloc: Global, bytes: &[u8], change: Change, choice: u64) -> Result<Vec<u8>, AllocError>
     ensures { IfOk result (λ v. MayMake change bytes.now v.items) }
 {
     match change {
