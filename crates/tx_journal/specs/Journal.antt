@@ -1,0 +1,280 @@
+-- A journal as its callers see it: own.
+use Rattle.std.specs.Prelude.{◌≡◌, ◌≢◌, ◌<◌, ◌≤◌, ◌⊎◌, ℕ, suc, ◌+◌, Bool, true, false, not, ◌&&◌, List, [], ◌∷◌, ◌++◌, length, take, drop, Vec, slice_get, Option, Some, None, Result, Ok, Err, nat_lt, if◌then◌else◌}
+use Rattle.std.specs.List.{AllByRecursion}
+use Rattle.actor_ports.specs.declared.port.PortError.{PortError}
+use Rattle.actor_ports.specs.declared.port.PortError.TheVariants as ports
+use Rattle.disk_model.specs.Disk.{DiskState, IsSpent}
+use Rattle.disk_model.specs.Crash.{IsDurable, Later, Since}
+use Rattle.tx_journal.specs.declared.error.JournalError.{JournalError}
+use Rattle.tx_journal.specs.declared.error.JournalError.TheVariants.{DiskFault, Damaged, TooLong, Full, Reopen, NotStarted, OneDisk, Spent, OutOfMemory}
+use Rattle.tx_journal.specs.declared.format.Format.{Format}
+use Rattle.tx_journal.specs.declared.format.Format.TheVariants.{One, Two}
+use Rattle.tx_journal.specs.declared.find.Cursor.{Cursor}
+use Rattle.tx_journal.specs.declared.kind.FileKind.{FileKind}
+use Rattle.tx_journal.specs.declared.kind.FileKind.TheVariants.{Unmade, Other, Journal as Journal_}
+use Rattle.tx_journal.specs.File.{name, head, framed, records, spelled, IsShort, longest, most_bytes, payloads_from, file_payloads, is_made, FileMade, is_known, JournalImage, IsBeforeOrAfter, IsEmptyOrUnmade}
+
+-- what the disk tells, how often it failed, the offset behind the last gate, and whether a call met a fault
+pub record JournalState : Type 0 where
+  pub told : Option DiskState
+  pub faults : ℕ
+  pub end : ℕ
+  pub is_broken : Bool
+
+-- the bytes are a file of this known format and these payloads, a closed gate just before this offset, and any bytes behind it
+pub record IsAtRest (newest format : Format) (payloads : List (List ℕ)) (end : ℕ) (bytes : List ℕ) : Type 0 where
+  pub known : is_known newest (name format) ≡ true
+  pub gate : ℕ
+  pub rest : List ℕ
+  pub shut : gate ≢ 1
+  pub short : AllByRecursion IsShort payloads
+  pub file : bytes ≡ spelled format payloads ++ gate ∷ rest
+  pub end_is : end ≡ length (spelled format payloads) + 1
+
+-- the gate before the record of this index, in a file of these payloads
+pub record IsGateOf (payloads : List (List ℕ)) (index gate : ℕ) : Type 0 where
+  pub within : index ≤ length payloads
+  pub place : gate ≡ 8 + length (records (take index payloads))
+
+-- a disk whose file is at rest and all on it, with the gate of an index
+pub record IsSettled (newest format : Format) (payloads : List (List ℕ)) (end : ℕ) (cursor : Cursor) (d : DiskState) : Type 0 where
+  pub file : IsAtRest newest format payloads end d.bytes
+  pub durable : IsDurable d
+  pub gate : IsGateOf payloads cursor.index cursor.gate
+
+-- What is true of each journal: room for the longest record; and unless it met a fault, a disk that tells is settled.
+pub record IsSound (told : Option DiskState) (cursor : Cursor) (end : ℕ) (is_broken : Bool) (room : ℕ) : Type 0 where
+  pub room_is : room ≡ longest + 5
+  pub some : 9 ≤ end
+  pub few : end ≤ most_bytes
+  pub settled : is_broken ≡ false → (d : DiskState) → told ≡ Some d → (payloads : List (List ℕ)) × IsSettled One One payloads end cursor d
+
+-- the file stands for these payloads, and so does whatever a crash leaves now
+pub record Holds (newest : Format) (payloads : List (List ℕ)) (d : DiskState) : Type 0 where
+  pub image : JournalImage newest payloads d.bytes
+  pub durable : IsDurable d
+
+-- The refusals of an append that change nothing, in their order.
+abbrev pub refusal_of : JournalState → List ℕ → Option JournalError
+refusal_of j payload =
+    if j.is_broken then Some Reopen
+    else if nat_lt longest (length payload) then Some (TooLong (length payload))
+    else if nat_lt most_bytes (j.end + 5 + length payload) then Some (Full j.end)
+    else None
+
+-- the count of faults rose, or stands at its end
+abbrev pub Rises : ℕ → ℕ → Type 0
+Rises before after = (before < after) ⊎ IsSpent after
+
+-- an append that isn't refused: it is done, or the disk failed in it and the journal must be opened again
+abbrev pub Appends : {T : Type 0} → List ℕ → Result T JournalError → JournalState → JournalState → Type 0
+Appends payload (Ok x) old new = (new.end ≡ old.end + 5 + length payload) × (new.is_broken ≡ false) × (old.faults ≤ new.faults)
+Appends payload (Err DiskFault) old new = (new.is_broken ≡ true) × Rises old.faults new.faults
+Appends payload (Err (Damaged offset)) old new = ⊥
+Appends payload (Err (TooLong n)) old new = ⊥
+Appends payload (Err (Full len)) old new = ⊥
+Appends payload (Err Reopen) old new = ⊥
+Appends payload (Err NotStarted) old new = ⊥
+Appends payload (Err OneDisk) old new = ⊥
+Appends payload (Err (Spent count)) old new = ⊥
+Appends payload (Err OutOfMemory) old new = ⊥
+
+-- Whatever a crash leaves at any moment of an append stands for the payloads that the journal held, with the new one or without.
+abbrev pub Commits : Format → List ℕ → DiskState → DiskState → Type 0
+Commits newest payload d e = (payloads : List (List ℕ)) → Holds newest payloads d → Since (IsBeforeOrAfter newest payloads payload) d e
+
+-- After it was answered Ok the journal holds the new one too.
+abbrev pub Committed : Format → List ℕ → DiskState → DiskState → Type 0
+Committed newest payload d e = (payloads : List (List ℕ)) → Holds newest payloads d → Holds newest (payloads ++ payload ∷ []) e
+
+-- What the four calls of an append leave of a durable disk at rest, for the record of a payload.
+abbrev pub PutsRecord : ℕ → List ℕ → DiskState → DiskState → Type 0
+PutsRecord end bytes d e = (newest format : Format) (payloads : List (List ℕ)) (payload : List ℕ) → IsAtRest newest format payloads end d.bytes → IsDurable d → IsShort payload → bytes ≡ framed payload ++ 0 ∷ [] → Since (IsBeforeOrAfter newest payloads payload) d e
+
+-- what they leave where each is done
+abbrev pub HasRecord : ℕ → List ℕ → DiskState → DiskState → Type 0
+HasRecord end bytes d e = (newest format : Format) (payloads : List (List ℕ)) (payload : List ℕ) → IsAtRest newest format payloads end d.bytes → IsDurable d → IsShort payload → bytes ≡ framed payload ++ 0 ∷ [] → IsAtRest newest format (payloads ++ payload ∷ []) (end + length bytes) e.bytes × IsDurable e
+
+-- how a journal answers an error of its disk
+abbrev pub as_journal : PortError → JournalError
+as_journal ports.Failed = DiskFault
+as_journal ports.OutOfMemory = OutOfMemory
+
+-- the count of faults never falls, and rises where the call answers DiskFault
+abbrev pub Costs : {T : Type 0} → ℕ → ℕ → Result T JournalError → Type 0
+Costs before after (Ok x) = before ≤ after
+Costs before after (Err DiskFault) = Rises before after
+Costs before after (Err (Damaged offset)) = before ≤ after
+Costs before after (Err (TooLong n)) = before ≤ after
+Costs before after (Err (Full len)) = before ≤ after
+Costs before after (Err Reopen) = before ≤ after
+Costs before after (Err NotStarted) = before ≤ after
+Costs before after (Err OneDisk) = before ≤ after
+Costs before after (Err (Spent count)) = before ≤ after
+Costs before after (Err OutOfMemory) = before ≤ after
+
+-- the file has just these bytes
+abbrev pub IsSame : List ℕ → List ℕ → Type 0
+IsSame bytes file = file ≡ bytes
+
+-- opening makes a file that isn't made, where it is bidden to
+abbrev pub is_to_make : Bool → List ℕ → Bool
+is_to_make create bytes = create && not (is_made bytes)
+
+-- what a crash in the opening leaves: while a file is made, one that isn't or one without records; else the file as it was read
+abbrev pub MayBeLeft : Format → Bool → List ℕ → List ℕ → Type 0
+MayBeLeft newest true bytes file = IsEmptyOrUnmade newest file
+MayBeLeft newest false bytes file = IsSame bytes file
+
+-- whatever a crash leaves once the first sync of an opening is done
+abbrev pub KeepsFile : Format → Bool → DiskState → DiskState → Type 0
+KeepsFile newest create d e = Later (MayBeLeft newest (is_to_make create d.bytes) d.bytes) d e
+
+-- an opened file: a new one without records, or the payloads of the file
+abbrev pub OpensAs : Format → Bool → List ℕ → List (List ℕ) → Type 0
+OpensAs newest true bytes payloads = payloads ≡ []
+OpensAs newest false bytes payloads = JournalImage newest payloads bytes
+
+-- what an opening that is done found or made
+abbrev pub Opens : Format → Bool → ℕ → DiskState → DiskState → Type 0
+Opens newest create end d e = (format : Format) × (payloads : List (List ℕ)) × OpensAs newest (is_to_make create d.bytes) d.bytes payloads × IsAtRest newest format payloads end e.bytes × IsDurable e
+
+-- the cause of a refused opening
+abbrev pub Refuses : Format → Bool → JournalError → DiskState → Type 0
+Refuses newest create DiskFault d = Unit {0}
+Refuses newest create (Damaged offset) d = (is_to_make create d.bytes ≡ false) × (file_payloads newest d.bytes ≡ Err offset)
+Refuses newest create (TooLong n) d = ⊥
+Refuses newest create (Full len) d = (len ≡ length d.bytes) × (most_bytes < len)
+Refuses newest create Reopen d = ⊥
+Refuses newest create NotStarted d = ⊥
+Refuses newest create OneDisk d = ⊥
+Refuses newest create (Spent count) d = ⊥
+Refuses newest create OutOfMemory d = Unit {0}
+
+-- what stands at a gate: nothing, a closed gate, no whole record, or a record up to the next gate
+abbrev pub StandsAt : ℕ → Result (Option ℕ) JournalError → DiskState → Type 0
+StandsAt at (Ok None) d = (gate : ℕ) × (rest : List ℕ) × (gate ≢ 1) × (drop at d.bytes ≡ gate ∷ rest)
+StandsAt at (Ok (Some next)) d = (payload : List ℕ) × IsShort payload × (drop at d.bytes ≡ 1 ∷ framed payload ++ drop next d.bytes) × (next ≡ at + 5 + length payload)
+StandsAt at (Err (Damaged offset)) d = (most : ℕ) → payloads_from (suc most) at (drop at d.bytes) ≡ Err offset
+StandsAt at (Err (TooLong n)) d = ⊥
+StandsAt at (Err (Full len)) d = ⊥
+StandsAt at (Err Reopen) d = ⊥
+StandsAt at (Err NotStarted) d = ⊥
+StandsAt at (Err OneDisk) d = ⊥
+StandsAt at (Err (Spent count)) d = ⊥
+StandsAt at (Err DiskFault) d = Unit {0}
+StandsAt at (Err OutOfMemory) d = Unit {0}
+
+-- an error that only the disk or want of memory brings
+abbrev pub IsPortFault : JournalError → Type 0
+IsPortFault e = (e ≡ DiskFault) ⊎ (e ≡ OutOfMemory)
+
+-- what reading a made file from gate to gate found
+abbrev pub Scans : Format → Format → Result ℕ JournalError → DiskState → Type 0
+Scans newest format (Ok end) d = (payloads : List (List ℕ)) × IsAtRest newest format payloads end d.bytes
+Scans newest format (Err (Damaged offset)) d = file_payloads newest d.bytes ≡ Err offset
+Scans newest format (Err (TooLong n)) d = ⊥
+Scans newest format (Err (Full len)) d = ⊥
+Scans newest format (Err Reopen) d = ⊥
+Scans newest format (Err NotStarted) d = ⊥
+Scans newest format (Err OneDisk) d = ⊥
+Scans newest format (Err (Spent count)) d = ⊥
+Scans newest format (Err DiskFault) d = Unit {0}
+Scans newest format (Err OutOfMemory) d = Unit {0}
+
+-- the first byte is there and isn't 1
+abbrev pub IsShut : List ℕ → Type 0
+IsShut bytes = (gate : ℕ) × (rest : List ℕ) × (gate ≢ 1) × (bytes ≡ gate ∷ rest)
+
+-- a file whose first byte is not 1 is made over it
+abbrev pub Makes : Format → DiskState → DiskState → Type 0
+Makes format d e = IsDurable d → IsShut d.bytes → Later (IsEmptyOrUnmade format) d e
+
+-- it is made, without records
+abbrev pub IsNew : Format → DiskState → DiskState → Type 0
+IsNew format d e = IsDurable d → IsShut d.bytes → IsAtRest format format [] 9 e.bytes × IsDurable e
+
+-- a file of at most one byte gets the byte 0
+abbrev pub Shuts : Format → DiskState → DiskState → Type 0
+Shuts format d e = IsDurable d → length d.bytes ≤ 1 → Later (IsEmptyOrUnmade format) d e
+
+-- it has got it
+abbrev pub WasShut : DiskState → DiskState → Type 0
+WasShut d e = IsDurable d → length d.bytes ≤ 1 → IsShut e.bytes × IsDurable e × (1 ≤ length e.bytes)
+
+-- a file that isn't made is made
+abbrev pub Creates : Format → DiskState → DiskState → Type 0
+Creates format d e = IsDurable d → is_made d.bytes ≡ false → Later (IsEmptyOrUnmade format) d e
+
+-- it was made, without records
+abbrev pub IsCreated : Format → DiskState → DiskState → Type 0
+IsCreated format d e = IsDurable d → is_made d.bytes ≡ false → IsAtRest format format [] 9 e.bytes × IsDurable e
+
+-- the errors of an opening, whatever the disk tells
+abbrev pub IsOpenError : JournalError → Type 0
+IsOpenError DiskFault = Unit {0}
+IsOpenError (Damaged offset) = Unit {0}
+IsOpenError (TooLong n) = ⊥
+IsOpenError (Full len) = most_bytes < len
+IsOpenError Reopen = ⊥
+IsOpenError NotStarted = ⊥
+IsOpenError OneDisk = ⊥
+IsOpenError (Spent count) = ⊥
+IsOpenError OutOfMemory = Unit {0}
+
+-- what the first bytes of a file say of it to a journal that goes up to a format
+abbrev pub IsKind : Format → List ℕ → FileKind → Type 0
+IsKind newest front Unmade = is_made front ≡ false
+IsKind newest front Other = FileMade front × (is_known newest (drop 1 front) ≡ false)
+IsKind newest front (Journal_ format) = (front ≡ head format) × (is_known newest (name format) ≡ true)
+
+-- the same of a disk whose first bytes were read
+abbrev pub LooksLike : Format → DiskState → FileKind → Type 0
+LooksLike newest d Unmade = is_made d.bytes ≡ false
+LooksLike newest d Other = file_payloads newest d.bytes ≡ Err 1
+LooksLike newest d (Journal_ format) = (take 8 d.bytes ≡ head format) × (is_known newest (name format) ≡ true)
+
+-- an opened journal holds no payload where its file was made, and those of its file otherwise
+abbrev pub OpensHolding : Format → Bool → DiskState → DiskState → Type 0
+OpensHolding newest create d e = (payloads : List (List ℕ)) × OpensAs newest (is_to_make create d.bytes) d.bytes payloads × Holds newest payloads e
+
+-- what a replay answers of payloads: the one at the index, or none past the last
+abbrev pub Replays : {Z : Type 0} → List (List ℕ) → ℕ → Result (Option (Vec ℕ Z)) JournalError → Type 0
+Replays payloads index (Ok None) = length payloads ≤ index
+Replays payloads index (Ok (Some payload)) = slice_get payloads index ≡ Some payload.items
+Replays payloads index (Err DiskFault) = Unit {0}
+Replays payloads index (Err OutOfMemory) = Unit {0}
+Replays payloads index (Err (Damaged offset)) = ⊥
+Replays payloads index (Err (TooLong n)) = ⊥
+Replays payloads index (Err (Full len)) = ⊥
+Replays payloads index (Err Reopen) = ⊥
+Replays payloads index (Err NotStarted) = ⊥
+Replays payloads index (Err OneDisk) = ⊥
+Replays payloads index (Err (Spent count)) = ⊥
+
+-- what a search among payloads finds: the one at the index with the gate behind it, or none past the last
+abbrev pub Finds : {Z : Type 0} → List (List ℕ) → ℕ → Result (Option (Vec ℕ Z × ℕ)) JournalError → Type 0
+Finds payloads index (Ok None) = length payloads ≤ index
+Finds payloads index (Ok (Some found)) = (slice_get payloads index ≡ Some found.0.items) × IsGateOf payloads (index + 1) found.1
+Finds payloads index (Err DiskFault) = Unit {0}
+Finds payloads index (Err OutOfMemory) = Unit {0}
+Finds payloads index (Err (Damaged offset)) = ⊥
+Finds payloads index (Err (TooLong n)) = ⊥
+Finds payloads index (Err (Full len)) = ⊥
+Finds payloads index (Err Reopen) = ⊥
+Finds payloads index (Err NotStarted) = ⊥
+Finds payloads index (Err OneDisk) = ⊥
+Finds payloads index (Err (Spent count)) = ⊥
+
+-- the answer is DiskFault
+abbrev pub is_fault : {T : Type 0} → Result T JournalError → Bool
+is_fault (Ok x) = false
+is_fault (Err DiskFault) = true
+is_fault (Err (Damaged offset)) = false
+is_fault (Err (TooLong n)) = false
+is_fault (Err (Full len)) = false
+is_fault (Err Reopen) = false
+is_fault (Err NotStarted) = false
+is_fault (Err OneDisk) = false
+is_fault (Err (Spent count)) = false
+is_fault (Err OutOfMemory) = false

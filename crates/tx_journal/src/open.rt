@@ -1,0 +1,109 @@
+// Opening a file: made where it is bidden to, or read from gate to gate.
+ghost use Rattle.std.specs.Prelude.{◌≡◌, ◌<◌, ◌≤◌, ℕ, false, List, length, OnOk, IfOk, IfErr, Some, IsErrOf};
+ghost use Rattle.actor_ports.specs.Port.{HasCause};
+ghost use Rattle.disk_model.specs.Disk.{DiskState, Tells, IsSpent};
+ghost use Rattle.disk_model.specs.Crash.{IsDurable};
+ghost use Rattle.tx_journal.specs.File.{most_bytes, is_made};
+ghost use Rattle.tx_journal.specs.Journal.{Costs, KeepsFile, Opens, Refuses, IsOpenError, Creates, IsCreated};
+
+use crate::error::JournalError;
+use crate::format::Format;
+use crate::kind::{FileKind, look_at};
+use crate::make::{make, shut};
+use crate::scan::scan;
+use actor_ports::PortError;
+use disk_model::Disk;
+use std::alloc::Global;
+
+const MOST_BYTES: u64 = 1_073_741_824;
+
+// Makes a file of at most one byte.
+fn create_short<D: Disk>(disk: &mut D, format: Format) -> Result<(), PortError>
+    requires ready { (d : DiskState) → D.told disk.old ≡ Some d → IsDurable d × (length d.bytes ≤ 1) }
+    ensures crash { Tells (Creates format) (D.told disk.old) (D.told disk.new) }
+    ensures done { OnOk result (Tells (IsCreated format) (D.told disk.old) (D.told disk.new)) }
+    ensures memory { IsErrOf result PortError.OutOfMemory → IsSpent (D.disk_faults disk.new) }
+    ensures cause { HasCause (D.disk_faults disk.old) (D.disk_faults disk.new) result }
+{
+    shut(disk)?;
+    make(disk, format)
+}
+
+// Makes a file that isn't made.
+fn create_file<D: Disk>(disk: &mut D, len: u64, format: Format) -> Result<(), PortError>
+    requires ready { (d : DiskState) → D.told disk.old ≡ Some d → IsDurable d × (is_made d.bytes ≡ false) × (len ≡ length d.bytes) }
+    ensures crash { Tells (Creates format) (D.told disk.old) (D.told disk.new) }
+    ensures done { OnOk result (Tells (IsCreated format) (D.told disk.old) (D.told disk.new)) }
+    ensures memory { IsErrOf result PortError.OutOfMemory → IsSpent (D.disk_faults disk.new) }
+    ensures cause { HasCause (D.disk_faults disk.old) (D.disk_faults disk.new) result }
+{
+    if len <= 1 {
+        create_short(disk, format)
+    } else {
+        make(disk, format)
+    }
+}
+
+// A file that was synced, of so many bytes: made where it is bidden to, or read.
+fn settle_synced<D: Disk>(
+    alloc: Global,
+    disk: &mut D,
+    len: u64,
+    create: bool,
+    newest: Format,
+) -> Result<u64, JournalError>
+    requires ready { (d : DiskState) → D.told disk.old ≡ Some d → IsDurable d × (len ≡ length d.bytes) }
+    requires small { len ≤ most_bytes }
+    ensures opened { IfOk result (λ end. Tells (Opens newest create end) (D.told disk.old) (D.told disk.new)) }
+    ensures crash { Tells (KeepsFile newest create) (D.told disk.old) (D.told disk.new) }
+    ensures refused { IfErr result (λ e. (d : DiskState) → D.told disk.old ≡ Some d → Refuses newest create e d) }
+    ensures end { IfOk result (λ end. (9 ≤ end) × (end ≤ most_bytes)) }
+    ensures errors { IfErr result IsOpenError }
+    ensures cause { Costs (D.disk_faults disk.old) (D.disk_faults disk.new) result }
+{
+    match look_at(alloc, disk, newest)? {
+        FileKind::Unmade => {
+            if !create {
+                return Err(JournalError::Damaged { offset: 0 });
+            }
+            match create_file(disk, len, newest) {
+                Ok(()) => Ok(9),
+                Err(_) => Err(JournalError::DiskFault),
+            }
+        }
+        FileKind::Other => Err(JournalError::Damaged { offset: 1 }),
+        FileKind::Journal(_) => {
+            if len < 8 {
+                return Err(JournalError::Damaged { offset: 1 });
+            }
+            scan(alloc, disk, len)
+        }
+    }
+}
+
+// A file that a crash may have left, made or read.
+pub(crate) fn settle<D: Disk>(
+    alloc: Global,
+    disk: &mut D,
+    create: bool,
+    newest: Format,
+) -> Result<u64, JournalError>
+    ensures opened { IfOk result (λ end. Tells (Opens newest create end) (D.told disk.old) (D.told disk.new)) }
+    ensures crash { Tells (KeepsFile newest create) (D.told disk.old) (D.told disk.new) }
+    ensures refused { IfErr result (λ e. (d : DiskState) → D.told disk.old ≡ Some d → Refuses newest create e d) }
+    ensures end { IfOk result (λ end. (9 ≤ end) × (end ≤ most_bytes)) }
+    ensures errors { IfErr result IsOpenError }
+    ensures cause { Costs (D.disk_faults disk.old) (D.disk_faults disk.new) result }
+{
+    if disk.sync().is_err() {
+        return Err(JournalError::DiskFault);
+    }
+    let len = match disk.len() {
+        Ok(len) => len,
+        Err(error) => return Err(error.into()),
+    };
+    if len > MOST_BYTES {
+        return Err(JournalError::Full { len });
+    }
+    settle_synced(alloc, disk, len, create, newest)
+}
