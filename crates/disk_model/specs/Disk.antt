@@ -85,9 +85,10 @@ Reads at most before after (Ok n) d = (n ≡ length (take most (drop at d.bytes)
 Reads at most before after (Err e) d = after ≡ before
 
 -- Where a disk tells its state before a call it tells the one after it, and the call led there; where it doesn't, it doesn't then.
-abbrev pub Tells : (DiskState → DiskState → Type 0) → Option DiskState → Option DiskState → Type 0
-Tells step None after = after ≡ None
-Tells step (Some d) after = (e : DiskState) × (after ≡ Some e) × step d e
+-- The same of several disks, whose states are told as one.
+abbrev pub Tells : {S : Type 0} → (S → S → Type 0) → Option S → Option S → Type 0
+Tells {S} step None after = after ≡ None
+Tells {S} step (Some d) after = (e : S) × (after ≡ Some e) × step d e
 
 -- a count of faults that can rise no more
 abbrev pub IsSpent : ℕ → Type 0

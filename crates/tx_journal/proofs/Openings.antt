@@ -11,8 +11,8 @@ use Rattle.tx_journal.specs.declared.error.JournalError.{JournalError}
 use Rattle.tx_journal.specs.declared.error.JournalError.TheVariants.{DiskFault, Damaged, TooLong, Full, Reopen, NotStarted, OneDisk, Spent, OutOfMemory}
 use Rattle.tx_journal.specs.declared.format.Format.{Format}
 use Rattle.tx_journal.specs.File.{name, is_known, head, is_made, file_payloads}
-use Rattle.tx_journal.specs.Journal.{IsAtRest, Scans, is_to_make, MayBeLeft, KeepsFile, OpensAs, Opens, OpensHolding, Refuses, Creates, IsCreated}
-use Rattle.tx_journal.proofs.Appends.{rest_image}
+use Rattle.tx_journal.specs.Journal.{IsAtRest, Scans, is_to_make, MayBeLeft, KeepsFile, OpensAs, Opens, Refuses, Creates, IsCreated}
+use Rattle.tx_journal.proofs.Rests.{rest_image}
 
 to_make : (create : Bool) (bytes : List ℕ) → create ≡ true → is_made bytes ≡ false → is_to_make create bytes ≡ true
 to_make create bytes bidden unmade = ap (λ (b : Bool). b && not (is_made bytes)) bidden ∙ ap not unmade
@@ -39,19 +39,19 @@ pub keeps_made : (newest : Format) (create : Bool) (d e : DiskState) → create 
 keeps_made newest create d e bidden unmade durable creates =
     subst (λ (b : Bool). Later (MayBeLeft newest b d.bytes) d e) (sym (to_make create d.bytes bidden unmade)) (creates durable unmade)
 
-pub opens_made : (newest : Format) (create : Bool) (d e : DiskState) → create ≡ true → is_made d.bytes ≡ false → IsDurable d → IsCreated newest d e → Opens newest create 9 d e
+pub opens_made : (newest : Format) (create : Bool) (d e : DiskState) → create ≡ true → is_made d.bytes ≡ false → IsDurable d → IsCreated newest d e → Opens newest create (9, newest) d e
 opens_made newest create d e bidden unmade durable created =
     let is = created durable unmade in
-    (newest, [], subst (λ (b : Bool). OpensAs newest b d.bytes []) (sym (to_make create d.bytes bidden unmade)) refl, is.0, is.1)
+    ((λ reads. absurd (let e : true ≡ false = sym (to_make create d.bytes bidden unmade) ∙ reads in cc)), [], subst (λ (b : Bool). OpensAs newest b d.bytes []) (sym (to_make create d.bytes bidden unmade)) refl, is.0, is.1)
 
-opens_read : (newest format : Format) (create : Bool) (end : ℕ) (d : DiskState) → is_made d.bytes ≡ true → IsDurable d → Scans newest format (Ok end) d → Opens newest create end d d
+opens_read : (newest format : Format) (create : Bool) (end : ℕ) (d : DiskState) → is_made d.bytes ≡ true → IsDurable d → Scans newest format (Ok end) d → Opens newest create (end, format) d d
 opens_read newest format create end d made durable scans =
-    (format, scans.0, subst (λ (b : Bool). OpensAs newest b d.bytes scans.0) (sym (to_read create d.bytes made)) (rest_image scans.0 end d.bytes scans.1), scans.1, durable)
+    ((λ reads. refl), scans.0, subst (λ (b : Bool). OpensAs newest b d.bytes scans.0) (sym (to_read create d.bytes made)) (rest_image scans.0 end d.bytes scans.1), scans.1, durable)
 
 module _ (newest format : Format) (create : Bool) (told after : Option DiskState) (same : after ≡ told) (front : (d : DiskState) → told ≡ Some d → take 8 d.bytes ≡ head format) (durable : (d : DiskState) → told ≡ Some d → IsDurable d) where
-  pub scan_opens : (r : Result ℕ JournalError) → ((d : DiskState) → told ≡ Some d → Scans newest format r d) → IfOk r (λ end. Tells (Opens newest create end) told after)
-  scan_opens (Ok end) scans = tells_map_at (λ d e. d ≡ e) (Opens newest create end) told after
-      (λ d e tells is. subst (Opens newest create end d) is (opens_read newest format create end d (head_made format d.bytes (front d tells)) (durable d tells) (scans d tells)))
+  pub scan_opens : (r : Result ℕ JournalError) → ((d : DiskState) → told ≡ Some d → Scans newest format r d) → IfOk r (λ end. Tells (Opens newest create (end, format)) told after)
+  scan_opens (Ok end) scans = tells_map_at (λ d e. d ≡ e) (Opens newest create (end, format)) told after
+      (λ d e tells is. subst (Opens newest create (end, format) d) is (opens_read newest format create end d (head_made format d.bytes (front d tells)) (durable d tells) (scans d tells)))
       (tells_same (λ d e. d ≡ e) told after (λ d. refl) same)
   scan_opens (Err e) scans = tt
 
@@ -86,9 +86,15 @@ keeps_on newest create x d f calls =
     later_then (MayBeLeft newest (is_to_make create d.bytes) d.bytes) d calls.0 f (synced_keeps newest create d calls.0 x calls.1)
     (subst (λ (b : List ℕ). Later (MayBeLeft newest (is_to_make create b) b) calls.0 f) same calls.2)
 
-pub opens_on : {T : Type 0} (newest : Format) (create : Bool) (end : ℕ) (x : T) (d f : DiskState) → Then (Syncs (Ok x)) (Opens newest create end) d f → Opens newest create end d f
-opens_on newest create end x d f calls =
-    (calls.2.0, calls.2.1, subst (λ (b : List ℕ). OpensAs newest (is_to_make create b) b calls.2.1) (synced_bytes x d calls.0 calls.1) calls.2.2, calls.2.3, calls.2.4)
+pub opens_on : {T : Type 0} (newest : Format) (create : Bool) (found : ℕ × Format) (x : T) (d f : DiskState) → Then (Syncs (Ok x)) (Opens newest create found) d f → Opens newest create found d f
+opens_on newest create found x d f calls =
+    let same = synced_bytes x d calls.0 calls.1 in (
+      (λ reads. calls.2.0 (ap (is_to_make create) same ∙ reads) ∙ same),
+      calls.2.1,
+      subst (λ (b : List ℕ). OpensAs newest (is_to_make create b) b calls.2.1) same calls.2.2,
+      calls.2.3,
+      calls.2.4,
+    )
 
 pub refuses_on : {T : Type 0} (newest : Format) (create : Bool) (e : JournalError) (x : T) (d a : DiskState) → Syncs (Ok x) d a → Refuses newest create e a → Refuses newest create e d
 refuses_on newest create DiskFault x d a syncs refuses = tt
@@ -110,6 +116,3 @@ sync_failed newest create (Err port_memory) d e failed syncs = subst (KeepsFile 
 pub synced_ok : {T : Type 0} (r : Result T PortError) (a b : Option DiskState) → is_err r ≡ false → Tells (Syncs r) a b → (x : T) × Tells (Syncs (Ok x)) a b
 synced_ok (Ok x) a b done tells = (x, tells)
 synced_ok (Err e) a b done tells = absurd cc
-
-pub opens_holding : (newest : Format) (create : Bool) (end : ℕ) (d e : DiskState) → Opens newest create end d e → OpensHolding newest create d e
-opens_holding newest create end d e opens = (opens.1, opens.2, record { image = rest_image opens.1 end e.bytes opens.3; durable = opens.4 })

@@ -5,20 +5,19 @@ use Rattle.disk_model.specs.Disk.{DiskState, Torn, overwritten, Writes, Syncs}
 use Rattle.disk_model.specs.Crash.{IsDurable, Since}
 use Rattle.disk_model.proofs.Stages.{Then, Stage, stage_start, stage_write, stage_sync, synced_durable, synced_bytes, wrote_bytes, since_stage}
 use Rattle.tx_journal.specs.declared.format.Format.{Format}
-use Rattle.tx_journal.specs.File.{framed, spelled, IsShort, file_payloads, IsBeforeOrAfter}
-use Rattle.tx_journal.specs.Journal.{IsAtRest, PutsRecord, HasRecord}
-use Rattle.tx_journal.proofs.Files.{image_closed}
+use Rattle.tx_journal.specs.File.{framed, spelled, IsShort}
+use Rattle.tx_journal.specs.Journal.{IsAtRest, RestsBeforeOrAfter, PutsRecord, HasRecord}
 use Rattle.tx_journal.proofs.Records.{rest_within, torn_behind, staged, written_behind, torn_gate, written_gate, at_rest_again}
 
 module _ (newest format : Format) (payloads : List (List ℕ)) (payload : List ℕ) (end : ℕ) (d : DiskState) (at_rest : IsAtRest newest format payloads end d.bytes) (durable : IsDurable d) (short : IsShort payload) where
   abbrev P : List ℕ → Type 0
-  P = IsBeforeOrAfter newest payloads payload
+  P = RestsBeforeOrAfter newest format payloads payload
 
   abbrev text : List ℕ
   text = framed payload ++ 0 ∷ []
 
   here : P d.bytes
-  here = inl (ap (file_payloads newest) at_rest.file ∙ image_closed newest format payloads at_rest.gate at_rest.rest at_rest.known at_rest.short at_rest.shut)
+  here = inl (end, at_rest)
 
   pub first : {T : Type 0} (r : Result T PortError) (a : DiskState) → Writes end text r d a → Stage P d a
   first r a write = stage_write P d d a end text r (stage_start P d durable here) durable (rest_within payloads end d.bytes at_rest).1 write (λ c torn. inl (torn_behind payloads end (length text) d.bytes c at_rest torn))

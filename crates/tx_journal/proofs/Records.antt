@@ -1,13 +1,12 @@
 -- What the bytes of a journal at rest become while a record is put behind them.
-use Rattle.std.proofs.Common.{◌≡◌, ◌≢◌, inl, inr, ℕ, suc, ◌+◌, ◌≤◌, true, List, [], ◌∷◌, ◌++◌, length, get_or, take, drop, Ok, sym, ◌∙◌, ap, subst, arith, append_assoc, length-append, take-append-drop}
+use Rattle.std.proofs.Common.{◌≡◌, ◌≢◌, inl, inr, ℕ, suc, ◌+◌, ◌≤◌, true, List, [], ◌∷◌, ◌++◌, length, get_or, take, drop, refl, sym, ◌∙◌, ap, subst, arith, append_assoc, length-append, take-append-drop}
 use Rattle.std.proofs.lemmas.Bool.{cases_eq}
 use Rattle.std.proofs.lemmas.List.{take_at, drop_at, drop_more, append-nil}
 use Rattle.std.specs.List.{AllByRecursion}
 use Rattle.disk_model.specs.Disk.{Torn, overwritten}
 use Rattle.tx_journal.specs.declared.format.Format.{Format}
-use Rattle.tx_journal.specs.File.{name, head, is_known, framed, records, spelled, IsShort, file_payloads, IsBeforeOrAfter}
-use Rattle.tx_journal.specs.Journal.{IsAtRest}
-use Rattle.tx_journal.proofs.Files.{image_closed}
+use Rattle.tx_journal.specs.File.{name, head, is_known, framed, records, spelled, IsShort}
+use Rattle.tx_journal.specs.Journal.{IsAtRest, IsSpelled, RestsBeforeOrAfter}
 
 records-push : (payloads : List (List ℕ)) (payload : List ℕ) → records (payloads ++ payload ∷ []) ≡ records payloads ++ (1 ∷ framed payload)
 records-push [] payload = ap (λ (l : List ℕ). 1 ∷ l) (append-nil (framed payload))
@@ -34,12 +33,17 @@ front {newest} {format} payloads end bytes at_rest =
     ap (λ (l : List ℕ). take end l) (at_rest.file ∙ sym (append_assoc (spelled format payloads) (at_rest.gate ∷ []) at_rest.rest))
     ∙ take_at (spelled format payloads ++ at_rest.gate ∷ []) at_rest.rest end (omega (arith, at_rest.end_is, length-append (spelled format payloads) (at_rest.gate ∷ [])))
 
+-- such a file, with a closed gate and any bytes behind it
+pub at_rest_of : (newest format : Format) (payloads : List (List ℕ)) (gate : ℕ) (rest : List ℕ) → is_known newest (name format) ≡ true → AllByRecursion IsShort payloads → gate ≢ 1 → IsSpelled newest format payloads (spelled format payloads ++ gate ∷ rest)
+at_rest_of newest format payloads gate rest known short shut =
+    (length (spelled format payloads) + 1, record { known = known; gate = gate; rest = rest; shut = shut; short = short; file = refl; end_is = refl })
+
 -- the closed gate stands in whatever the first write may leave
-pub torn_behind : {newest format : Format} (payloads : List (List ℕ)) (end n : ℕ) (bytes c : List ℕ) → IsAtRest newest format payloads end bytes → Torn end n bytes c → file_payloads newest c ≡ Ok payloads
+pub torn_behind : {newest format : Format} (payloads : List (List ℕ)) (end n : ℕ) (bytes c : List ℕ) → IsAtRest newest format payloads end bytes → Torn end n bytes c → IsSpelled newest format payloads c
 torn_behind {newest} {format} payloads end n bytes c at_rest torn =
     let whole : c ≡ spelled format payloads ++ at_rest.gate ∷ drop end c =
     sym (take-append-drop end c) ∙ ap (λ (l : List ℕ). l ++ drop end c) (torn.before ∙ front payloads end bytes at_rest) ∙ append_assoc (spelled format payloads) (at_rest.gate ∷ []) (drop end c) in
-    ap (file_payloads newest) whole ∙ image_closed newest format payloads at_rest.gate (drop end c) at_rest.known at_rest.short at_rest.shut
+    subst (IsSpelled newest format payloads) (sym whole) (at_rest_of newest format payloads at_rest.gate (drop end c) at_rest.known at_rest.short at_rest.shut)
 
 -- the file with a record behind its closed gate
 abbrev pub staged : Format → List (List ℕ) → ℕ → List ℕ → List ℕ → List ℕ
@@ -57,14 +61,14 @@ written_behind {newest} {format} payloads end bytes payload at_rest =
 
 module _ (newest format : Format) (known : is_known newest (name format) ≡ true) (payloads : List (List ℕ)) (gate : ℕ) (payload rest : List ℕ) (short : AllByRecursion IsShort payloads) (fits : IsShort payload) where
   -- a whole record behind any gate counts or it doesn't
-  either : (g : ℕ) → IsBeforeOrAfter newest payloads payload (staged format payloads g payload rest)
+  either : (g : ℕ) → RestsBeforeOrAfter newest format payloads payload (staged format payloads g payload rest)
   either g = elim (cases_eq g 1) [
-    | inl open_ ↦ inr (ap (λ (k : ℕ). file_payloads newest (staged format payloads k payload rest)) open_ ∙ ap (file_payloads newest) (sym (spelled-push format payloads payload (0 ∷ rest))) ∙ image_closed newest format (payloads ++ payload ∷ []) 0 rest known (short-push payloads payload short fits) (omega arith))
-    | inr shut ↦ inl (image_closed newest format payloads g (framed payload ++ 0 ∷ rest) known short shut)
+    | inl open_ ↦ inr (subst (IsSpelled newest format (payloads ++ payload ∷ [])) (spelled-push format payloads payload (0 ∷ rest) ∙ ap (λ (k : ℕ). staged format payloads k payload rest) (sym open_)) (at_rest_of newest format (payloads ++ payload ∷ []) 0 rest known (short-push payloads payload short fits) (omega arith)))
+    | inr shut ↦ inl (at_rest_of newest format payloads g (framed payload ++ 0 ∷ rest) known short shut)
   ]
 
   -- the record stands whole in whatever the second write may leave
-  pub torn_gate : (at : ℕ) (c : List ℕ) → at ≡ length (spelled format payloads) → Torn at 1 (staged format payloads gate payload rest) c → IsBeforeOrAfter newest payloads payload c
+  pub torn_gate : (at : ℕ) (c : List ℕ) → at ≡ length (spelled format payloads) → Torn at 1 (staged format payloads gate payload rest) c → RestsBeforeOrAfter newest format payloads payload c
   torn_gate at c at_is torn =
       let file = staged format payloads gate payload rest in
       let size : length file ≡ length (spelled format payloads) + suc (length (framed payload ++ 0 ∷ rest)) = length-append (spelled format payloads) (gate ∷ (framed payload ++ 0 ∷ rest)) in
@@ -75,7 +79,7 @@ module _ (newest format : Format) (known : is_known newest (name format) ≡ tru
       let g = get_or c at 0 in
       let tail : drop at c ≡ g ∷ (framed payload ++ 0 ∷ rest) = drop_more c at 0 (omega (arith, torn.no_shorter, size, at_is)) ∙ ap (λ (l : List ℕ). g ∷ l) behind in
       let whole : c ≡ staged format payloads g payload rest = sym (take-append-drop at c) ∙ ap (λ (l : List ℕ). l ++ drop at c) before ∙ ap (λ (l : List ℕ). spelled format payloads ++ l) tail in
-      subst (IsBeforeOrAfter newest payloads payload) (sym whole) (either g)
+      subst (RestsBeforeOrAfter newest format payloads payload) (sym whole) (either g)
 
   pub written_gate : (at : ℕ) → at ≡ length (spelled format payloads) → overwritten (staged format payloads gate payload rest) at (1 ∷ []) ≡ spelled format (payloads ++ payload ∷ []) ++ 0 ∷ rest
   written_gate at at_is =
@@ -85,9 +89,6 @@ module _ (newest format : Format) (known : is_known newest (name format) ≡ tru
       ∙ ap (λ (l : List ℕ). (spelled format payloads ++ (1 ∷ [])) ++ l) (ap (λ (l : List ℕ). drop (at + 1) l) regrouped ∙ drop_at (spelled format payloads ++ gate ∷ []) (framed payload ++ 0 ∷ rest) (at + 1) (omega (arith, at_is, length-append (spelled format payloads) (gate ∷ []))))
       ∙ append_assoc (spelled format payloads) (1 ∷ []) (framed payload ++ 0 ∷ rest)
       ∙ sym (spelled-push format payloads payload (0 ∷ rest))
-
-  pub staged_image : gate ≢ 1 → IsBeforeOrAfter newest payloads payload (staged format payloads gate payload rest)
-  staged_image shut = inl (image_closed newest format payloads gate (framed payload ++ 0 ∷ rest) known short shut)
 
   pub at_rest_again : (end : ℕ) (bytes : List ℕ) → end ≡ length (spelled format payloads) + 1 → bytes ≡ spelled format (payloads ++ payload ∷ []) ++ 0 ∷ rest → IsAtRest newest format (payloads ++ payload ∷ []) (end + length (framed payload ++ 0 ∷ [])) bytes
   at_rest_again end bytes end_is is =

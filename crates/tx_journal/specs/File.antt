@@ -83,6 +83,11 @@ is_made (gate ∷ next ∷ rest) = gate == 1
 abbrev pub FileMade : List ℕ → Type 0
 FileMade file = is_made file ≡ true
 
+-- a file with its gate open
+abbrev pub opened : List ℕ → List ℕ
+opened [] = []
+opened (gate ∷ rest) = 1 ∷ rest
+
 -- a journal that goes up to a format knows this name; the second format comes with the first
 abbrev pub is_known : Format → List ℕ → Bool
 is_known One text = same_bytes text (name One)

@@ -14,13 +14,6 @@ use Rattle.tx_journal.specs.declared.kind.FileKind.{FileKind}
 use Rattle.tx_journal.specs.declared.kind.FileKind.TheVariants.{Unmade, Other, Journal as Journal_}
 use Rattle.tx_journal.specs.File.{name, head, framed, records, spelled, IsShort, longest, most_bytes, payloads_from, file_payloads, is_made, FileMade, is_known, JournalImage, IsBeforeOrAfter, IsEmptyOrUnmade}
 
--- what the disk tells, how often it failed, the offset behind the last gate, and whether a call met a fault
-pub record JournalState : Type 0 where
-  pub told : Option DiskState
-  pub faults : ℕ
-  pub end : ℕ
-  pub is_broken : Bool
-
 -- the bytes are a file of this known format and these payloads, a closed gate just before this offset, and any bytes behind it
 pub record IsAtRest (newest format : Format) (payloads : List (List ℕ)) (end : ℕ) (bytes : List ℕ) : Type 0 where
   pub known : is_known newest (name format) ≡ true
@@ -42,54 +35,21 @@ pub record IsSettled (newest format : Format) (payloads : List (List ℕ)) (end 
   pub durable : IsDurable d
   pub gate : IsGateOf payloads cursor.index cursor.gate
 
--- What is true of each journal: room for the longest record; and unless it met a fault, a disk that tells is settled.
-pub record IsSound (told : Option DiskState) (cursor : Cursor) (end : ℕ) (is_broken : Bool) (room : ℕ) : Type 0 where
-  pub room_is : room ≡ longest + 5
-  pub some : 9 ≤ end
-  pub few : end ≤ most_bytes
-  pub settled : is_broken ≡ false → (d : DiskState) → told ≡ Some d → (payloads : List (List ℕ)) × IsSettled One One payloads end cursor d
+-- the bytes are such a file, wherever its last gate is
+abbrev pub IsSpelled : Format → Format → List (List ℕ) → List ℕ → Type 0
+IsSpelled newest format payloads file = (end : ℕ) × IsAtRest newest format payloads end file
 
--- the file stands for these payloads, and so does whatever a crash leaves now
-pub record Holds (newest : Format) (payloads : List (List ℕ)) (d : DiskState) : Type 0 where
-  pub image : JournalImage newest payloads d.bytes
-  pub durable : IsDurable d
-
--- The refusals of an append that change nothing, in their order.
-abbrev pub refusal_of : JournalState → List ℕ → Option JournalError
-refusal_of j payload =
-    if j.is_broken then Some Reopen
-    else if nat_lt longest (length payload) then Some (TooLong (length payload))
-    else if nat_lt most_bytes (j.end + 5 + length payload) then Some (Full j.end)
-    else None
+-- a file of the payloads, with one more or without it
+abbrev pub RestsBeforeOrAfter : Format → Format → List (List ℕ) → List ℕ → List ℕ → Type 0
+RestsBeforeOrAfter newest format payloads payload file = IsSpelled newest format payloads file ⊎ IsSpelled newest format (payloads ++ payload ∷ []) file
 
 -- the count of faults rose, or stands at its end
 abbrev pub Rises : ℕ → ℕ → Type 0
 Rises before after = (before < after) ⊎ IsSpent after
 
--- an append that isn't refused: it is done, or the disk failed in it and the journal must be opened again
-abbrev pub Appends : {T : Type 0} → List ℕ → Result T JournalError → JournalState → JournalState → Type 0
-Appends payload (Ok x) old new = (new.end ≡ old.end + 5 + length payload) × (new.is_broken ≡ false) × (old.faults ≤ new.faults)
-Appends payload (Err DiskFault) old new = (new.is_broken ≡ true) × Rises old.faults new.faults
-Appends payload (Err (Damaged offset)) old new = ⊥
-Appends payload (Err (TooLong n)) old new = ⊥
-Appends payload (Err (Full len)) old new = ⊥
-Appends payload (Err Reopen) old new = ⊥
-Appends payload (Err NotStarted) old new = ⊥
-Appends payload (Err OneDisk) old new = ⊥
-Appends payload (Err (Spent count)) old new = ⊥
-Appends payload (Err OutOfMemory) old new = ⊥
-
--- Whatever a crash leaves at any moment of an append stands for the payloads that the journal held, with the new one or without.
-abbrev pub Commits : Format → List ℕ → DiskState → DiskState → Type 0
-Commits newest payload d e = (payloads : List (List ℕ)) → Holds newest payloads d → Since (IsBeforeOrAfter newest payloads payload) d e
-
--- After it was answered Ok the journal holds the new one too.
-abbrev pub Committed : Format → List ℕ → DiskState → DiskState → Type 0
-Committed newest payload d e = (payloads : List (List ℕ)) → Holds newest payloads d → Holds newest (payloads ++ payload ∷ []) e
-
 -- What the four calls of an append leave of a durable disk at rest, for the record of a payload.
 abbrev pub PutsRecord : ℕ → List ℕ → DiskState → DiskState → Type 0
-PutsRecord end bytes d e = (newest format : Format) (payloads : List (List ℕ)) (payload : List ℕ) → IsAtRest newest format payloads end d.bytes → IsDurable d → IsShort payload → bytes ≡ framed payload ++ 0 ∷ [] → Since (IsBeforeOrAfter newest payloads payload) d e
+PutsRecord end bytes d e = (newest format : Format) (payloads : List (List ℕ)) (payload : List ℕ) → IsAtRest newest format payloads end d.bytes → IsDurable d → IsShort payload → bytes ≡ framed payload ++ 0 ∷ [] → Since (RestsBeforeOrAfter newest format payloads payload) d e
 
 -- what they leave where each is done
 abbrev pub HasRecord : ℕ → List ℕ → DiskState → DiskState → Type 0
@@ -136,8 +96,8 @@ OpensAs newest true bytes payloads = payloads ≡ []
 OpensAs newest false bytes payloads = JournalImage newest payloads bytes
 
 -- what an opening that is done found or made
-abbrev pub Opens : Format → Bool → ℕ → DiskState → DiskState → Type 0
-Opens newest create end d e = (format : Format) × (payloads : List (List ℕ)) × OpensAs newest (is_to_make create d.bytes) d.bytes payloads × IsAtRest newest format payloads end e.bytes × IsDurable e
+abbrev pub Opens : Format → Bool → ℕ × Format → DiskState → DiskState → Type 0
+Opens newest create found d e = (is_to_make create d.bytes ≡ false → e.bytes ≡ d.bytes) × (payloads : List (List ℕ)) × OpensAs newest (is_to_make create d.bytes) d.bytes payloads × IsAtRest newest found.1 payloads found.0 e.bytes × IsDurable e
 
 -- the cause of a refused opening
 abbrev pub Refuses : Format → Bool → JournalError → DiskState → Type 0
@@ -231,12 +191,8 @@ IsKind newest front (Journal_ format) = (front ≡ head format) × (is_known new
 -- the same of a disk whose first bytes were read
 abbrev pub LooksLike : Format → DiskState → FileKind → Type 0
 LooksLike newest d Unmade = is_made d.bytes ≡ false
-LooksLike newest d Other = file_payloads newest d.bytes ≡ Err 1
+LooksLike newest d Other = FileMade d.bytes × (is_known newest (take 7 (drop 1 d.bytes)) ≡ false)
 LooksLike newest d (Journal_ format) = (take 8 d.bytes ≡ head format) × (is_known newest (name format) ≡ true)
-
--- an opened journal holds no payload where its file was made, and those of its file otherwise
-abbrev pub OpensHolding : Format → Bool → DiskState → DiskState → Type 0
-OpensHolding newest create d e = (payloads : List (List ℕ)) × OpensAs newest (is_to_make create d.bytes) d.bytes payloads × Holds newest payloads e
 
 -- what a replay answers of payloads: the one at the index, or none past the last
 abbrev pub Replays : {Z : Type 0} → List (List ℕ) → ℕ → Result (Option (Vec ℕ Z)) JournalError → Type 0

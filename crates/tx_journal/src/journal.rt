@@ -1,65 +1,86 @@
-// The journal over one disk.
-ghost use Rattle.std.specs.Prelude.{◌≡◌, ◌<◌, ◌≤◌, ℕ, List, length, true, false, ◌||◌, IsErrOf, OnOk, IfOk, IfErr, Some, None};
+// The journal over one disk, or over the live one of two.
+ghost use Rattle.std.specs.Prelude.{◌≡◌, ◌<◌, ◌≤◌, ℕ, List, length, take, drop, true, false, ◌||◌, IsErrOf, OnOk, IfOk, IfErr, IfSome, IfNone, Some, None, option_map};
 ghost use Rattle.disk_model.specs.Disk.{DiskState, Tells};
-ghost use Rattle.tx_journal.specs.Journal.{refusal_of, Appends, Commits, Committed, OpensHolding, Refuses, KeepsFile, IsOpenError, Rises, Holds, Replays, Costs, is_fault};
-ghost use Rattle.tx_journal.specs.declared.format.Format.TheVariants.{One};
+ghost use Rattle.tx_journal.specs.File.{name};
+ghost use Rattle.tx_journal.specs.Pair.{Files, Holds};
+ghost use Rattle.tx_journal.specs.Journal.{IsOpenError, Rises, Replays, Costs, is_fault};
+ghost use Rattle.tx_journal.specs.Calls.{Side, JournalState, told, tell_one, first_side, second_side, append_refusal, Appends, Commits, Committed, rows_in, IsOpened, OpensFiles, RefusesFiles, KeepsFiles};
 
 use crate::error::JournalError;
 use crate::find::{Cursor, FIRST, find, start_at};
 use crate::format::Format;
 use crate::open::settle;
 use crate::record::{fill, put_record};
-
+use crate::survey::number_in;
 use disk_model::Disk;
 use std::alloc::{AllocError, Global};
 use std::marker::Model;
 
+mod compact;
+mod pair;
+
 const LONGEST: usize = 5_242_880;
 
-const ROOM: usize = 5_242_885;
+const ROOM: usize = 5_242_886;
 
 const MOST_BYTES: u64 = 1_073_741_824;
 
 /// Payloads in a file, in order. An append is on the disk before it is answered.
+///
+/// A journal of two disks can be compacted: the file that isn't live gets new rows, and then is the live one.
 #[derive(Drop)]
 pub struct Journal<D: Disk> {
-    disk: D,
+    live: D,
+    other: Option<D>,
+    is_second_live: bool,
+    format: Format,
+    generation: Option<u64>,
     end: u64,
     cursor: Cursor,
+    is_shut: bool,
+    staged: Option<u64>,
     is_broken: bool,
     buffer: Vec<u8>,
 }
 
 impl<D: Disk> Model for Journal<D> {
-    ghost use Rattle.std.specs.Prelude.{length};
-    ghost use Rattle.tx_journal.specs.Journal.{JournalState, IsSound};
+    ghost use Rattle.std.specs.Prelude.{length, option_map};
+    ghost use Rattle.tx_journal.specs.Calls.{JournalState};
+    ghost use Rattle.tx_journal.specs.Sound.{IsSound};
 
     ghost Value = { JournalState };
 
-    ghost view = { λ j. record { told = D.told j.disk; faults = D.disk_faults j.disk; end = j.end; is_broken = j.is_broken } };
+    ghost view = { λ j. record { live = record { told = D.told j.live; faults = D.disk_faults j.live }; other = option_map (λ d. record { told = D.told d; faults = D.disk_faults d }) j.other; is_second_live = j.is_second_live; format = j.format; generation = j.generation; end = j.end; staged = j.staged; is_broken = j.is_broken } };
 
-    ghost invariant = { λ j. IsSound (D.told j.disk) j.cursor j.end j.is_broken (length j.buffer.items) };
+    ghost invariant = { λ j. IsSound (record { live = record { told = D.told j.live; faults = D.disk_faults j.live }; other = option_map (λ d. record { told = D.told d; faults = D.disk_faults d }) j.other; is_second_live = j.is_second_live; format = j.format; generation = j.generation; end = j.end; staged = j.staged; is_broken = j.is_broken }) j.cursor j.is_shut (length j.buffer.items) };
 }
 
 impl<D: Disk> Journal<D> {
-    /// Opens the file: makes it where `create` bids so and it isn't made, and reads it otherwise.
+    /// Opens a file of its own: makes it where `create` bids so and it isn't made, and reads it otherwise.
     /// A refused opening hands the disk back.
     pub fn open(alloc: Global, disk: D, create: bool) -> Result<Journal<D>, (JournalError, D)>
-        ensures opened { IfOk result (λ j. (j.is_broken ≡ false) × Tells (OpensHolding One create) (D.told disk) j.told) }
-        ensures refused { IfErr result (λ r. IsOpenError r.0 × ((d : DiskState) → D.told disk ≡ Some d → Refuses One create r.0 d)) }
-        ensures crash { IfOk result (λ j. Tells (KeepsFile One create) (D.told disk) j.told) }
-        ensures crash_refused { IfErr result (λ r. Tells (KeepsFile One create) (D.told disk) (D.told r.1)) }
+        ensures opened { IfOk result (λ j. Tells (OpensFiles create) (tell_one (D.told disk)) (told j)) }
+        ensures state { IfOk result (λ j. IsOpened j × (j.other ≡ None)) }
+        ensures refused { IfErr result (λ r. IsOpenError r.0 × ((files : Files) → tell_one (D.told disk) ≡ Some files → RefusesFiles create r.0 files)) }
+        ensures crash { IfOk result (λ j. Tells (KeepsFiles create) (tell_one (D.told disk)) (told j)) }
+        ensures crash_refused { IfErr result (λ r. Tells (KeepsFiles create) (tell_one (D.told disk)) (tell_one (D.told r.1))) }
         ensures cause { IfErr result (λ r. r.0 ≡ JournalError.DiskFault → Rises (D.disk_faults disk) (D.disk_faults r.1)) }
     {
         let mut disk = disk;
         let Ok(buffer) = zeros(alloc, ROOM) else {
             return Err((JournalError::OutOfMemory, disk));
         };
-        match settle(alloc, &mut disk, create, Format::One) {
-            Ok(end) => Ok(Journal {
-                disk,
+        match settle(alloc, &mut disk, create) {
+            Ok((end, format)) => Ok(Journal {
+                live: disk,
+                other: None,
+                is_second_live: false,
+                format,
+                generation: None,
                 end,
                 cursor: FIRST,
+                is_shut: false,
+                staged: None,
                 is_broken: false,
                 buffer,
             }),
@@ -67,19 +88,79 @@ impl<D: Disk> Journal<D> {
         }
     }
 
-    /// Ends the journal and hands back its disk, as it is.
-    pub fn close(self) -> D
-        ensures { (D.told result ≡ self.told) × (D.disk_faults result ≡ self.faults) }
+    /// Ends the journal and hands back its disks, as they are.
+    pub fn close(self) -> (D, Option<D>)
+        ensures first { record { told = D.told result.0; faults = D.disk_faults result.0 } ≡ first_side self }
+        ensures second { option_map (λ d. record { told = D.told d; faults = D.disk_faults d }) result.1 ≡ second_side self }
     {
-        let Journal { disk, .. } = self;
-        disk
+        let Journal {
+            live,
+            other,
+            is_second_live,
+            ..
+        } = self;
+        match other {
+            None => (live, None),
+            Some(other) => {
+                if is_second_live {
+                    (other, Some(live))
+                } else {
+                    (live, Some(other))
+                }
+            }
+        }
     }
 
-    /// Lends the disk.
+    /// Lends the first disk.
     pub fn disk(&self) -> &D
-        ensures { (D.told result.now ≡ self.now.told) × (D.disk_faults result.now ≡ self.now.faults) }
+        ensures { record { told = D.told result.now; faults = D.disk_faults result.now } ≡ first_side self.now }
     {
-        &self.disk
+        match &self.other {
+            None => &self.live,
+            Some(other) => {
+                if self.is_second_live {
+                    other
+                } else {
+                    &self.live
+                }
+            }
+        }
+    }
+
+    /// Lends the second disk; `None` for a journal of one.
+    pub fn second(&self) -> Option<&D>
+        ensures some { IfSome result (λ d. second_side self.now ≡ Some record { told = D.told d.now; faults = D.disk_faults d.now }) }
+        ensures none { IfNone result (second_side self.now ≡ None) }
+    {
+        match &self.other {
+            None => None,
+            Some(other) => {
+                if self.is_second_live {
+                    Some(&self.live)
+                } else {
+                    Some(other)
+                }
+            }
+        }
+    }
+
+    /// The length of the live file in bytes, up to the gate behind its last record.
+    pub fn len(&self) -> u64
+        ensures { result ≡ self.now.end }
+    {
+        self.end
+    }
+
+    /// The format of the live file, 1 or 2.
+    pub fn format(&self) -> u8
+        ensures first { self.now.format ≡ Format.One → result ≡ 1 }
+        ensures second { self.now.format ≡ Format.Two → result ≡ 2 }
+        ensures name { self.now.is_broken ≡ false → (d : DiskState) → self.now.live.told ≡ Some d → take 7 (drop 1 d.bytes) ≡ name self.now.format }
+    {
+        match self.format {
+            Format::One => 1,
+            Format::Two => 2,
+        }
     }
 
     /// Whether a call met a fault, so that the journal must be opened again.
@@ -90,25 +171,31 @@ impl<D: Disk> Journal<D> {
     }
 
     /// The payload at the index, from 0; `None` past the last. It writes nothing.
+    /// Of a pair a Generation isn't counted.
     pub fn replay(&mut self, alloc: Global, index: u64) -> Result<Option<Vec<u8>>, JournalError>
         ensures reopen { self.old.is_broken ≡ true → (IsErrOf result JournalError.Reopen) × (self.new ≡ self.old) }
-        ensures found { self.old.is_broken ≡ false → (d : DiskState) → self.old.told ≡ Some d → (payloads : List (List ℕ)) → Holds One payloads d → Replays payloads index result }
-        ensures same { (self.new.told ≡ self.old.told) × (self.new.end ≡ self.old.end) }
+        ensures found { self.old.is_broken ≡ false → (files : Files) → told self.old ≡ Some files → (payloads : List (List ℕ)) → Holds payloads files → Replays (rows_in self.old.other payloads) index result }
+        ensures same { self.new ≡ record self.old { live = record { told = self.old.live.told; faults = self.new.live.faults }; is_broken = self.new.is_broken } }
         ensures broken { self.new.is_broken ≡ (self.old.is_broken || is_fault result) }
-        ensures cause { Costs self.old.faults self.new.faults result }
+        ensures cause { Costs self.old.live.faults self.new.live.faults result }
     {
         if self.is_broken {
             return Err(JournalError::Reopen);
         }
-        let from = start_at(self.cursor, index);
-        match find(alloc, &mut self.disk, from, index) {
+        if index >= MOST_BYTES {
+            return Ok(None);
+        }
+        let place = match (&self.other, self.generation) {
+            (Some(_), Some(_)) => index + 1,
+            _ => index,
+        };
+        let from = start_at(self.cursor, place);
+        match find(alloc, &mut self.live, from, place) {
             Ok(Some((payload, gate))) => {
-                if index < u64::MAX {
-                    self.cursor = Cursor {
-                        index: index + 1,
-                        gate,
-                    };
-                }
+                self.cursor = Cursor {
+                    index: place + 1,
+                    gate,
+                };
                 Ok(Some(payload))
             }
             Ok(None) => Ok(None),
@@ -120,12 +207,12 @@ impl<D: Disk> Journal<D> {
     }
 
     /// Adds a payload. At `Ok` it is on the disk; after `DiskFault` it may be or not, until the journal is opened again.
+    /// A compaction under way is given up.
     pub fn append(&mut self, payload: &[u8]) -> Result<(), JournalError>
-        ensures refused { (e : JournalError) → refusal_of self.old payload.now ≡ Some e → (result ≡ Err e) × (self.new ≡ self.old) }
-        ensures taken { refusal_of self.old payload.now ≡ None → Appends payload.now result self.old self.new }
-        ensures crash { Tells (Commits One payload.now) self.old.told self.new.told }
-        ensures unbroken { OnOk result (self.new.is_broken ≡ false) }
-        ensures done { OnOk result (Tells (Committed One payload.now) self.old.told self.new.told) }
+        ensures refused { (e : JournalError) → append_refusal self.old payload.now ≡ Some e → (result ≡ Err e) × (self.new ≡ self.old) }
+        ensures taken { append_refusal self.old payload.now ≡ None → Appends payload.now result self.old self.new }
+        ensures crash { Tells (Commits payload.now) (told self.old) (told self.new) }
+        ensures done { OnOk result (Tells (Committed payload.now) (told self.old) (told self.new)) }
     {
         if self.is_broken {
             return Err(JournalError::Reopen);
@@ -139,9 +226,13 @@ impl<D: Disk> Journal<D> {
             return Err(JournalError::Full { len: self.end });
         }
         fill(&mut self.buffer, payload);
-        if put_record(&mut self.disk, self.end, &self.buffer[..size]).is_err() {
+        self.staged = None;
+        if put_record(&mut self.live, self.end, &self.buffer[1..size + 1]).is_err() {
             self.is_broken = true;
             return Err(JournalError::DiskFault);
+        }
+        if self.end == 9 {
+            self.generation = number_in(payload);
         }
         self.end += size as u64;
         Ok(())

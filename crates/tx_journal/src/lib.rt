@@ -1,6 +1,7 @@
 // A journal: payloads in a file, each on the disk before its append is answered.
 #![tactic(auto)]
 
+mod compaction;
 mod error;
 mod find;
 mod format;
@@ -8,8 +9,10 @@ mod journal;
 mod kind;
 mod make;
 mod open;
+mod pair;
 mod record;
 mod scan;
+mod survey;
 
 pub use error::JournalError;
 pub use format::Format;

@@ -4,6 +4,7 @@ ghost use Rattle.actor_ports.specs.Port.{HasCause};
 ghost use Rattle.disk_model.specs.Disk.{DiskState, Tells, IsSpent};
 ghost use Rattle.disk_model.specs.Crash.{IsDurable};
 ghost use Rattle.tx_journal.specs.File.{most_bytes, is_made};
+ghost use Rattle.tx_journal.specs.declared.format.Format.TheVariants.{One};
 ghost use Rattle.tx_journal.specs.Journal.{Costs, KeepsFile, Opens, Refuses, IsOpenError, Creates, IsCreated};
 
 use crate::error::JournalError;
@@ -45,53 +46,56 @@ fn create_file<D: Disk>(disk: &mut D, len: u64, format: Format) -> Result<(), Po
 }
 
 // A file that was synced, of so many bytes: made where it is bidden to, or read.
-fn settle_synced<D: Disk>(
+// It answers the offset behind the last gate, and the format.
+pub(crate) fn settle_synced<D: Disk>(
     alloc: Global,
     disk: &mut D,
     len: u64,
     create: bool,
     newest: Format,
-) -> Result<u64, JournalError>
+) -> Result<(u64, Format), JournalError>
     requires ready { (d : DiskState) → D.told disk.old ≡ Some d → IsDurable d × (len ≡ length d.bytes) }
-    requires small { len ≤ most_bytes }
-    ensures opened { IfOk result (λ end. Tells (Opens newest create end) (D.told disk.old) (D.told disk.new)) }
+    ensures opened { IfOk result (λ found. Tells (Opens newest create found) (D.told disk.old) (D.told disk.new)) }
     ensures crash { Tells (KeepsFile newest create) (D.told disk.old) (D.told disk.new) }
     ensures refused { IfErr result (λ e. (d : DiskState) → D.told disk.old ≡ Some d → Refuses newest create e d) }
-    ensures end { IfOk result (λ end. (9 ≤ end) × (end ≤ most_bytes)) }
+    ensures end { IfOk result (λ found. (9 ≤ found.0) × (found.0 ≤ most_bytes)) }
     ensures errors { IfErr result IsOpenError }
     ensures cause { Costs (D.disk_faults disk.old) (D.disk_faults disk.new) result }
 {
+    if len > MOST_BYTES {
+        return Err(JournalError::Full { len });
+    }
     match look_at(alloc, disk, newest)? {
         FileKind::Unmade => {
             if !create {
                 return Err(JournalError::Damaged { offset: 0 });
             }
             match create_file(disk, len, newest) {
-                Ok(()) => Ok(9),
+                Ok(()) => Ok((9, newest)),
                 Err(_) => Err(JournalError::DiskFault),
             }
         }
         FileKind::Other => Err(JournalError::Damaged { offset: 1 }),
-        FileKind::Journal(_) => {
+        FileKind::Journal(format) => {
             if len < 8 {
                 return Err(JournalError::Damaged { offset: 1 });
             }
-            scan(alloc, disk, len)
+            let end = scan(alloc, disk, len)?;
+            Ok((end, format))
         }
     }
 }
 
-// A file that a crash may have left, made or read.
+// A file of its own that a crash may have left, made or read.
 pub(crate) fn settle<D: Disk>(
     alloc: Global,
     disk: &mut D,
     create: bool,
-    newest: Format,
-) -> Result<u64, JournalError>
-    ensures opened { IfOk result (λ end. Tells (Opens newest create end) (D.told disk.old) (D.told disk.new)) }
-    ensures crash { Tells (KeepsFile newest create) (D.told disk.old) (D.told disk.new) }
-    ensures refused { IfErr result (λ e. (d : DiskState) → D.told disk.old ≡ Some d → Refuses newest create e d) }
-    ensures end { IfOk result (λ end. (9 ≤ end) × (end ≤ most_bytes)) }
+) -> Result<(u64, Format), JournalError>
+    ensures opened { IfOk result (λ found. Tells (Opens One create found) (D.told disk.old) (D.told disk.new)) }
+    ensures crash { Tells (KeepsFile One create) (D.told disk.old) (D.told disk.new) }
+    ensures refused { IfErr result (λ e. (d : DiskState) → D.told disk.old ≡ Some d → Refuses One create e d) }
+    ensures end { IfOk result (λ found. (9 ≤ found.0) × (found.0 ≤ most_bytes)) }
     ensures errors { IfErr result IsOpenError }
     ensures cause { Costs (D.disk_faults disk.old) (D.disk_faults disk.new) result }
 {
@@ -102,8 +106,5 @@ pub(crate) fn settle<D: Disk>(
         Ok(len) => len,
         Err(error) => return Err(error.into()),
     };
-    if len > MOST_BYTES {
-        return Err(JournalError::Full { len });
-    }
-    settle_synced(alloc, disk, len, create, newest)
+    settle_synced(alloc, disk, len, create, Format::One)
 }

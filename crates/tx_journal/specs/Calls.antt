@@ -1,0 +1,303 @@
+-- A journal as its callers see it: own.
+use Rattle.std.specs.Prelude.{◌≡◌, ◌<◌, ◌≤◌, ℕ, ◌+◌, Bool, true, false, not, ◌&&◌, List, [], ◌∷◌, ◌++◌, length, Option, Some, None, Result, Ok, Err, nat_lt, ◌==◌, if◌then◌else◌}
+use Rattle.disk_model.specs.Disk.{DiskState}
+use Rattle.disk_model.specs.Crash.{Later}
+use Rattle.tx_journal.specs.declared.error.JournalError.{JournalError}
+use Rattle.tx_journal.specs.declared.error.JournalError.TheVariants.{DiskFault, Damaged, TooLong, Full, Reopen, NotStarted, OneDisk, Spent, OutOfMemory}
+use Rattle.tx_journal.specs.declared.format.Format.{Format}
+use Rattle.tx_journal.specs.declared.format.Format.TheVariants.{One, Two}
+use Rattle.tx_journal.specs.File.{longest, most_bytes, is_made, opened, file_payloads, IsEmptyOrUnmade}
+use Rattle.tx_journal.specs.Journal.{Rises}
+use Rattle.tx_journal.specs.Pair.{Files, generation_row, generation_in, without_generation, number, live_file, read_payloads, SinceOpened, Holds, IsJust, IsEither}
+
+-- a disk of a journal: its state, where it tells it, and how often it failed
+pub record Side : Type 0 where
+  pub told : Option DiskState
+  pub faults : ℕ
+
+-- The live file and the other one of a pair, which of the two is live, format and Generation of the live file, the offset behind
+-- its last gate, the offset where the next row of a compaction under way goes, and whether a call met a fault.
+pub record JournalState : Type 0 where
+  pub live : Side
+  pub other : Option Side
+  pub is_second_live : Bool
+  pub format : Format
+  pub generation : Option ℕ
+  pub end : ℕ
+  pub staged : Option ℕ
+  pub is_broken : Bool
+
+-- the disks in the order in which the journal got them
+abbrev pub first_of : Bool → Side → Option Side → Side
+first_of true live (Some other) = other
+first_of true live None = live
+first_of false live other = live
+
+-- the second one, where there is one
+abbrev pub second_of : Bool → Side → Option Side → Option Side
+second_of true live (Some other) = Some live
+second_of true live None = None
+second_of false live other = other
+
+-- the first disk of a journal
+abbrev pub first_side : JournalState → Side
+first_side j = first_of j.is_second_live j.live j.other
+
+-- its second one
+abbrev pub second_side : JournalState → Option Side
+second_side j = second_of j.is_second_live j.live j.other
+
+-- what one disk tells
+abbrev pub tell_one : Option DiskState → Option Files
+tell_one None = None
+tell_one (Some d) = Some record { first = d; second = None }
+
+-- what two disks tell, where both do
+abbrev pub tell_both : Option DiskState → Option DiskState → Option Files
+tell_both None second = None
+tell_both (Some d) None = None
+tell_both (Some d) (Some e) = Some record { first = d; second = Some e }
+
+-- what the disks in their order tell
+abbrev pub tell_sides : Side → Option Side → Option Files
+tell_sides first None = tell_one first.told
+tell_sides first (Some second) = tell_both first.told second.told
+
+-- what the disks of a journal tell
+abbrev pub told : JournalState → Option Files
+told j = tell_sides (first_side j) (second_side j)
+
+-- the count of the disk that isn't live rose, or stands at its end
+abbrev pub OtherRises : Option Side → Option Side → Type 0
+OtherRises None new = ⊥
+OtherRises (Some old) None = ⊥
+OtherRises (Some old) (Some new) = Rises old.faults new.faults
+
+-- there is no second disk
+abbrev pub is_alone : Option Side → Bool
+is_alone None = true
+is_alone (Some other) = false
+
+-- no compaction is under way
+abbrev pub is_none : Option ℕ → Bool
+is_none None = true
+is_none (Some at) = false
+
+-- no further Generation can come
+abbrev pub is_last : ℕ → Bool
+is_last count = nat_lt 4611686018427387903 count
+
+-- The refusals of an append that change nothing, in their order.
+abbrev pub append_refusal : JournalState → List ℕ → Option JournalError
+append_refusal j payload =
+    if j.is_broken then Some Reopen
+    else if nat_lt longest (length payload) then Some (TooLong (length payload))
+    else if nat_lt most_bytes (j.end + 5 + length payload) then Some (Full j.end)
+    else None
+
+-- the Generation of the live file after an append: the payload, where it is the first one and such a row
+abbrev pub generation_after : JournalState → List ℕ → Option ℕ
+generation_after j payload = if j.end == 9 then generation_in payload else j.generation
+
+-- an append that isn't refused: it is done, or the disk failed in it and the journal must be opened again; a compaction is given up
+abbrev pub Appends : {T : Type 0} → List ℕ → Result T JournalError → JournalState → JournalState → Type 0
+Appends payload (Ok x) old new = (new ≡ record old { live = new.live; end = old.end + 5 + length payload; generation = generation_after old payload; staged = None }) × (old.live.faults ≤ new.live.faults)
+Appends payload (Err DiskFault) old new = (new ≡ record old { live = new.live; staged = None; is_broken = true }) × Rises old.live.faults new.live.faults
+Appends payload (Err (Damaged offset)) old new = ⊥
+Appends payload (Err (TooLong n)) old new = ⊥
+Appends payload (Err (Full len)) old new = ⊥
+Appends payload (Err Reopen) old new = ⊥
+Appends payload (Err NotStarted) old new = ⊥
+Appends payload (Err OneDisk) old new = ⊥
+Appends payload (Err (Spent count)) old new = ⊥
+Appends payload (Err OutOfMemory) old new = ⊥
+
+-- Whatever a crash leaves at any moment of an append stands for the payloads that the journal held, with the new one or without.
+abbrev pub Commits : List ℕ → Files → Files → Type 0
+Commits payload old new = (payloads : List (List ℕ)) → Holds payloads old → SinceOpened (IsEither payloads (payloads ++ payload ∷ [])) old new
+
+-- After it was answered Ok the journal holds the new one too.
+abbrev pub Committed : List ℕ → Files → Files → Type 0
+Committed payload old new = (payloads : List (List ℕ)) → Holds payloads old → Holds (payloads ++ payload ∷ []) new
+
+-- the payloads that a replay counts: of a pair those behind the Generation
+abbrev pub rows_in : Option Side → List (List ℕ) → List (List ℕ)
+rows_in None payloads = payloads
+rows_in (Some other) payloads = without_generation payloads
+
+-- the refusals of the start of a compaction, in their order; they change nothing
+abbrev pub start_refusal : JournalState → Option JournalError
+start_refusal j =
+    if j.is_broken then Some Reopen
+    else if is_alone j.other then Some OneDisk
+    else if is_last (number j.generation) then Some (Spent (number j.generation))
+    else None
+
+-- a start that isn't refused: the other file has its first row, or the disk failed
+abbrev pub Starts : {T : Type 0} → Result T JournalError → JournalState → JournalState → Type 0
+Starts (Ok x) old new = new ≡ record old { other = new.other; staged = Some 31 }
+Starts (Err DiskFault) old new = (new ≡ record old { other = new.other; staged = None; is_broken = true }) × OtherRises old.other new.other
+Starts (Err (Damaged offset)) old new = ⊥
+Starts (Err (TooLong n)) old new = ⊥
+Starts (Err (Full len)) old new = ⊥
+Starts (Err Reopen) old new = ⊥
+Starts (Err NotStarted) old new = ⊥
+Starts (Err OneDisk) old new = ⊥
+Starts (Err (Spent count)) old new = ⊥
+Starts (Err OutOfMemory) old new = ⊥
+
+-- the refusals of a row, in their order
+abbrev pub row_refusal : List ℕ → Option ℕ → Option JournalError
+row_refusal payload None = Some NotStarted
+row_refusal payload (Some at) =
+    if nat_lt longest (length payload) then Some (TooLong (length payload))
+    else if nat_lt most_bytes (at + 5 + length payload) then Some (Full at)
+    else None
+
+-- the refusals of a row of a journal
+abbrev pub add_refusal : JournalState → List ℕ → Option JournalError
+add_refusal j payload = if j.is_broken then Some Reopen else row_refusal payload j.staged
+
+-- a row that is too long or has no room gives the compaction up; the others change nothing
+abbrev pub given_up : JournalError → JournalState → JournalState
+given_up (TooLong n) j = record j { staged = None }
+given_up (Full len) j = record j { staged = None }
+given_up DiskFault j = j
+given_up (Damaged offset) j = j
+given_up Reopen j = j
+given_up NotStarted j = j
+given_up OneDisk j = j
+given_up (Spent count) j = j
+given_up OutOfMemory j = j
+
+-- where the next row goes
+abbrev pub next_row : Option ℕ → List ℕ → Option ℕ
+next_row None payload = None
+next_row (Some at) payload = Some (at + 5 + length payload)
+
+-- a row that isn't refused: it stands in the other file, or the disk failed
+abbrev pub Adds : {T : Type 0} → List ℕ → Result T JournalError → JournalState → JournalState → Type 0
+Adds payload (Ok x) old new = new ≡ record old { other = new.other; staged = next_row old.staged payload }
+Adds payload (Err DiskFault) old new = (new ≡ record old { other = new.other; staged = None; is_broken = true }) × OtherRises old.other new.other
+Adds payload (Err (Damaged offset)) old new = ⊥
+Adds payload (Err (TooLong n)) old new = ⊥
+Adds payload (Err (Full len)) old new = ⊥
+Adds payload (Err Reopen) old new = ⊥
+Adds payload (Err NotStarted) old new = ⊥
+Adds payload (Err OneDisk) old new = ⊥
+Adds payload (Err (Spent count)) old new = ⊥
+Adds payload (Err OutOfMemory) old new = ⊥
+
+-- whatever a crash leaves at any moment of a start or of a row stands for the payloads that the journal held
+abbrev pub Keeps : Files → Files → Type 0
+Keeps old new = (payloads : List (List ℕ)) → Holds payloads old → SinceOpened (IsJust payloads) old new
+
+-- the journal holds what it held
+abbrev pub Kept : Files → Files → Type 0
+Kept old new = (payloads : List (List ℕ)) → Holds payloads old → Holds payloads new
+
+-- what the file that isn't live would stand for if its gate was open
+abbrev pub staged_in : Bool → DiskState → Option DiskState → Result (List (List ℕ)) ℕ
+staged_in is_second_live first None = Err 0
+staged_in true first (Some second) = file_payloads Two (opened first.bytes)
+staged_in false first (Some second) = file_payloads Two (opened second.bytes)
+
+-- the same of the files of a journal
+abbrev pub staged_payloads : Bool → Files → Result (List (List ℕ)) ℕ
+staged_payloads is_second_live files = staged_in is_second_live files.first files.second
+
+-- the other file has one row, the Generation of this number
+abbrev pub HasBegun : Bool → ℕ → Files → Files → Type 0
+HasBegun is_second_live number old new = staged_payloads is_second_live new ≡ Ok (generation_row number ∷ [])
+
+-- it has one row more
+abbrev pub HasRow : Bool → List ℕ → Files → Files → Type 0
+HasRow is_second_live payload old new = (rows : List (List ℕ)) → staged_payloads is_second_live old ≡ Ok rows → staged_payloads is_second_live new ≡ Ok (rows ++ payload ∷ [])
+
+-- the refusals of the end of a compaction, in their order; they change nothing
+abbrev pub end_refusal : JournalState → Option JournalError
+end_refusal j =
+    if j.is_broken then Some Reopen
+    else if is_none j.staged then Some NotStarted
+    else None
+
+-- the number above that of the live file
+abbrev pub next_number : Option ℕ → ℕ
+next_number generation = number generation + 1
+
+-- the end of a compaction that isn't refused: the other file is live, or the disk failed
+abbrev pub Turns : {T : Type 0} → Result T JournalError → JournalState → JournalState → Type 0
+Turns (Ok x) old new =
+    (new ≡ record { live = new.live; other = Some old.live; is_second_live = not old.is_second_live; format = Two; generation = Some (next_number old.generation); end = new.end; staged = None; is_broken = false }) × (old.staged ≡ Some new.end)
+Turns (Err DiskFault) old new = (new ≡ record old { other = new.other; staged = None; is_broken = true }) × OtherRises old.other new.other
+Turns (Err (Damaged offset)) old new = ⊥
+Turns (Err (TooLong n)) old new = ⊥
+Turns (Err (Full len)) old new = ⊥
+Turns (Err Reopen) old new = ⊥
+Turns (Err NotStarted) old new = ⊥
+Turns (Err OneDisk) old new = ⊥
+Turns (Err (Spent count)) old new = ⊥
+Turns (Err OutOfMemory) old new = ⊥
+
+-- whatever a crash leaves at any moment of the end stands for the payloads that the journal held, or for the rows
+abbrev pub Replaces : Bool → Files → Files → Type 0
+Replaces is_second_live old new = (payloads rows : List (List ℕ)) → Holds payloads old → staged_payloads is_second_live old ≡ Ok rows → SinceOpened (IsEither payloads rows) old new
+
+-- after it was answered Ok the journal holds the rows
+abbrev pub Replaced : Bool → Files → Files → Type 0
+Replaced is_second_live old new = (rows : List (List ℕ)) → staged_payloads is_second_live old ≡ Ok rows → Holds rows new
+
+-- an opening makes a file where it is bidden to and none is made
+abbrev pub is_making : Bool → DiskState → Option DiskState → Bool
+is_making create first None = create && not (is_made first.bytes)
+is_making create first (Some second) = create && not (is_made first.bytes) && not (is_made second.bytes)
+
+-- what an opening finds: nothing where it makes the first file, else the payloads of the live one
+abbrev pub FindsIn : Bool → Files → List (List ℕ) → Type 0
+FindsIn true files payloads = payloads ≡ []
+FindsIn false files payloads = read_payloads files ≡ Ok payloads
+
+-- an opening that is done
+abbrev pub OpensFiles : Bool → Files → Files → Type 0
+OpensFiles create old new = (payloads : List (List ℕ)) × FindsIn (is_making create old.first old.second) old payloads × Holds payloads new
+
+-- what a crash in an opening leaves: while the first file is made, one that isn't or one without records; else the files as they were read
+abbrev pub MayBeLeftIn : Bool → DiskState → Option DiskState → List ℕ → Option (List ℕ) → Type 0
+MayBeLeftIn true first None f None = IsEmptyOrUnmade One f
+MayBeLeftIn true first (Some second) f (Some g) = IsEmptyOrUnmade Two f × (g ≡ second.bytes)
+MayBeLeftIn false first None f None = f ≡ first.bytes
+MayBeLeftIn false first (Some second) f (Some g) = (f ≡ first.bytes) × (g ≡ second.bytes)
+MayBeLeftIn making first None f (Some g) = ⊥
+MayBeLeftIn making first (Some second) f None = ⊥
+
+-- at any moments later, each of the one disk with each of the other
+abbrev pub LaterBoth : (List ℕ → Option (List ℕ) → Type 0) → DiskState → Option DiskState → DiskState → Option DiskState → Type 0
+LaterBoth P first None first_new None = Later (λ f. P f None) first first_new
+LaterBoth P first (Some second) first_new (Some second_new) = Later (λ f. Later (λ g. P f (Some g)) second second_new) first first_new
+LaterBoth P first None first_new (Some second_new) = ⊥
+LaterBoth P first (Some second) first_new None = ⊥
+
+-- whatever a crash leaves once the first syncs of an opening are done
+abbrev pub KeepsFiles : Bool → Files → Files → Type 0
+KeepsFiles create old new = LaterBoth (MayBeLeftIn (is_making create old.first old.second) old.first old.second) old.first old.second new.first new.second
+
+-- the bytes of the file that counts
+abbrev pub live_bytes : DiskState → Option DiskState → List ℕ
+live_bytes first None = first.bytes
+live_bytes first (Some second) = live_file first.bytes second.bytes
+
+-- the cause of a refused opening
+abbrev pub RefusesFiles : Bool → JournalError → Files → Type 0
+RefusesFiles create DiskFault files = Unit {0}
+RefusesFiles create (Damaged offset) files = (is_making create files.first files.second ≡ false) × (read_payloads files ≡ Err offset)
+RefusesFiles create (TooLong n) files = ⊥
+RefusesFiles create (Full len) files = (len ≡ length (live_bytes files.first files.second)) × (most_bytes < len)
+RefusesFiles create Reopen files = ⊥
+RefusesFiles create NotStarted files = ⊥
+RefusesFiles create OneDisk files = ⊥
+RefusesFiles create (Spent count) files = ⊥
+RefusesFiles create OutOfMemory files = Unit {0}
+
+-- a journal as it is opened
+abbrev pub IsOpened : JournalState → Type 0
+IsOpened j = (j.is_broken ≡ false) × (j.staged ≡ None)

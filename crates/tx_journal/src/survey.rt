@@ -1,0 +1,93 @@
+// What an opening of two files sees of each, and which of them it takes for live.
+ghost use Rattle.std.specs.Prelude.{◌≡◌, ◌<◌, ◌≤◌, ◌^◌, ℕ, length, take, IfOk, IfErr, IfSome, Some};
+ghost use Rattle.disk_model.specs.Disk.{DiskState};
+ghost use Rattle.tx_journal.specs.declared.format.Format.TheVariants.{Two};
+ghost use Rattle.tx_journal.specs.Pair.{generation_at, generation_in};
+ghost use Rattle.tx_journal.specs.Journal.{Costs, IsPortFault};
+ghost use Rattle.tx_journal.specs.Seen.{Sees, is_second_seen};
+
+use crate::error::JournalError;
+use crate::format::Format;
+use crate::kind::{FileKind, look_at};
+use crate::scan::read_at;
+use disk_model::Disk;
+use std::alloc::Global;
+
+// What was seen of a file: its length, its kind, and its Generation.
+#[derive(Clone, Copy, Debug)]
+pub(crate) struct Seen {
+    pub(crate) len: u64,
+    pub(crate) kind: FileKind,
+    pub(crate) generation: Option<u64>,
+}
+
+const GENERATION: &[u8] = b"\x01\0\0\0\x11\0\0\0\0\0\0\0\0\x80";
+
+// The number of a Generation that is read from its gate on.
+fn number_at(front: &[u8]) -> Option<u64>
+    ensures { result ≡ generation_at front.now }
+{
+    if front.len() != 22 || &front[..14] != GENERATION {
+        return None;
+    }
+    Some(u64::from_be_bytes([
+        front[14], front[15], front[16], front[17], front[18], front[19], front[20], front[21],
+    ]))
+}
+
+// The number of a Generation that is appended, where the payload is one.
+pub(crate) fn number_in(payload: &[u8]) -> Option<u64>
+    ensures { result ≡ generation_in payload.now }
+{
+    if payload.len() != 17 || &payload[..9] != &GENERATION[5..] {
+        return None;
+    }
+    Some(u64::from_be_bytes([
+        payload[9],
+        payload[10],
+        payload[11],
+        payload[12],
+        payload[13],
+        payload[14],
+        payload[15],
+        payload[16],
+    ]))
+}
+
+// Looks at a file.
+pub(crate) fn survey<D: Disk>(alloc: Global, disk: &mut D) -> Result<Seen, JournalError>
+    ensures seen { (d : DiskState) → D.told disk.old ≡ Some d → IfOk result (Sees d) }
+    ensures errors { IfErr result IsPortFault }
+    ensures same { D.told disk.new ≡ D.told disk.old }
+    ensures cause { Costs (D.disk_faults disk.old) (D.disk_faults disk.new) result }
+{
+    let len = match disk.len() {
+        Ok(len) => len,
+        Err(error) => return Err(error.into()),
+    };
+    let kind = look_at(alloc, disk, Format::Two)?;
+    let mut front = Vec::new(alloc);
+    read_at(disk, 8, 22, &mut front)?;
+    let generation = match kind {
+        FileKind::Journal(_) => number_at(&front),
+        _ => None,
+    };
+    Ok(Seen {
+        len,
+        kind,
+        generation,
+    })
+}
+
+// Whether the second of two files is live.
+pub(crate) fn is_second_newer(first: &Seen, second: &Seen) -> bool
+    ensures { result ≡ is_second_seen first.now second.now }
+{
+    if matches!(second.kind, FileKind::Unmade) {
+        return false;
+    }
+    if matches!(first.kind, FileKind::Unmade) {
+        return true;
+    }
+    first.generation.unwrap_or(0) < second.generation.unwrap_or(0)
+}
