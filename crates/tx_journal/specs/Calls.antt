@@ -96,12 +96,12 @@ append_refusal j payload =
     else None
 
 -- the Generation of the live file after an append: the payload, where it is the first one and such a row
-abbrev pub generation_after : JournalState → List ℕ → Option ℕ
-generation_after j payload = if j.end == 9 then generation_in payload else j.generation
+abbrev pub generation_with : ℕ → Option ℕ → List ℕ → Option ℕ
+generation_with end generation payload = if end == 9 then generation_in payload else generation
 
 -- an append that isn't refused: it is done, or the disk failed in it and the journal must be opened again; a compaction is given up
 abbrev pub Appends : {T : Type 0} → List ℕ → Result T JournalError → JournalState → JournalState → Type 0
-Appends payload (Ok x) old new = (new ≡ record old { live = new.live; end = old.end + 5 + length payload; generation = generation_after old payload; staged = None }) × (old.live.faults ≤ new.live.faults)
+Appends payload (Ok x) old new = (new ≡ record old { live = new.live; end = old.end + 5 + length payload; generation = generation_with old.end old.generation payload; staged = None }) × (old.live.faults ≤ new.live.faults)
 Appends payload (Err DiskFault) old new = (new ≡ record old { live = new.live; staged = None; is_broken = true }) × Rises old.live.faults new.live.faults
 Appends payload (Err (Damaged offset)) old new = ⊥
 Appends payload (Err (TooLong n)) old new = ⊥

@@ -10,8 +10,8 @@ use crate::error::JournalError;
 use crate::find::{Cursor, FIRST, find, start_at};
 use crate::format::Format;
 use crate::open::settle;
-use crate::record::{fill, put_record};
-use crate::survey::number_in;
+use crate::record::{behind_gate, fill, put_record};
+use crate::survey::generation_with;
 use disk_model::Disk;
 use std::alloc::{AllocError, Global};
 use std::marker::Model;
@@ -227,13 +227,12 @@ impl<D: Disk> Journal<D> {
         }
         fill(&mut self.buffer, payload);
         self.staged = None;
-        if put_record(&mut self.live, self.end, &self.buffer[1..size + 1]).is_err() {
+        let record = behind_gate(&self.buffer, size);
+        if put_record(&mut self.live, self.end, record).is_err() {
             self.is_broken = true;
             return Err(JournalError::DiskFault);
         }
-        if self.end == 9 {
-            self.generation = number_in(payload);
-        }
+        self.generation = generation_with(self.end, self.generation, payload);
         self.end += size as u64;
         Ok(())
     }

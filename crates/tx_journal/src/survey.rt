@@ -4,6 +4,7 @@ ghost use Rattle.disk_model.specs.Disk.{DiskState};
 ghost use Rattle.tx_journal.specs.declared.format.Format.TheVariants.{Two};
 ghost use Rattle.tx_journal.specs.Pair.{generation_at, generation_in};
 ghost use Rattle.tx_journal.specs.Journal.{Costs, IsPortFault};
+ghost use Rattle.tx_journal.specs.Calls.{generation_with};
 ghost use Rattle.tx_journal.specs.Seen.{Sees, is_second_seen};
 
 use crate::error::JournalError;
@@ -36,7 +37,7 @@ fn number_at(front: &[u8]) -> Option<u64>
 }
 
 // The number of a Generation that is appended, where the payload is one.
-pub(crate) fn number_in(payload: &[u8]) -> Option<u64>
+fn number_in(payload: &[u8]) -> Option<u64>
     ensures { result ≡ generation_in payload.now }
 {
     if payload.len() != 17 || &payload[..9] != &GENERATION[5..] {
@@ -52,6 +53,17 @@ pub(crate) fn number_in(payload: &[u8]) -> Option<u64>
         payload[15],
         payload[16],
     ]))
+}
+
+// The Generation of a live file after an append, which may be of its first record.
+pub(crate) fn generation_with(end: u64, generation: Option<u64>, payload: &[u8]) -> Option<u64>
+    ensures { result ≡ generation_with end generation payload.now }
+{
+    if end == 9 {
+        number_in(payload)
+    } else {
+        generation
+    }
 }
 
 // Looks at a file.
