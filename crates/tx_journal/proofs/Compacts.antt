@@ -159,10 +159,15 @@ module _ (j : JournalState) (cursor : Cursor) (is_shut : Bool) (room : ℕ) (sou
           let after = both.1 (generation_row (next_number j.generation) ∷ front.1.0) payload front.0 front.1.1 short is in
           staged_is j.is_second_live d e_new ∙ rest_image ((generation_row (next_number j.generation) ∷ front.1.0) ++ payload ∷ []) (at + 5 + length payload) (opened e_new.bytes) after ∙ ap (λ (l : List (List ℕ)). Ok (l ++ payload ∷ [])) same)
 
-      pub row_waits : (staged_new : ℕ) → staged_new ≡ at + 5 + length payload → Tells (Both StaysUnmade (AddsRow at text)) side.told side_new.told → (e : DiskState) → side_new.told ≡ Some e → Waits j.is_second_live j.generation true (Some staged_new) e
-      row_waits staged_new staged_is both e tells =
+      pub row_waits : (staged_new : ℕ) → staged_new ≡ at + 5 + length payload → Tells (Both StaysUnmade (AddsRow at text)) side.told side_new.told → (e : DiskState) → side_new.told ≡ Some e → Waits j.is_second_live j.generation is_shut (Some staged_new) e
+      row_waits staged_new new_is both e tells =
           let before = told_before (Both StaysUnmade (AddsRow at text)) side.told side_new.told e both tells in
-          subst (λ k. Waits j.is_second_live j.generation true (Some k) e) (sym staged_is) (added_waits before.0 e (waits_at before.0 before.1) before.2.0 before.2.1)
+          subst (λ k. Waits j.is_second_live j.generation is_shut (Some k) e) (sym new_is)
+          (go before.0 is_shut (waits_at before.0 before.1) (added_waits before.0 e (waits_at before.0 before.1) before.2.0 before.2.1))
+        where
+          go : (d : DiskState) (shut : Bool) → Waits j.is_second_live j.generation shut j.staged d → Waits j.is_second_live j.generation true (Some (at + 5 + length payload)) e → Waits j.is_second_live j.generation shut (Some (at + 5 + length payload)) e
+          go d true waits after = after
+          go d false waits after = absurd (let none : Some at ≡ None = sym staged ∙ waits.3 in cc)
 
     -- the turn
     module _ (small : number j.generation < 2 ^ 62) where

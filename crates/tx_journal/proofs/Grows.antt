@@ -67,7 +67,7 @@ two_either : (s : Bool) (format : Format) (payloads : List (List ℕ)) (payload 
 two_either s format payloads payload f g n less (inl before) yields = inl (live_counts s format payloads n f g before less yields)
 two_either s format payloads payload f g n less (inr after) yields = inr (live_counts s format (payloads ++ payload ∷ []) n f g after (omega (arith, less, first_more payloads payload)) yields)
 
-waits_on : (s : Bool) (generation later : Option ℕ) (is_shut : Bool) (staged : Option ℕ) (e : DiskState) → number generation ≤ number later → Waits s generation is_shut staged e → Waits s later is_shut None e
+pub waits_on : (s : Bool) (generation later : Option ℕ) (is_shut : Bool) (staged : Option ℕ) (e : DiskState) → number generation ≤ number later → Waits s generation is_shut staged e → Waits s later is_shut None e
 waits_on s generation later true staged e less waits = (waits.0, λ at is. absurd (let e : None ≡ Some at = is in cc))
 waits_on s generation later false staged e less waits = (waits.0, yields_more s (number generation) (number later) e.bytes less waits.1, waits.2, refl)
 

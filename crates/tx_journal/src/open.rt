@@ -80,8 +80,10 @@ pub(crate) fn settle_synced<D: Disk>(
             if len < 8 {
                 return Err(JournalError::Damaged { offset: 1 });
             }
-            let end = scan(alloc, disk, len)?;
-            Ok((end, format))
+            match scan(alloc, disk, len) {
+                Ok(end) => Ok((end, format)),
+                Err(error) => Err(error),
+            }
         }
     }
 }

@@ -56,7 +56,10 @@ impl<D: Disk> Journal<D> {
         if self.is_broken {
             return Err(JournalError::Reopen);
         }
-        let (Some(at), Some(other)) = (self.staged, &mut self.other) else {
+        let Some(at) = self.staged else {
+            return Err(JournalError::NotStarted);
+        };
+        let Some(other) = &mut self.other else {
             return Err(JournalError::NotStarted);
         };
         let n = payload.len();
@@ -89,7 +92,10 @@ impl<D: Disk> Journal<D> {
         if self.is_broken {
             return Err(JournalError::Reopen);
         }
-        let (Some(end), Some(other)) = (self.staged, &mut self.other) else {
+        let Some(end) = self.staged else {
+            return Err(JournalError::NotStarted);
+        };
+        let Some(other) = &mut self.other else {
             return Err(JournalError::NotStarted);
         };
         self.staged = None;
