@@ -66,7 +66,7 @@ all_records (payload ∷ payloads) more at rest short =
     ∙ ap (with_front payload) (all_records payloads more (at + 5 + length payload) rest short.1)
     ∙ ap (λ (k : ℕ). with_front payload (with_fronts payloads (payloads_from more k rest))) size
 
-count_records : (payloads : List (List ℕ)) → length payloads ≤ length (records payloads)
+pub count_records : (payloads : List (List ℕ)) → length payloads ≤ length (records payloads)
 count_records [] = omega arith
 count_records (payload ∷ payloads) = omega (arith, count_records payloads, length-append (framed payload) (records payloads))
 

@@ -154,13 +154,13 @@ pub gate_within : {newest format : Format} (payloads : List (List ℕ)) (end ind
 gate_within payloads end index gate bytes at_rest is =
     omega (arith, (rest_within payloads end bytes at_rest).1, at_rest.end_is, is.place, records_take index payloads)
 
-pub replay_found : (Z : Type 0) (payloads : List (List ℕ)) (index : ℕ) (e : JournalError) → Finds {Z = Z} payloads index (Err e) → Replays {Z = Z} payloads index (Err e)
-replay_found Z payloads index DiskFault found = tt
-replay_found Z payloads index OutOfMemory found = tt
-replay_found Z payloads index (Damaged offset) found = found
-replay_found Z payloads index (TooLong n) found = found
-replay_found Z payloads index (Full len) found = found
-replay_found Z payloads index Reopen found = found
-replay_found Z payloads index NotStarted found = found
-replay_found Z payloads index OneDisk found = found
-replay_found Z payloads index (Spent count) found = found
+pub replay_found : (Z : Type 0) (payloads rows : List (List ℕ)) (place index : ℕ) (e : JournalError) → Finds {Z = Z} payloads place (Err e) → Replays {Z = Z} rows index (Err e)
+replay_found Z payloads rows place index DiskFault found = tt
+replay_found Z payloads rows place index OutOfMemory found = tt
+replay_found Z payloads rows place index (Damaged offset) found = found
+replay_found Z payloads rows place index (TooLong n) found = found
+replay_found Z payloads rows place index (Full len) found = found
+replay_found Z payloads rows place index Reopen found = found
+replay_found Z payloads rows place index NotStarted found = found
+replay_found Z payloads rows place index OneDisk found = found
+replay_found Z payloads rows place index (Spent count) found = found

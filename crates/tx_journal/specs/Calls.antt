@@ -125,6 +125,11 @@ abbrev pub rows_in : Option Side → List (List ℕ) → List (List ℕ)
 rows_in None payloads = payloads
 rows_in (Some other) payloads = without_generation payloads
 
+-- where a row stands among the payloads
+abbrev pub place_in : Bool → Option ℕ → ℕ → ℕ
+place_in is_pair None index = index
+place_in is_pair (Some n) index = if is_pair then index + 1 else index
+
 -- the refusals of the start of a compaction, in their order; they change nothing
 abbrev pub start_refusal : JournalState → Option JournalError
 start_refusal j =

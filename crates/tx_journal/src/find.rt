@@ -1,8 +1,8 @@
 // Finding the record of an index, from one that was found before.
-ghost use Rattle.std.specs.Prelude.{◌≡◌, ◌<◌, ◌≤◌, ℕ, ◌+◌, List, IfOk, IfErr, IfSome, Some};
+ghost use Rattle.std.specs.Prelude.{◌≡◌, ◌<◌, ◌≤◌, ◌^◌, ℕ, ◌+◌, List, IfOk, IfErr, IfSome, Some};
 ghost use Rattle.disk_model.specs.Disk.{DiskState};
 ghost use Rattle.tx_journal.specs.Journal.{Costs, IsAtRest, IsGateOf, Finds, IsOpenError};
-ghost use Rattle.tx_journal.specs.File.{most_bytes};
+ghost use Rattle.tx_journal.specs.Calls.{place_in};
 ghost use Rattle.tx_journal.specs.declared.format.Format.{Format};
 
 use crate::error::JournalError;
@@ -19,6 +19,17 @@ pub(crate) struct Cursor {
 
 // The gate of the first record.
 pub(crate) const FIRST: Cursor = Cursor { index: 0, gate: 8 };
+
+// The place of a row among the records: of a pair a Generation isn't counted. Rows have indices below 2^30.
+pub(crate) fn place_of(is_pair: bool, generation: Option<u64>, index: u64) -> u64
+    requires { index < 2 ^ 30 }
+    ensures { result ≡ place_in is_pair generation index }
+{
+    match generation {
+        Some(_) if is_pair => index + 1,
+        _ => index,
+    }
+}
 
 // Where a search for an index begins: at what was found before, unless that stands behind it.
 pub(crate) fn start_at(cursor: Cursor, index: u64) -> Cursor

@@ -7,7 +7,7 @@ ghost use Rattle.tx_journal.specs.Journal.{IsOpenError, Rises, Replays, Costs, i
 ghost use Rattle.tx_journal.specs.Calls.{Side, JournalState, told, tell_one, first_side, second_side, append_refusal, Appends, Commits, Committed, rows_in, IsOpened, OpensFiles, RefusesFiles, KeepsFiles};
 
 use crate::error::JournalError;
-use crate::find::{Cursor, FIRST, find, start_at};
+use crate::find::{Cursor, FIRST, find, place_of, start_at};
 use crate::format::Format;
 use crate::open::settle;
 use crate::record::{behind_gate, fill, put_record};
@@ -185,10 +185,7 @@ impl<D: Disk> Journal<D> {
         if index >= MOST_BYTES {
             return Ok(None);
         }
-        let place = match (&self.other, self.generation) {
-            (Some(_), Some(_)) => index + 1,
-            _ => index,
-        };
+        let place = place_of(self.other.is_some(), self.generation, index);
         let from = start_at(self.cursor, place);
         match find(alloc, &mut self.live, from, place) {
             Ok(Some((payload, gate))) => {

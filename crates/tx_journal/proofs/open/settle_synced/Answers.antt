@@ -37,16 +37,16 @@ returns-in-Err-clause-crash g c =
     keeps_made c.args.newest c.args.create d e c.if-not-create.false (subst (LooksLike c.args.newest d) c.in-Unmade.is (c.in_ok-look_at.ensures.looks d tells)) r.0 creates)
     (subst (λ t. Tells (Creates c.args.newest) t (g.D.Disk.told c.create_file.new.disk)) c.look_at.ensures.same c.create_file.ensures.crash)
 
-pub returns-in-Ok-2-clause-opened : goal.returns-in-Ok-2-clause-opened
-returns-in-Ok-2-clause-opened g c =
+pub returns-in-Ok-scan-clause-opened : goal.returns-in-Ok-scan-clause-opened
+returns-in-Ok-scan-clause-opened g c =
     scan_opens c.args.newest c.in-Journal.format c.args.create _ _ (c.scan.ensures.same ∙ c.look_at.ensures.same)
     (λ d tells. (subst (LooksLike c.args.newest d) c.in-Journal.is (c.in_ok-look_at.ensures.looks d tells)).0)
-    (λ d tells. (c.requires.ready d tells).0) (Ok c.in-Ok-2.end)
-    (λ d tells. let looks = (subst (LooksLike c.args.newest d) c.in-Journal.is (c.in_ok-look_at.ensures.looks d tells)) in c.in-Ok-2.ensures.scanned d (c.look_at.ensures.same ∙ tells) c.args.newest c.in-Journal.format looks.1 looks.0)
+    (λ d tells. (c.requires.ready d tells).0) (Ok c.in-Ok-scan.end)
+    (λ d tells. let looks = (subst (LooksLike c.args.newest d) c.in-Journal.is (c.in_ok-look_at.ensures.looks d tells)) in c.in-Ok-scan.ensures.scanned d (c.look_at.ensures.same ∙ tells) c.args.newest c.in-Journal.format looks.1 looks.0)
 
-pub returns-in-Err-2-clause-refused : goal.returns-in-Err-2-clause-refused
-returns-in-Err-2-clause-refused g c =
+pub returns-in-Err-scan-clause-refused : goal.returns-in-Err-scan-clause-refused
+returns-in-Err-scan-clause-refused g c =
     scan_refuses c.args.newest c.in-Journal.format c.args.create _ (g.D.Disk.told c.scan.new.disk) (c.scan.ensures.same ∙ c.look_at.ensures.same)
     (λ d tells. (subst (LooksLike c.args.newest d) c.in-Journal.is (c.in_ok-look_at.ensures.looks d tells)).0)
-    (λ d tells. (c.requires.ready d tells).0) (Err c.in-Err-2.error)
-    (λ d tells. let looks = (subst (LooksLike c.args.newest d) c.in-Journal.is (c.in_ok-look_at.ensures.looks d tells)) in c.in-Err-2.ensures.scanned d (c.look_at.ensures.same ∙ tells) c.args.newest c.in-Journal.format looks.1 looks.0)
+    (λ d tells. (c.requires.ready d tells).0) (Err c.in-Err-scan.error)
+    (λ d tells. let looks = (subst (LooksLike c.args.newest d) c.in-Journal.is (c.in_ok-look_at.ensures.looks d tells)) in c.in-Err-scan.ensures.scanned d (c.look_at.ensures.same ∙ tells) c.args.newest c.in-Journal.format looks.1 looks.0)
