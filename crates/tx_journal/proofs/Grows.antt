@@ -22,20 +22,15 @@ nine_test : (end : ℕ) → (end ≡ 9 → ⊥) → (end == 9) ≡ false
 nine_test end other = grind (arith, nat_tests)
 
 grown : (format : Format) (payloads : List (List ℕ)) (payload : List ℕ) (end : ℕ) (generation : Option ℕ) → end ≡ length (spelled format payloads) + 1 → first_generation payloads ≡ generation → first_generation (payloads ++ payload ∷ []) ≡ generation_with end generation payload
-grown format [] payload end generation end_is is = ap (λ (n : ℕ). cond (n == 9) (generation_in payload) generation) (sym end_is)
-grown format (first ∷ payloads) payload end generation end_is is =
-    is ∙ ap (λ (b : Bool). cond b (generation_in payload) generation) (sym (nine_test end (λ nine. omega (arith, nine, end_is, length-append (framed first) (records payloads)))))
+grown format [] payload end generation end_is is = ap (λ (n : ℕ). cond (n == 9) (generation_in payload) None) (sym end_is) ∙ ap (λ (g : Option ℕ). generation_with end g payload) is
+grown format (first ∷ payloads) payload end (Some n) end_is is = is
+grown format (first ∷ payloads) payload end None end_is is =
+    is ∙ ap (λ (b : Bool). cond b (generation_in payload) None) (sym (nine_test end (λ nine. omega (arith, nine, end_is, length-append (framed first) (records payloads)))))
 
 -- numbers only grow by an append
-more : (end : ℕ) (generation : Option ℕ) (payload : List ℕ) → (end ≡ 9 → generation ≡ None) → number generation ≤ number (generation_with end generation payload)
-more end generation payload empty = go (end == 9) refl
-  where
-    nine : (end == 9) ≡ true → end ≡ 9
-    nine is = grind (arith, nat_tests)
-
-    go : (b : Bool) → (end == 9) ≡ b → number generation ≤ number (generation_with end generation payload)
-    go true is = omega (arith, ap number (empty (nine is)))
-    go false is = omega (arith, ap (λ (b : Bool). number (cond b (generation_in payload) generation)) is)
+more : (end : ℕ) (generation : Option ℕ) (payload : List ℕ) → number generation ≤ number (generation_with end generation payload)
+more end None payload = omega arith
+more end (Some n) payload = omega arith
 
 first_more : (payloads : List (List ℕ)) (payload : List ℕ) → number (first_generation payloads) ≤ number (first_generation (payloads ++ payload ∷ []))
 first_more [] payload = omega arith
@@ -120,7 +115,7 @@ module _ (j : JournalState) (cursor : Cursor) (is_shut : Bool) (room : ℕ) (sou
       let live = live_two side some d tells in
       let waits = sound.waits works side some e tells_other in
       let same = holds_once live.payloads payloads (files_in j.is_second_live d (Some e)) (holds_two j.format j.generation j.end cursor d j.is_second_live is_shut j.staged e live waits) holds in
-      let still = subst (λ x. Waits j.is_second_live after is_shut None x) (sym same_other) (waits_on j.is_second_live j.generation after is_shut j.staged e (more j.end j.generation payload sound.empty) waits) in
+      let still = subst (λ x. Waits j.is_second_live after is_shut None x) (sym same_other) (waits_on j.is_second_live j.generation after is_shut j.staged e (more j.end j.generation payload) waits) in
       subst (λ l. Holds (l ++ payload ∷ []) (files_in j.is_second_live d_new (Some e_new))) same
       (holds_two j.format after (j.end + 5 + length payload) cursor d_new j.is_second_live is_shut None e_new (grows Two j.format j.generation j.end cursor payload text short is d d_new live has) still))
 
@@ -132,4 +127,4 @@ module _ (j : JournalState) (cursor : Cursor) (is_shut : Bool) (room : ℕ) (sou
       (grows (newest_of j.other) j.format j.generation j.end cursor payload text short is before.0 e (live_at before.0 before.1) before.2))
 
   pub append_waits : (generation_new : Option ℕ) → generation_new ≡ after → (side : Side) → j.other ≡ Some side → (e : DiskState) → side.told ≡ Some e → Waits j.is_second_live generation_new is_shut None e
-  append_waits generation_new generation_is side some e tells = subst (λ n. Waits j.is_second_live n is_shut None e) (sym generation_is) (waits_on j.is_second_live j.generation after is_shut j.staged e (more j.end j.generation payload sound.empty) (sound.waits works side some e tells))
+  append_waits generation_new generation_is side some e tells = subst (λ n. Waits j.is_second_live n is_shut None e) (sym generation_is) (waits_on j.is_second_live j.generation after is_shut j.staged e (more j.end j.generation payload) (sound.waits works side some e tells))

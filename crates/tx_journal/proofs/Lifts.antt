@@ -29,15 +29,15 @@ abbrev pub OtherTells : (DiskState → DiskState → Type 0) → Option Side →
 OtherTells Q None new = new ≡ None
 OtherTells Q (Some old) new = (side : Side) × (new ≡ Some side) × Tells Q old.told side.told
 
-abbrev Steps : Type 1
+abbrev pub Steps : Type 1
 Steps = DiskState → DiskState → Type 0
 
 -- what both tell, in their order
-abbrev tell_in : Bool → Option DiskState → Option DiskState → Option Files
+abbrev pub tell_in : Bool → Option DiskState → Option DiskState → Option Files
 tell_in true live other = tell_both other live
 tell_in false live other = tell_both live other
 
-both_tell : (s : Bool) (step : Files → Files → Type 0) (R Q : Steps) (a a_new b b_new : Option DiskState) → Tells R a a_new → Tells Q b b_new
+pub both_tell : (s : Bool) (step : Files → Files → Type 0) (R Q : Steps) (a a_new b b_new : Option DiskState) → Tells R a a_new → Tells Q b b_new
     → ((d d_new e e_new : DiskState) → a ≡ Some d → b ≡ Some e → R d d_new → Q e e_new → step (files_in s d (Some e)) (files_in s d_new (Some e_new)))
     → Tells step (tell_in s a b) (tell_in s a_new b_new)
 both_tell false step R Q None a_new b b_new r q f = ap (λ t. tell_both t b_new) r

@@ -28,7 +28,7 @@ told_one false live files is = from live.told is
     from None is = absurd (let e : None ≡ Some files = is in cc)
     from (Some d) is = (d, refl, let e : files ≡ record { first = d; second = None } = cc in e)
 
-both_of : (a b : Option DiskState) (files : Files) → tell_both a b ≡ Some files → (d e : DiskState) × (a ≡ Some d) × (b ≡ Some e) × (files ≡ record { first = d; second = Some e })
+pub both_of : (a b : Option DiskState) (files : Files) → tell_both a b ≡ Some files → (d e : DiskState) × (a ≡ Some d) × (b ≡ Some e) × (files ≡ record { first = d; second = Some e })
 both_of None b files is = absurd (let e : None ≡ Some files = is in cc)
 both_of (Some d) None files is = absurd (let e : None ≡ Some files = is in cc)
 both_of (Some d) (Some e) files is = (d, e, refl, refl, let same : files ≡ record { first = d; second = Some e } = cc in same)

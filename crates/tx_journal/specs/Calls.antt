@@ -97,7 +97,8 @@ append_refusal j payload =
 
 -- the Generation of the live file after an append: the payload, where it is the first one and such a row
 abbrev pub generation_with : ℕ → Option ℕ → List ℕ → Option ℕ
-generation_with end generation payload = if end == 9 then generation_in payload else generation
+generation_with end None payload = if end == 9 then generation_in payload else None
+generation_with end (Some n) payload = Some n
 
 -- an append that isn't refused: it is done, or the disk failed in it and the journal must be opened again; a compaction is given up
 abbrev pub Appends : {T : Type 0} → List ℕ → Result T JournalError → JournalState → JournalState → Type 0

@@ -1,5 +1,5 @@
 -- What an opening of two files found: own.
-use Rattle.std.specs.Prelude.{◌≡◌, ◌⊎◌, ◌≤◌, ℕ, Bool, true, false, not, ◌&&◌, Option, Some, None, Result, Ok, Err, nat_lt, ◌==◌, if◌then◌else◌}
+use Rattle.std.specs.Prelude.{◌≡◌, ◌⊎◌, ◌≤◌, ℕ, Bool, true, false, not, ◌&&◌, Option, Some, None, Result, Ok, Err, nat_lt}
 use Rattle.disk_model.specs.Disk.{DiskState}
 use Rattle.disk_model.specs.Crash.{IsDurable, Later}
 use Rattle.tx_journal.specs.declared.error.JournalError.{JournalError}
@@ -38,10 +38,6 @@ CostsBoth first first_new second second_new (Err OutOfMemory) = Unit {0}
 -- the first byte stands and is closed
 abbrev pub is_closed_seen : Seen → Bool
 is_closed_seen seen = not (is_made_kind seen.kind) && nat_lt 1 seen.len
-
--- the Generation of a file that ends there
-abbrev pub generation_seen : ℕ → Seen → Option ℕ
-generation_seen end seen = if end == 9 then None else seen.generation
 
 -- the cursor of the first record
 abbrev pub at_first : Cursor

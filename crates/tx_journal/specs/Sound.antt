@@ -48,7 +48,6 @@ pub record IsSound (j : JournalState) (cursor : Cursor) (is_shut : Bool) (room :
   pub room_is : room ≡ longest + 6
   pub some : 9 ≤ j.end
   pub few : j.end ≤ most_bytes
-  pub empty : j.end ≡ 9 → j.generation ≡ None
   pub started : (at : ℕ) → j.staged ≡ Some at → IsStarted j at
   pub live : j.is_broken ≡ false → (d : DiskState) → j.live.told ≡ Some d → IsLive (newest_of j.other) j.format j.generation j.end cursor d
   pub waits : j.is_broken ≡ false → (side : Side) → j.other ≡ Some side → (d : DiskState) → side.told ≡ Some d → Waits j.is_second_live j.generation is_shut j.staged d

@@ -1,12 +1,12 @@
 // Opening two files: both synced, the live one found, and read or made.
-ghost use Rattle.std.specs.Prelude.{◌≡◌, ◌<◌, ◌≤◌, ℕ, length, OnOk, IfOk, IfErr, Some, None};
+ghost use Rattle.std.specs.Prelude.{◌≡◌, ◌<◌, ◌≤◌, ℕ, length, OnOk, IfOk, IfErr, Some};
 ghost use Rattle.disk_model.specs.Disk.{DiskState, Tells};
 ghost use Rattle.tx_journal.specs.File.{most_bytes};
 ghost use Rattle.tx_journal.specs.Pair.{Files};
 ghost use Rattle.tx_journal.specs.Journal.{Costs, IsOpenError, IsPortFault};
 ghost use Rattle.tx_journal.specs.Calls.{tell_both, OpensFiles, RefusesFiles, KeepsFiles};
 ghost use Rattle.tx_journal.specs.Seen.{Sees, is_second_seen};
-ghost use Rattle.tx_journal.specs.Found.{Synced, IsSynced, IsFound, CostsBoth, is_closed_seen, generation_seen};
+ghost use Rattle.tx_journal.specs.Found.{Synced, IsSynced, IsFound, CostsBoth, is_closed_seen};
 
 use crate::error::JournalError;
 use crate::format::Format;
@@ -69,13 +69,6 @@ fn is_closed(seen: &Seen) -> bool
     matches!(seen.kind, FileKind::Unmade) && seen.len >= 2
 }
 
-// The Generation of a file that ends there; one without records has none.
-fn generation_of(end: u64, seen: &Seen) -> Option<u64>
-    ensures { result ≡ generation_seen end seen.now }
-{
-    if end == 9 { None } else { seen.generation }
-}
-
 // Two files that a crash may have left.
 pub(crate) fn settle_pair<D: Disk>(
     alloc: Global,
@@ -87,28 +80,32 @@ pub(crate) fn settle_pair<D: Disk>(
     ensures crash { Tells (KeepsFiles create) (tell_both (D.told first.old) (D.told second.old)) (tell_both (D.told first.new) (D.told second.new)) }
     ensures refused { IfErr result (λ e. (files : Files) → tell_both (D.told first.old) (D.told second.old) ≡ Some files → RefusesFiles create e files) }
     ensures found { IfOk result (λ found. IsFound found (D.told first.new) (D.told second.new)) }
-    ensures end { IfOk result (λ found. (9 ≤ found.end) × (found.end ≤ most_bytes) × (found.end ≡ 9 → found.generation ≡ None)) }
+    ensures end { IfOk result (λ found. (9 ≤ found.end) × (found.end ≤ most_bytes)) }
     ensures errors { IfErr result IsOpenError }
     ensures cause { CostsBoth (D.disk_faults first.old) (D.disk_faults first.new) (D.disk_faults second.old) (D.disk_faults second.new) result }
 {
     sync_both(first, second)?;
     let (a, b) = survey_both(alloc, first, second)?;
     if is_second_newer(&a, &b) {
-        let (end, format) = settle_synced(alloc, second, b.len, create, Format::Two)?;
-        return Ok(Found {
-            is_second_live: true,
-            format,
-            generation: generation_of(end, &b),
-            end,
-            is_shut: is_closed(&a),
-        });
+        return match settle_synced(alloc, second, b.len, create, Format::Two) {
+            Ok((end, format)) => Ok(Found {
+                is_second_live: true,
+                format,
+                generation: b.generation,
+                end,
+                is_shut: is_closed(&a),
+            }),
+            Err(error) => Err(error),
+        };
     }
-    let (end, format) = settle_synced(alloc, first, a.len, create, Format::Two)?;
-    Ok(Found {
-        is_second_live: false,
-        format,
-        generation: generation_of(end, &a),
-        end,
-        is_shut: is_closed(&b),
-    })
+    match settle_synced(alloc, first, a.len, create, Format::Two) {
+        Ok((end, format)) => Ok(Found {
+            is_second_live: false,
+            format,
+            generation: a.generation,
+            end,
+            is_shut: is_closed(&b),
+        }),
+        Err(error) => Err(error),
+    }
 }

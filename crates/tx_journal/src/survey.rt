@@ -59,10 +59,10 @@ fn number_in(payload: &[u8]) -> Option<u64>
 pub(crate) fn generation_with(end: u64, generation: Option<u64>, payload: &[u8]) -> Option<u64>
     ensures { result ≡ generation_with end generation payload.now }
 {
-    if end == 9 {
-        number_in(payload)
-    } else {
-        generation
+    match generation {
+        Some(number) => Some(number),
+        None if end == 9 => number_in(payload),
+        None => None,
     }
 }
 

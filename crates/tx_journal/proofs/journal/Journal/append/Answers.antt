@@ -44,7 +44,6 @@ invariant_of-self-2 g c =
       room_is = omega (arith, ap length c.deref.ensures.value, c.deref.ensures.len, c.deref_mut.ensures.len, ap length c.deref_mut.ensures.value, c.self.invariant.room_is);
       some = omega (arith, c.self.invariant.some);
       few = omega (arith, c.if-self-size-gt-MOST_BYTES.false);
-      empty = λ nine. absurd (omega (arith, nine, c.self.invariant.some));
       started = λ at is. absurd (let e : None ≡ Some at = is in cc);
       live = λ works d tells. append_live _ _ _ _ c.self.invariant c.if-self.false c.args.payload.now _ c.if-n-gt-LONGEST.false text (record { told = g.D.Disk.told c.put_record.new.disk; faults = g.D.Disk.disk_faults c.put_record.new.disk }) _ _ c.generation_with-self-inside.ensures (omega arith) done d tells;
       waits = λ works side some d tells. append_waits _ _ _ _ c.self.invariant c.if-self.false c.args.payload.now _ c.if-n-gt-LONGEST.false text (record { told = g.D.Disk.told c.put_record.new.disk; faults = g.D.Disk.disk_faults c.put_record.new.disk }) _ c.generation_with-self-inside.ensures side some d tells;

@@ -34,7 +34,6 @@ invariant_of-self-2 g c =
       room_is = c.self.invariant.room_is;
       some = omega (arith, started.some);
       few = started.few;
-      empty = λ nine. absurd (omega (arith, nine, started.some));
       started = λ at is. absurd (let e : None ≡ Some at = is in cc);
       live = λ works d tells. subst (λ n. IsLive Two Two n c.in-Some.end at_first d) (sym count) (turn_live _ _ _ _ c.self.invariant c.if-self.false (record { told = g.D.Disk.told c.in-Some-other.other; faults = g.D.Disk.disk_faults c.in-Some-other.other }) (record { told = g.D.Disk.told c.finish.new.disk; faults = g.D.Disk.disk_faults c.finish.new.disk }) (ap (option_map (λ d. record { told = g.D.Disk.told d; faults = g.D.Disk.disk_faults d })) c.in-Some-other.is) c.in-Some.end c.in-Some.is started.small done d (ap g.D.Disk.told (sym c.swap.ensures.x_after) ∙ tells));
       waits = λ works side some d tells.

@@ -48,7 +48,6 @@ invariant_of-self-2 g c =
       room_is = omega (arith, ap length c.deref.ensures.value, c.deref.ensures.len, c.deref_mut.ensures.len, ap length c.deref_mut.ensures.value, c.self.invariant.room_is);
       some = c.self.invariant.some;
       few = c.self.invariant.few;
-      empty = c.self.invariant.empty;
       started = λ at is.
           let same : c.in-Some.at + (5 + length c.args.payload.now) ≡ at = cc in
           record { some = omega (arith, same, started.some); few = omega (arith, same, c.if-at-size-gt-MOST_BYTES.false); paired = refl; small = started.small };
@@ -63,7 +62,6 @@ invariant_of-self-then-n-gt-LONGEST g c = record {
   room_is = c.self.invariant.room_is;
   some = c.self.invariant.some;
   few = c.self.invariant.few;
-  empty = c.self.invariant.empty;
   started = λ at is. absurd (let e : None ≡ Some at = is in cc);
   live = λ works d tells. live_two _ _ _ _ c.self.invariant c.if-self.false (record { told = g.D.Disk.told c.in-Some-other.other; faults = g.D.Disk.disk_faults c.in-Some-other.other }) (record { told = g.D.Disk.told c.in-Some-other.other; faults = g.D.Disk.disk_faults c.in-Some-other.other }) (ap (option_map (λ d. record { told = g.D.Disk.told d; faults = g.D.Disk.disk_faults d })) c.in-Some-other.is) d tells;
   waits = λ works side some d tells. waits_on c.self.inside.is_second_live c.self.inside.generation c.self.inside.generation c.self.inside.is_shut c.self.inside.staged d (omega arith) (c.self.invariant.waits works side ((ap (option_map (λ d. record { told = g.D.Disk.told d; faults = g.D.Disk.disk_faults d })) c.in-Some-other.is) ∙ some) d tells);
@@ -74,7 +72,6 @@ invariant_of-self-then-at-size-gt-MOST_BYTES g c = record {
   room_is = c.self.invariant.room_is;
   some = c.self.invariant.some;
   few = c.self.invariant.few;
-  empty = c.self.invariant.empty;
   started = λ at is. absurd (let e : None ≡ Some at = is in cc);
   live = λ works d tells. live_two _ _ _ _ c.self.invariant c.if-self.false (record { told = g.D.Disk.told c.in-Some-other.other; faults = g.D.Disk.disk_faults c.in-Some-other.other }) (record { told = g.D.Disk.told c.in-Some-other.other; faults = g.D.Disk.disk_faults c.in-Some-other.other }) (ap (option_map (λ d. record { told = g.D.Disk.told d; faults = g.D.Disk.disk_faults d })) c.in-Some-other.is) d tells;
   waits = λ works side some d tells. waits_on c.self.inside.is_second_live c.self.inside.generation c.self.inside.generation c.self.inside.is_shut c.self.inside.staged d (omega arith) (c.self.invariant.waits works side ((ap (option_map (λ d. record { told = g.D.Disk.told d; faults = g.D.Disk.disk_faults d })) c.in-Some-other.is) ∙ some) d tells);

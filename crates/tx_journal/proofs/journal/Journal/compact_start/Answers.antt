@@ -40,7 +40,6 @@ invariant_of-self-2 g c =
       room_is = c.self.invariant.room_is;
       some = c.self.invariant.some;
       few = c.self.invariant.few;
-      empty = c.self.invariant.empty;
       started = λ at is.
           let same : 31 ≡ at = cc in
           record {

@@ -45,7 +45,6 @@ invariant_of-self g c = record {
   room_is = c.self.invariant.room_is;
   some = c.self.invariant.some;
   few = c.self.invariant.few;
-  empty = c.self.invariant.empty;
   started = λ at is. let started = c.self.invariant.started at is in record { some = started.some; few = started.few; paired = started.paired; small = started.small };
   live = λ works d tells.
       let before = sym c.find.ensures.same ∙ tells in
