@@ -1,18 +1,18 @@
 -- Which of two files is live.
-use Rattle.std.proofs.Common.{◌≡◌, ◌≢◌, inl, inr, ℕ, suc, ◌+◌, ◌≤◌, Bool, true, false, cond, List, [], ◌∷◌, ◌++◌, length, take, drop, Option, Some, None, Result, Ok, refl, sym, ◌∙◌, ap, subst, arith, append_assoc, length-append, length-take, take-append-drop}
+use Rattle.std.proofs.Common.{◌≡◌, ◌≢◌, inl, inr, ℕ, ◌≤◌, Bool, true, false, cond, List, [], ◌∷◌, ◌++◌, length, take, drop, Some, None, Result, refl, sym, ◌∙◌, ap, arith, append_assoc, take-append-drop}
 use Rattle.std.specs.Prelude.{not, ◌&&◌, ◌||◌, nat_lt, ◌==◌}
 use Rattle.std.specs.List.{AllByRecursion}
 use Rattle.std.specs.Int.{w32, w64, from_be_bytes, to_be_bytes}
-use Rattle.std.proofs.lemmas.Bool.{le-ltb, lt-ltb, cases_eq}
+use Rattle.std.proofs.lemmas.Bool.{le-ltb, lt-ltb}
 use Rattle.std.proofs.lemmas.Bool.Decides.{nat_tests}
 use Rattle.std.proofs.lemmas.List.{take_at, take-take, take-append-le}
 use Rattle.std.proofs.lemmas.Nat.{from_be_bytes-to_be_bytes_4}
 use Rattle.tx_journal.specs.declared.format.Format.{Format}
 use Rattle.tx_journal.specs.declared.format.Format.TheVariants.{Two}
-use Rattle.tx_journal.specs.File.{name, same_bytes, framed, records, spelled, IsShort, is_made, is_known, file_payloads}
-use Rattle.tx_journal.specs.Pair.{generation_kind, is_generation, generation_in, first_generation, generation_at, file_generation, number, is_second_live, live_file, live_payloads}
+use Rattle.tx_journal.specs.File.{same_bytes, framed, records, IsShort, is_made, file_payloads}
+use Rattle.tx_journal.specs.Pair.{generation_kind, is_generation, generation_in, first_generation, generation_at, file_generation, number, is_second_live, live_payloads}
 use Rattle.tx_journal.specs.Journal.{IsAtRest}
-use Rattle.tx_journal.specs.Sound.{margin, Yields}
+use Rattle.tx_journal.specs.Sound.{Yields}
 
 pub same_refl : (xs : List ℕ) → same_bytes xs xs ≡ true
 same_refl [] = refl

@@ -1,26 +1,26 @@
 -- A compaction: the other file step by step, and the turn.
-use Rattle.std.proofs.Common.{◌≡◌, ◌⊎◌, inl, inr, ℕ, suc, ◌+◌, ◌<◌, ◌≤◌, ◌^◌, Bool, true, false, List, [], ◌∷◌, ◌++◌, length, Option, Some, None, Result, Ok, refl, sym, ◌∙◌, ap, subst, arith}
+use Rattle.std.proofs.Common.{◌≡◌, inl, inr, ℕ, ◌+◌, ◌<◌, ◌≤◌, ◌^◌, Bool, true, false, List, [], ◌∷◌, ◌++◌, length, Option, Some, None, Ok, refl, sym, ◌∙◌, ap, subst, arith}
 use Rattle.std.specs.Prelude.{not, unwrap_or}
 use Rattle.std.proofs.lemmas.Nat.{from_be_bytes-to_be_bytes_8}
 use Rattle.disk_model.specs.Disk.{DiskState, Tells}
-use Rattle.disk_model.specs.Crash.{IsDurable, Since}
-use Rattle.disk_model.proofs.Moments.{Facts, leaves_durable, later_weaker, since_weaker}
+use Rattle.disk_model.specs.Crash.{Since}
+use Rattle.disk_model.proofs.Moments.{leaves_durable, later_weaker, since_weaker}
 use Rattle.disk_model.proofs.Stages.{Both, told_before}
 use Rattle.tx_journal.specs.declared.format.Format.{Format}
-use Rattle.tx_journal.specs.declared.format.Format.TheVariants.{One, Two}
+use Rattle.tx_journal.specs.declared.format.Format.TheVariants.{Two}
 use Rattle.tx_journal.specs.declared.find.Cursor.{Cursor}
-use Rattle.tx_journal.specs.File.{is_made, file_payloads, framed, opened, IsShort}
-use Rattle.tx_journal.specs.Pair.{Files, Claim, generation_row, first_generation, file_generation, generation_in, number, SinceOpened, Holds, IsJust, IsEither}
+use Rattle.tx_journal.specs.File.{file_payloads, framed, opened, IsShort}
+use Rattle.tx_journal.specs.Pair.{Files, generation_row, first_generation, file_generation, generation_in, number, SinceOpened, Holds, IsJust, IsEither}
 use Rattle.tx_journal.specs.Journal.{IsAtRest, IsSpelled}
 use Rattle.tx_journal.specs.Compaction.{IsShutFront, IsUnmade, StaysUnmade, IsMadeOrNot, Finishes, IsFinished, MayStart, Begins, HasFirstRow, HasBegunFile, AddsRow}
 use Rattle.tx_journal.specs.Calls.{Side, JournalState, first_of, second_of, tell_sides, next_number, staged_payloads, Keeps, Kept, HasBegun, HasRow, Replaces, Replaced}
 use Rattle.tx_journal.specs.Sound.{margin, Yields, Waits, IsLive, IsSound, newest_of}
 use Rattle.tx_journal.specs.Found.{at_first}
-use Rattle.tx_journal.proofs.Rests.{rest_image, spelled_image, same_payloads}
-use Rattle.tx_journal.proofs.Chosen.{rest_generation, rest_made, live_in, picks}
+use Rattle.tx_journal.proofs.Rests.{rest_image, same_payloads}
+use Rattle.tx_journal.proofs.Chosen.{rest_generation, rest_made, live_in}
 use Rattle.tx_journal.proofs.Fronts.{leaves_unmade}
 use Rattle.tx_journal.proofs.Records.{rest_within}
-use Rattle.tx_journal.proofs.Lifts.{files_in, OtherTells, lift, opens_both, waits_leaves, waits_reads, same_since, live_counts, holds_two, holds_once, turned, files_turned}
+use Rattle.tx_journal.proofs.Lifts.{files_in, OtherTells, lift, opens_both, waits_reads, same_since, live_counts, holds_two, holds_once, turned, files_turned}
 
 -- where a compaction may start
 pub may_start : (s : Bool) (generation : Option ℕ) (is_shut : Bool) (staged : Option ℕ) (d : DiskState) → Waits s generation is_shut staged d → MayStart is_shut d
@@ -141,10 +141,12 @@ module _ (j : JournalState) (cursor : Cursor) (is_shut : Bool) (room : ℕ) (sou
     module _ (payload text : List ℕ) (short : IsShort payload) (is : text ≡ 1 ∷ framed payload ++ 0 ∷ []) where
       added_waits : (e e_new : DiskState) → Waits j.is_second_live j.generation is_shut j.staged e → StaysUnmade e e_new → AddsRow at text e e_new → Waits j.is_second_live j.generation true (Some (at + 5 + length payload)) e_new
       added_waits e e_new waits stays adds =
-          let front = shut_front is_shut e waits in
-          ((stays front.0).0, λ place same.
-          let one : at + 5 + length payload ≡ place = cc in
-          (front.1.0 ++ payload ∷ [], subst (λ k. IsAtRest Two Two (generation_row (next_number j.generation) ∷ (front.1.0 ++ payload ∷ [])) k (opened e_new.bytes)) one (adds (generation_row (next_number j.generation) ∷ front.1.0) payload front.0 front.1.1 short is)))
+          let front = shut_front is_shut e waits in (
+            (stays front.0).0,
+            λ place same.
+                let one : at + 5 + length payload ≡ place = cc in
+                (front.1.0 ++ payload ∷ [], subst (λ k. IsAtRest Two Two (generation_row (next_number j.generation) ∷ (front.1.0 ++ payload ∷ [])) k (opened e_new.bytes)) one (adds (generation_row (next_number j.generation) ∷ front.1.0) payload front.0 front.1.1 short is)),
+          )
 
       pub row_kept : Tells (Both StaysUnmade (AddsRow at text)) side.told side_new.told → Tells Kept old new
       row_kept both = step_other Kept (Both StaysUnmade (AddsRow at text)) both

@@ -1,33 +1,32 @@
 -- What an opening of two files finds.
-use Rattle.std.proofs.Common.{◌≡◌, ◌⊎◌, inl, inr, ℕ, ◌+◌, ◌≤◌, ◌<◌, Bool, true, false, cond, List, [], length, Option, Some, None, Result, Ok, Err, refl, sym, ◌∙◌, ap, subst, arith}
-use Rattle.std.specs.Prelude.{not, ◌&&◌, ◌||◌, nat_lt, ◌==◌}
-use Rattle.std.proofs.lemmas.Bool.{le-ltb, lt-ltb}
+use Rattle.std.proofs.Common.{◌≡◌, ◌⊎◌, inl, inr, ℕ, ◌+◌, ◌≤◌, Bool, true, false, cond, List, length, Option, Some, None, Result, Ok, Err, refl, sym, ◌∙◌, ap, subst, arith}
+use Rattle.std.specs.Prelude.{not, ◌&&◌, ◌||◌, nat_lt}
 use Rattle.std.proofs.lemmas.Bool.Decides.{nat_tests}
 use Rattle.actor_ports.specs.declared.port.PortError.{PortError}
 use Rattle.actor_ports.specs.declared.port.PortError.TheVariants.{Failed, OutOfMemory as port_memory}
 use Rattle.std.specs.List.{AllByRecursion}
 use Rattle.disk_model.specs.Disk.{Instant, DiskState, Syncs, Tells}
 use Rattle.disk_model.specs.Crash.{IsDurable, Later}
-use Rattle.disk_model.proofs.Moments.{later_here, later_then, later_weaker, leaves_durable}
+use Rattle.disk_model.proofs.Moments.{later_here, later_then, later_weaker}
 use Rattle.disk_model.proofs.Stages.{Then, Both, tells_map, tells_both, tells_on, told_before, stage_synced, synced_bytes}
 use Rattle.tx_journal.specs.declared.error.JournalError.{JournalError}
 use Rattle.tx_journal.specs.declared.error.JournalError.TheVariants.{DiskFault, Damaged, TooLong, Full, Reopen, NotStarted, OneDisk, Spent, OutOfMemory}
 use Rattle.tx_journal.specs.declared.format.Format.{Format}
-use Rattle.tx_journal.specs.declared.format.Format.TheVariants.{One, Two}
+use Rattle.tx_journal.specs.declared.format.Format.TheVariants.{Two}
 use Rattle.tx_journal.specs.declared.kind.FileKind.{FileKind}
 use Rattle.tx_journal.specs.declared.kind.FileKind.TheVariants.{Unmade, Other, Journal as Journal_}
 use Rattle.tx_journal.specs.declared.survey.Seen.{Seen}
-use Rattle.tx_journal.specs.File.{head, is_made, file_payloads}
-use Rattle.tx_journal.specs.Pair.{Files, first_generation, file_generation, number, is_second_live, live_file, read_payloads, live_payloads, Holds}
-use Rattle.tx_journal.specs.Journal.{IsAtRest, IsSame, LooksLike, is_to_make, MayBeLeft, KeepsFile, OpensAs, Opens, Refuses}
+use Rattle.tx_journal.specs.File.{is_made, file_payloads}
+use Rattle.tx_journal.specs.Pair.{Files, first_generation, file_generation, number, is_second_live, live_file}
+use Rattle.tx_journal.specs.Journal.{IsSame, LooksLike, is_to_make, MayBeLeft, KeepsFile, OpensAs, Opens, Refuses}
 use Rattle.tx_journal.specs.Compaction.{IsBehind, MayBeShut}
-use Rattle.tx_journal.specs.Calls.{tell_both, is_making, FindsIn, OpensFiles, MayBeLeftIn, KeepsFiles, live_bytes, RefusesFiles}
+use Rattle.tx_journal.specs.Calls.{tell_both, is_making, FindsIn, OpensFiles, MayBeLeftIn, KeepsFiles, RefusesFiles}
 use Rattle.tx_journal.specs.Seen.{Sees, is_made_kind, is_second_seen}
 use Rattle.tx_journal.specs.Sound.{margin, Yields, Waits, IsLive}
 use Rattle.tx_journal.specs.Found.{Synced, IsSynced, is_closed_seen, at_first}
 use Rattle.tx_journal.proofs.Openings.{head_made}
 use Rattle.tx_journal.proofs.Making.{shut_of}
-use Rattle.tx_journal.proofs.Chosen.{rest_generation, rest_made}
+use Rattle.tx_journal.proofs.Chosen.{rest_generation}
 use Rattle.tx_journal.proofs.Lifts.{both_tell, holds_two}
 use Rattle.tx_journal.proofs.Rowed.{both_of}
 
@@ -184,14 +183,16 @@ waits_seen s generation seen d sees durable older = go (is_closed_seen seen) ref
     go : (b : Bool) → is_closed_seen seen ≡ b → Waits s generation b None d
     go true is =
         let both = shut_kind (is_made_kind seen.kind) (nat_lt 1 seen.len) is in
-        let front = shut_of d.bytes (made_is ∙ both.0) (omega (arith, long_test seen.len both.1, sees.len_is)) in
-        (record {
-          gate = front.0;
-          shut = front.2;
-          synced = (front.1, ap (λ (i : Instant). i.synced) durable ∙ front.3);
-          reads = (front.1, front.3);
-          behind = subst (λ (i : Instant). AllByRecursion IsBehind i.pending) (sym durable) tt;
-        }, λ at none. absurd (let no : None ≡ Some at = none in cc))
+        let front = shut_of d.bytes (made_is ∙ both.0) (omega (arith, long_test seen.len both.1, sees.len_is)) in (
+          record {
+            gate = front.0;
+            shut = front.2;
+            synced = (front.1, ap (λ (i : Instant). i.synced) durable ∙ front.3);
+            reads = (front.1, front.3);
+            behind = subst (λ (i : Instant). AllByRecursion IsBehind i.pending) (sym durable) tt;
+          },
+          λ at none. absurd (let no : None ≡ Some at = none in cc),
+        )
     go false is = (durable, yields (is_made_kind seen.kind) refl, may_shut (open_kind (is_made_kind seen.kind) (nat_lt 1 seen.len) is), refl)
 
 -- the live file, from what was seen of it

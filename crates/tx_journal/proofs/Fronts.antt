@@ -11,14 +11,14 @@ use Rattle.disk_model.specs.declared.change.Change.TheVariants.{Over, CutTo}
 use Rattle.disk_model.proofs.Moments.{later_here, later_changed, later_then, later_weaker, leaves_durable}
 use Rattle.disk_model.proofs.Stages.{Then, Both, Stage, stage_start, stage_write, stage_sync, stage_synced, synced_durable, synced_bytes, wrote_bytes, torn_overwritten}
 use Rattle.tx_journal.specs.declared.format.Format.TheVariants.{Two}
-use Rattle.tx_journal.specs.File.{name, framed, spelled, IsShort, is_made, opened}
+use Rattle.tx_journal.specs.File.{name, framed, spelled, is_made, opened}
 use Rattle.tx_journal.specs.Pair.{generation_row}
 use Rattle.tx_journal.specs.Journal.{IsAtRest}
 use Rattle.tx_journal.proofs.Files.{length-framed}
 use Rattle.tx_journal.proofs.Records.{spelled-push, at_rest_again}
 use Rattle.std.proofs.lemmas.List.{take_at}
 use Rattle.tx_journal.proofs.Making.{unmade}
-use Rattle.tx_journal.specs.Compaction.{IsBehind, IsShutFront, IsUnmade, StaysUnmade, IsMadeOrNot, Finishes, IsFinished, MayBeShut, MayStart, Closes, IsClosed, WritesFront, HasFirstRow, Begins, HasBegunFile, AddsRow}
+use Rattle.tx_journal.specs.Compaction.{IsBehind, IsShutFront, IsUnmade, StaysUnmade, IsMadeOrNot, Finishes, IsFinished, MayBeShut, Closes, IsClosed, WritesFront, HasFirstRow, Begins, HasBegunFile, AddsRow}
 
 -- the first byte is this one
 abbrev Front : ℕ → List ℕ → Type 0

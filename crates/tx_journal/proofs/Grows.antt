@@ -1,22 +1,22 @@
 -- An append, whether to one disk or to the live one of two.
-use Rattle.std.proofs.Common.{◌≡◌, ◌⊎◌, inl, inr, ℕ, suc, ◌+◌, ◌≤◌, Bool, true, false, cond, List, [], ◌∷◌, ◌++◌, length, Option, Some, None, Result, Ok, refl, sym, ◌∙◌, ap, subst, arith, length-append}
-use Rattle.std.specs.Prelude.{nat_lt, ◌==◌}
+use Rattle.std.proofs.Common.{◌≡◌, inl, inr, ℕ, ◌+◌, ◌≤◌, Bool, true, false, cond, List, [], ◌∷◌, ◌++◌, length, Option, Some, None, refl, sym, ◌∙◌, ap, subst, arith, length-append}
+use Rattle.std.specs.Prelude.{◌==◌}
 use Rattle.std.proofs.lemmas.Bool.Decides.{nat_tests}
 use Rattle.disk_model.specs.Disk.{DiskState, Tells}
-use Rattle.disk_model.specs.Crash.{IsDurable, Since}
+use Rattle.disk_model.specs.Crash.{Since}
 use Rattle.disk_model.proofs.Moments.{since_weaker}
 use Rattle.disk_model.proofs.Stages.{told_before}
 use Rattle.tx_journal.specs.declared.format.Format.{Format}
 use Rattle.tx_journal.specs.declared.format.Format.TheVariants.{One, Two}
 use Rattle.tx_journal.specs.declared.find.Cursor.{Cursor}
 use Rattle.tx_journal.specs.File.{framed, records, spelled, IsShort, journal_payloads}
-use Rattle.tx_journal.specs.Pair.{Files, first_generation, generation_in, number, SinceOpened, Holds, IsEither}
-use Rattle.tx_journal.specs.Journal.{IsAtRest, IsSpelled, RestsBeforeOrAfter, PutsRecord, HasRecord}
+use Rattle.tx_journal.specs.Pair.{first_generation, generation_in, number, SinceOpened, Holds, IsEither}
+use Rattle.tx_journal.specs.Journal.{IsAtRest, RestsBeforeOrAfter, PutsRecord, HasRecord}
 use Rattle.tx_journal.specs.Calls.{Side, JournalState, generation_with, Commits, Committed, first_of, second_of, tell_sides}
 use Rattle.tx_journal.specs.Sound.{Yields, Waits, IsLive, IsSound, newest_of}
 use Rattle.tx_journal.proofs.Rests.{gate_push, spelled_image}
 use Rattle.tx_journal.proofs.Chosen.{live_in, yields_more}
-use Rattle.tx_journal.proofs.Lifts.{files_in, OtherTells, lift, other_same, opens_both, waits_leaves, same_since, live_counts, holds_one, holds_two, holds_once}
+use Rattle.tx_journal.proofs.Lifts.{files_in, lift, other_same, opens_both, waits_leaves, same_since, live_counts, holds_one, holds_two, holds_once}
 
 nine_test : (end : ℕ) → (end ≡ 9 → ⊥) → (end == 9) ≡ false
 nine_test end other = grind (arith, nat_tests)

@@ -1,18 +1,17 @@
 -- From what happens to each disk to what a crash leaves of both.
-use Rattle.std.proofs.Common.{◌≡◌, ◌⊎◌, inl, inr, ℕ, ◌+◌, ◌≤◌, Bool, true, false, List, [], ◌∷◌, ◌++◌, Option, Some, None, Result, Ok, refl, sym, ◌∙◌, ap, subst, arith}
+use Rattle.std.proofs.Common.{◌≡◌, inl, inr, ℕ, ◌≤◌, Bool, true, false, List, Option, Some, None, Ok, refl, sym, ◌∙◌, ap, subst, arith}
 use Rattle.std.specs.Prelude.{not}
 use Rattle.disk_model.specs.Disk.{DiskState, Tells}
-use Rattle.disk_model.specs.Crash.{LeavesOnly, IsDurable, Later, Since}
-use Rattle.disk_model.proofs.Moments.{Facts, later_here, later_weaker, leaves_durable, since_weaker}
+use Rattle.disk_model.specs.Crash.{LeavesOnly, Since}
+use Rattle.disk_model.proofs.Moments.{Facts, later_here, leaves_durable, since_weaker}
 use Rattle.tx_journal.specs.declared.format.Format.{Format}
 use Rattle.tx_journal.specs.declared.format.Format.TheVariants.{One, Two}
 use Rattle.tx_journal.specs.declared.find.Cursor.{Cursor}
-use Rattle.tx_journal.specs.File.{is_made, file_payloads, journal_payloads, opened}
-use Rattle.tx_journal.specs.Pair.{Files, Claim, first_generation, file_generation, generation_row, number, read_payloads, live_payloads, LeavesOpened, SinceOpened, Holds}
-use Rattle.tx_journal.specs.Journal.{IsAtRest, IsSpelled, IsSettled}
-use Rattle.tx_journal.specs.Compaction.{IsShutFront}
-use Rattle.tx_journal.specs.Calls.{Side, JournalState, first_of, second_of, tell_one, tell_both, tell_sides, next_number}
-use Rattle.tx_journal.specs.Sound.{Yields, Waits, IsLive, newest_of}
+use Rattle.tx_journal.specs.File.{is_made, journal_payloads}
+use Rattle.tx_journal.specs.Pair.{Files, Claim, first_generation, file_generation, number, read_payloads, live_payloads, LeavesOpened, SinceOpened, Holds}
+use Rattle.tx_journal.specs.Journal.{IsSpelled}
+use Rattle.tx_journal.specs.Calls.{Side, first_of, second_of, tell_one, tell_both, tell_sides}
+use Rattle.tx_journal.specs.Sound.{Yields, Waits, IsLive}
 use Rattle.tx_journal.proofs.Making.{unmade}
 use Rattle.tx_journal.proofs.Rests.{rest_image, spelled_image, same_payloads}
 use Rattle.tx_journal.proofs.Chosen.{rest_generation, rest_made, live_in, picks}

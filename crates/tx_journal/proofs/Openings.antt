@@ -6,12 +6,12 @@ use Rattle.actor_ports.specs.declared.port.PortError.TheVariants.{Failed, OutOfM
 use Rattle.disk_model.specs.Disk.{DiskState, Syncs, Tells}
 use Rattle.disk_model.specs.Crash.{IsDurable, Later}
 use Rattle.disk_model.proofs.Moments.{later_here, later_then}
-use Rattle.disk_model.proofs.Stages.{Then, tells_map_at, tells_same, told_before, stage_synced, synced_bytes}
+use Rattle.disk_model.proofs.Stages.{Then, tells_map_at, tells_same, stage_synced, synced_bytes}
 use Rattle.tx_journal.specs.declared.error.JournalError.{JournalError}
 use Rattle.tx_journal.specs.declared.error.JournalError.TheVariants.{DiskFault, Damaged, TooLong, Full, Reopen, NotStarted, OneDisk, Spent, OutOfMemory}
 use Rattle.tx_journal.specs.declared.format.Format.{Format}
-use Rattle.tx_journal.specs.File.{name, is_known, head, is_made, file_payloads}
-use Rattle.tx_journal.specs.Journal.{IsAtRest, Scans, is_to_make, MayBeLeft, KeepsFile, OpensAs, Opens, Refuses, Creates, IsCreated}
+use Rattle.tx_journal.specs.File.{head, is_made, file_payloads}
+use Rattle.tx_journal.specs.Journal.{Scans, is_to_make, MayBeLeft, KeepsFile, OpensAs, Opens, Refuses, Creates, IsCreated}
 use Rattle.tx_journal.proofs.Rests.{rest_image}
 
 to_make : (create : Bool) (bytes : List ℕ) → create ≡ true → is_made bytes ≡ false → is_to_make create bytes ≡ true

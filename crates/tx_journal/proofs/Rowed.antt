@@ -1,15 +1,13 @@
 -- What a replay finds of one file or of two.
-use Rattle.std.proofs.Common.{◌≡◌, ◌⊎◌, inl, inr, ℕ, suc, ◌+◌, ◌≤◌, ◌<◌, Bool, true, false, cond, List, [], ◌∷◌, length, take, drop, Option, Some, None, Result, Ok, Err, Vec, refl, sym, ◌∙◌, ap, subst, arith}
+use Rattle.std.proofs.Common.{◌≡◌, ℕ, suc, ◌+◌, ◌≤◌, Bool, true, false, cond, List, [], ◌∷◌, length, drop, Option, Some, None, Ok, Vec, refl, sym, ◌∙◌, ap, subst, arith}
 use Rattle.std.specs.Prelude.{slice_get, option_map, is_some}
 use Rattle.std.specs.Int.{w64, from_be_bytes}
 use Rattle.disk_model.specs.Disk.{DiskState}
-use Rattle.tx_journal.specs.declared.error.JournalError.{JournalError}
 use Rattle.tx_journal.specs.declared.format.Format.{Format}
 use Rattle.tx_journal.specs.declared.format.Format.TheVariants.{One, Two}
 use Rattle.tx_journal.specs.declared.find.Cursor.{Cursor}
-use Rattle.tx_journal.specs.File.{most_bytes, records}
 use Rattle.tx_journal.specs.Pair.{Files, is_generation, generation_in, first_generation, without_generation, Holds}
-use Rattle.tx_journal.specs.Journal.{IsAtRest, IsSettled, IsGateOf, Finds, Replays}
+use Rattle.tx_journal.specs.Journal.{IsAtRest, IsSettled, Finds, Replays}
 use Rattle.tx_journal.specs.Calls.{Side, JournalState, first_of, second_of, tell_one, tell_both, tell_sides, rows_in, place_in}
 use Rattle.tx_journal.specs.Sound.{IsLive, IsSound, newest_of}
 use Rattle.tx_journal.proofs.Files.{count_records}
@@ -57,14 +55,20 @@ holds_live j cursor is_shut room sound works files payloads tells holds = go j.o
     go : (o : Option Side) → j.other ≡ o → (d : DiskState) × (j.live.told ≡ Some d) × LiveOf (newest_of j.other) j.format j.generation j.end cursor payloads d
     go None is =
         let one = told_one j.is_second_live j.live files (ap (λ o. tell_sides (first_of j.is_second_live j.live o) (second_of j.is_second_live j.live o)) (sym is) ∙ tells) in
-        let alone = subst (λ n. IsLive n j.format j.generation j.end cursor one.0) (ap newest_of is) (sound.live works one.0 one.1) in
-        (one.0, one.1, live_of (newest_of j.other) One j.format j.generation j.end cursor payloads one.0 (ap newest_of is) alone
-        (holds_once alone.payloads payloads (record { first = one.0; second = None }) (holds_one j.format j.generation j.end cursor one.0 alone) (subst (Holds payloads) one.2 holds)))
+        let alone = subst (λ n. IsLive n j.format j.generation j.end cursor one.0) (ap newest_of is) (sound.live works one.0 one.1) in (
+          one.0,
+          one.1,
+          live_of (newest_of j.other) One j.format j.generation j.end cursor payloads one.0 (ap newest_of is) alone
+              (holds_once alone.payloads payloads (record { first = one.0; second = None }) (holds_one j.format j.generation j.end cursor one.0 alone) (subst (Holds payloads) one.2 holds)),
+        )
     go (Some side) is =
         let two = told_two j.is_second_live j.live side files (ap (λ o. tell_sides (first_of j.is_second_live j.live o) (second_of j.is_second_live j.live o)) (sym is) ∙ tells) in
-        let paired = subst (λ n. IsLive n j.format j.generation j.end cursor two.0) (ap newest_of is) (sound.live works two.0 two.2) in
-        (two.0, two.2, live_of (newest_of j.other) Two j.format j.generation j.end cursor payloads two.0 (ap newest_of is) paired
-        (holds_once paired.payloads payloads (files_in j.is_second_live two.0 (Some two.1)) (holds_two j.format j.generation j.end cursor two.0 j.is_second_live is_shut j.staged two.1 paired (sound.waits works side is two.1 two.3)) (subst (Holds payloads) two.4 holds)))
+        let paired = subst (λ n. IsLive n j.format j.generation j.end cursor two.0) (ap newest_of is) (sound.live works two.0 two.2) in (
+          two.0,
+          two.2,
+          live_of (newest_of j.other) Two j.format j.generation j.end cursor payloads two.0 (ap newest_of is) paired
+              (holds_once paired.payloads payloads (files_in j.is_second_live two.0 (Some two.1)) (holds_two j.format j.generation j.end cursor two.0 j.is_second_live is_shut j.staged two.1 paired (sound.waits works side is two.1 two.3)) (subst (Holds payloads) two.4 holds)),
+        )
 
 -- the rows of payloads
 not_generation : (payload : List ℕ) → generation_in payload ≡ None → is_generation payload ≡ false

@@ -1,7 +1,6 @@
 -- An opening of one file, as a journal's.
-use Rattle.std.proofs.Common.{◌≡◌, inl, inr, ℕ, Bool, true, false, List, [], length, Option, Some, None, Result, Ok, Err, refl, sym, ◌∙◌, ap, subst, arith}
+use Rattle.std.proofs.Common.{◌≡◌, ℕ, Bool, true, false, List, Option, Some, None, Ok, refl, ap, subst, arith}
 use Rattle.disk_model.specs.Disk.{DiskState, Tells}
-use Rattle.disk_model.specs.Crash.{IsDurable, Later}
 use Rattle.disk_model.proofs.Moments.{later_weaker, leaves_durable}
 use Rattle.disk_model.proofs.Stages.{told_before}
 use Rattle.tx_journal.specs.declared.error.JournalError.{JournalError}
@@ -9,8 +8,8 @@ use Rattle.tx_journal.specs.declared.error.JournalError.TheVariants.{DiskFault, 
 use Rattle.tx_journal.specs.declared.format.Format.{Format}
 use Rattle.tx_journal.specs.declared.format.Format.TheVariants.{One, Two}
 use Rattle.tx_journal.specs.File.{journal_payloads}
-use Rattle.tx_journal.specs.Pair.{Files, Holds}
-use Rattle.tx_journal.specs.Journal.{IsAtRest, is_to_make, MayBeLeft, KeepsFile, OpensAs, Opens, Refuses}
+use Rattle.tx_journal.specs.Pair.{Files}
+use Rattle.tx_journal.specs.Journal.{is_to_make, MayBeLeft, KeepsFile, OpensAs, Opens, Refuses}
 use Rattle.tx_journal.specs.Calls.{tell_one, FindsIn, OpensFiles, MayBeLeftIn, KeepsFiles, RefusesFiles}
 use Rattle.tx_journal.specs.Found.{at_first}
 use Rattle.tx_journal.specs.Sound.{IsLive}

@@ -5,8 +5,6 @@ use Rattle.disk_model.specs.Crash.{IsDurable, Later}
 use Rattle.tx_journal.specs.declared.error.JournalError.{JournalError}
 use Rattle.tx_journal.specs.declared.error.JournalError.TheVariants.{DiskFault, Damaged, TooLong, Full, Reopen, NotStarted, OneDisk, Spent, OutOfMemory}
 use Rattle.tx_journal.specs.declared.format.Format.TheVariants.{Two}
-use Rattle.tx_journal.specs.declared.kind.FileKind.{FileKind}
-use Rattle.tx_journal.specs.declared.kind.FileKind.TheVariants.{Unmade, Other, Journal as Journal_}
 use Rattle.tx_journal.specs.declared.survey.Seen.{Seen}
 use Rattle.tx_journal.specs.declared.pair.Found.{Found}
 use Rattle.tx_journal.specs.declared.find.Cursor.{Cursor}

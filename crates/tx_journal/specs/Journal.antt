@@ -1,5 +1,5 @@
 -- A journal as its callers see it: own.
-use Rattle.std.specs.Prelude.{◌≡◌, ◌≢◌, ◌<◌, ◌≤◌, ◌⊎◌, ℕ, suc, ◌+◌, Bool, true, false, not, ◌&&◌, List, [], ◌∷◌, ◌++◌, length, take, drop, Vec, slice_get, Option, Some, None, Result, Ok, Err, nat_lt, if◌then◌else◌}
+use Rattle.std.specs.Prelude.{◌≡◌, ◌≢◌, ◌<◌, ◌≤◌, ◌⊎◌, ℕ, suc, ◌+◌, Bool, true, false, not, ◌&&◌, List, [], ◌∷◌, ◌++◌, length, take, drop, Vec, slice_get, Option, Some, None, Result, Ok, Err}
 use Rattle.std.specs.List.{AllByRecursion}
 use Rattle.actor_ports.specs.declared.port.PortError.{PortError}
 use Rattle.actor_ports.specs.declared.port.PortError.TheVariants as ports
@@ -8,11 +8,10 @@ use Rattle.disk_model.specs.Crash.{IsDurable, Later, Since}
 use Rattle.tx_journal.specs.declared.error.JournalError.{JournalError}
 use Rattle.tx_journal.specs.declared.error.JournalError.TheVariants.{DiskFault, Damaged, TooLong, Full, Reopen, NotStarted, OneDisk, Spent, OutOfMemory}
 use Rattle.tx_journal.specs.declared.format.Format.{Format}
-use Rattle.tx_journal.specs.declared.format.Format.TheVariants.{One, Two}
 use Rattle.tx_journal.specs.declared.find.Cursor.{Cursor}
 use Rattle.tx_journal.specs.declared.kind.FileKind.{FileKind}
 use Rattle.tx_journal.specs.declared.kind.FileKind.TheVariants.{Unmade, Other, Journal as Journal_}
-use Rattle.tx_journal.specs.File.{name, head, framed, records, spelled, IsShort, longest, most_bytes, payloads_from, file_payloads, is_made, FileMade, is_known, JournalImage, IsBeforeOrAfter, IsEmptyOrUnmade}
+use Rattle.tx_journal.specs.File.{name, head, framed, records, spelled, IsShort, most_bytes, payloads_from, file_payloads, is_made, FileMade, is_known, JournalImage, IsEmptyOrUnmade}
 
 -- the bytes are a file of this known format and these payloads, a closed gate just before this offset, and any bytes behind it
 pub record IsAtRest (newest format : Format) (payloads : List (List ℕ)) (end : ℕ) (bytes : List ℕ) : Type 0 where

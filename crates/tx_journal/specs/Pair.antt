@@ -1,11 +1,10 @@
 -- Two files, of which one is live, and what a crash leaves of both: own.
-use Rattle.std.specs.Prelude.{◌≡◌, ◌⊎◌, ◌≤◌, ℕ, ◌+◌, Bool, true, false, not, ◌&&◌, ◌||◌, List, [], ◌∷◌, ◌++◌, length, take, drop, Option, Some, None, Result, Ok, Err, nat_lt, ◌==◌, if◌then◌else◌}
+use Rattle.std.specs.Prelude.{◌≡◌, ◌⊎◌, ℕ, Bool, not, ◌&&◌, ◌||◌, List, [], ◌∷◌, ◌++◌, length, take, drop, Option, Some, None, Result, Ok, Err, nat_lt, ◌==◌, if◌then◌else◌}
 use Rattle.std.specs.Int.{w64, from_be_bytes, to_be_bytes}
 use Rattle.disk_model.specs.Disk.{DiskState}
-use Rattle.disk_model.specs.Crash.{LeavesOnly, Later, Since}
-use Rattle.tx_journal.specs.declared.format.Format.{Format}
-use Rattle.tx_journal.specs.declared.format.Format.TheVariants.{One, Two}
-use Rattle.tx_journal.specs.File.{same_bytes, is_made, is_known, file_payloads, journal_payloads, IsEmptyOrUnmade}
+use Rattle.disk_model.specs.Crash.{LeavesOnly, Since}
+use Rattle.tx_journal.specs.declared.format.Format.TheVariants.{Two}
+use Rattle.tx_journal.specs.File.{same_bytes, is_made, is_known, file_payloads, journal_payloads}
 
 -- how the payload of a Generation begins: the moment 0, the kind 128
 abbrev pub generation_kind : List ℕ

@@ -1,12 +1,10 @@
 -- What an opening sees of a file: own.
-use Rattle.std.specs.Prelude.{◌≡◌, ℕ, Bool, true, false, not, ◌&&◌, ◌||◌, length, nat_lt}
+use Rattle.std.specs.Prelude.{◌≡◌, Bool, true, false, not, ◌&&◌, ◌||◌, length, nat_lt}
 use Rattle.disk_model.specs.Disk.{DiskState}
-use Rattle.tx_journal.specs.declared.format.Format.{Format}
 use Rattle.tx_journal.specs.declared.format.Format.TheVariants.{Two}
 use Rattle.tx_journal.specs.declared.kind.FileKind.{FileKind}
 use Rattle.tx_journal.specs.declared.kind.FileKind.TheVariants.{Unmade, Other, Journal as Journal_}
 use Rattle.tx_journal.specs.declared.survey.Seen.{Seen}
-use Rattle.tx_journal.specs.File.{is_made}
 use Rattle.tx_journal.specs.Pair.{file_generation, number}
 use Rattle.tx_journal.specs.Journal.{LooksLike}
 

@@ -41,7 +41,8 @@ fn front_row(number: u64) -> [u8; 30]
 {
     let [a, b, c, d, e, f, g, h] = number.to_be_bytes();
     [
-        b'A', b'C', b'T', b'J', b'R', b'N', b'2', 1, 0, 0, 0, 17, 0, 0, 0, 0, 0, 0, 0, 0, 128, a, b, c, d, e, f, g, h, 0,
+        b'A', b'C', b'T', b'J', b'R', b'N', b'2', 1, 0, 0, 0, 17, 0, 0, 0, 0, 0, 0, 0, 0, 128, a,
+        b, c, d, e, f, g, h, 0,
     ]
 }
 

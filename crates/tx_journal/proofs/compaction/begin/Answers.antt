@@ -1,6 +1,6 @@
-use Rattle.std.proofs.Common.{subst, sym, true, false}
+use Rattle.std.proofs.Common.{subst, sym}
 use Rattle.std.specs.Prelude.{OnOk}
-use Rattle.disk_model.specs.Disk.{DiskState, Tells}
+use Rattle.disk_model.specs.Disk.{Tells}
 use Rattle.disk_model.proofs.Stages.{tells_map, tells_then, tells_both, told_before, ok_case}
 use Rattle.tx_journal.specs.Compaction.{MayStart, Begins, HasBegunFile, WritesFront, IsClosed}
 use Rattle.tx_journal.proofs.Fronts.{begins_shut, begun_shut, begins_closed, begins_open, begun_open, front_long}

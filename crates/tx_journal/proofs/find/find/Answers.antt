@@ -3,7 +3,6 @@ use Rattle.std.specs.Prelude.{IfSome}
 use Rattle.std.proofs.lemmas.Result.{err_from_is_err_and}
 use Rattle.std.specs.declared.alloc.Global.{Global}
 use Rattle.tx_journal.specs.Journal.{StandsAt, Finds}
-use Rattle.tx_journal.proofs.Records.{rest_within}
 use Rattle.tx_journal.proofs.Replays.{stands_at, gate_next, found_none, found_payload, gate_within, replay_fails}
 use Rattle.tx_journal.proofs.find.find.Goals as goal
 

@@ -1,7 +1,7 @@
-use Rattle.std.proofs.Common.{true, false, None, sym, ◌∙◌, ap, subst}
+use Rattle.std.proofs.Common.{true, false, None, sym, ◌∙◌, subst}
 use Rattle.disk_model.specs.Disk.{Tells}
 use Rattle.disk_model.proofs.Stages.{tells_then}
-use Rattle.tx_journal.specs.Found.{Synced, at_first}
+use Rattle.tx_journal.specs.Found.{Synced}
 use Rattle.tx_journal.specs.Sound.{Waits}
 use Rattle.tx_journal.proofs.Founds.{Ready, readies, ready_after, opened_live, second_waits, first_waits, synced_keeps_both, told_second_keeps, told_second_opens, told_first_keeps, told_first_opens, told_second_refuses, told_first_refuses}
 use Rattle.tx_journal.proofs.pair.settle_pair.Goals as goal

@@ -1,7 +1,6 @@
-use Rattle.std.proofs.Common.{◌≡◌, Some, None, ◌≤◌, ℕ, ◌+◌, List, [], ◌∷◌, ◌++◌, length, take, drop, ap, ◌∙◌, sym, subst, arith, length-append}
+use Rattle.std.proofs.Common.{◌≡◌, Some, None, ◌≤◌, ℕ, ◌+◌, List, ◌∷◌, ◌++◌, length, take, drop, ap, ◌∙◌, sym, arith}
 use Rattle.std.proofs.lemmas.List.{take-take, take-append-le}
 use Rattle.disk_model.proofs.Stages.{ok_from_test}
-use Rattle.tx_journal.specs.File.{framed}
 use Rattle.tx_journal.proofs.Records.{rest_within}
 use Rattle.tx_journal.proofs.Grows.{append_crash, append_done, append_live, append_waits}
 use Rattle.tx_journal.proofs.journal.Journal.append.Goals as goal

@@ -1,6 +1,5 @@
 use Rattle.std.proofs.Common.{◌≡◌, ◌+◌, ℕ, false, Some, None, refl, sym, ◌∙◌, ap, subst, arith}
 use Rattle.std.specs.Prelude.{option_map, not}
-use Rattle.disk_model.specs.Disk.{DiskState}
 use Rattle.disk_model.proofs.Stages.{ok_from_test}
 use Rattle.tx_journal.specs.declared.format.Format.TheVariants.{Two}
 use Rattle.tx_journal.specs.Calls.{Side}

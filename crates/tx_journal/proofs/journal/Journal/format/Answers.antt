@@ -1,5 +1,4 @@
-use Rattle.std.proofs.Common.{ℕ, List, take, drop, ap, ◌∙◌}
-use Rattle.tx_journal.specs.Calls.{JournalState}
+use Rattle.std.proofs.Common.{ℕ, List, take, drop, ap}
 use Rattle.tx_journal.proofs.journal.Journal.format.Goals as goal
 
 pub returns-in-One-clause-name : goal.returns-in-One-clause-name

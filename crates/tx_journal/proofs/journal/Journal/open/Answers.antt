@@ -1,4 +1,4 @@
-use Rattle.tx_journal.proofs.Singles.{one_opened, one_kept, one_refused, one_live}
+use Rattle.tx_journal.proofs.Singles.{one_kept, one_refused}
 use Rattle.tx_journal.proofs.journal.Journal.open.Goals as goal
 
 pub returns-in-Err-clause-refused : goal.returns-in-Err-clause-refused

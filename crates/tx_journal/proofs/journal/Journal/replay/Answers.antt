@@ -1,8 +1,8 @@
-use Rattle.std.proofs.Common.{◌≡◌, ◌≤◌, ◌+◌, ℕ, List, length, Some, None, Ok, Err, ap, refl, sym, ◌∙◌, subst, arith}
+use Rattle.std.proofs.Common.{Some, None, Ok, ap, refl, sym, ◌∙◌, subst, arith}
 use Rattle.std.specs.Prelude.{option_map}
 use Rattle.std.specs.declared.alloc.Global.{Global}
-use Rattle.tx_journal.specs.Journal.{Finds, Replays}
-use Rattle.tx_journal.specs.Calls.{JournalState, told, rows_in}
+use Rattle.tx_journal.specs.Journal.{Finds}
+use Rattle.tx_journal.specs.Calls.{told, rows_in}
 use Rattle.tx_journal.proofs.Replays.{replay_found}
 use Rattle.tx_journal.proofs.Rowed.{holds_live, replay_rows, rows_few, some_mapped}
 use Rattle.tx_journal.proofs.journal.Journal.replay.Goals as goal

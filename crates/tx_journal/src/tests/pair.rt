@@ -1,0 +1,141 @@
+// Journals of two disks.
+use super::{CHOICES, ONE, count, open_one, refused};
+use crate::{Journal, JournalError};
+use disk_model::MemDisk;
+use std::alloc::Global;
+use std::test::Fail;
+
+fn open_two(
+    alloc: Global,
+    first: MemDisk,
+    second: MemDisk,
+    create: bool,
+) -> Result<Journal<MemDisk>, Fail> {
+    match Journal::open_pair(alloc, first, second, create) {
+        Ok(journal) => Ok(journal),
+        Err(_) => Err(refused()),
+    }
+}
+
+// A new pair with two payloads, whose second disk fails at the call of this number.
+fn two_payloads(alloc: Global, failing: &[u64]) -> Result<Journal<MemDisk>, Fail> {
+    let first = MemDisk::new(alloc, b"", &[])?;
+    let second = MemDisk::new(alloc, b"", failing)?;
+    let mut journal = open_two(alloc, first, second, true)?;
+    if journal.append(b"x").is_err() || journal.append(b"yz").is_err() {
+        return Err(refused());
+    }
+    Ok(journal)
+}
+
+// Starts a compaction and gives it these rows.
+fn copy_rows(journal: &mut Journal<MemDisk>) -> Result<(), JournalError> {
+    journal.compact_start()?;
+    journal.compact_add(b"x")?;
+    journal.compact_add(b"yz")?;
+    Ok(())
+}
+
+fn compact_all(journal: &mut Journal<MemDisk>) -> Result<(), JournalError> {
+    copy_rows(journal)?;
+    journal.compact()
+}
+
+#[test]
+fn compact_before_start_is_refused(rt: HostRuntime) -> Result<(), Fail> {
+    let mut journal = two_payloads(rt.alloc(), &[])?;
+    assert_eq!(rt; journal.compact(), Err(JournalError::NotStarted));
+    assert_eq!(rt; journal.compact_add(b"x"), Err(JournalError::NotStarted));
+    assert_eq!(rt; copy_rows(&mut journal), Ok(()));
+    assert_eq!(rt; journal.append(b"more"), Ok(()));
+    assert_eq!(rt; journal.compact(), Err(JournalError::NotStarted));
+    let mut alone = open_one(rt.alloc(), ONE, &[])?;
+    assert_eq!(rt; alone.compact(), Err(JournalError::NotStarted));
+    assert_eq!(rt; alone.compact_start(), Err(JournalError::OneDisk));
+    assert!(rt; alone.second().is_none());
+    Ok(())
+}
+
+const COMPACTED: &[u8] = b"\x01ACTJRN2\
+\x01\0\0\0\x11\0\0\0\0\0\0\0\0\x80\0\0\0\0\0\0\0\x01\
+\x01\0\0\0\x01x\
+\x01\0\0\0\x02yz\0";
+
+#[test]
+fn compaction_writes_generation_and_rows(rt: HostRuntime) -> Result<(), Fail> {
+    let mut journal = two_payloads(rt.alloc(), &[])?;
+    assert_eq!(rt; journal.format(), 2);
+    assert_eq!(rt; compact_all(&mut journal), Ok(()));
+    let Some(second) = journal.second() else {
+        return Err(refused());
+    };
+    assert_eq!(rt; second.bytes(), COMPACTED);
+    assert_eq!(rt; journal.len(), COMPACTED.len() as u64);
+    assert_eq!(rt; count(rt.alloc(), &mut journal)?, 2);
+    let Ok(Some(row)) = journal.replay(rt.alloc(), 1) else {
+        return Err(refused());
+    };
+    assert_eq!(rt; row.as_slice(), b"yz".as_slice());
+    // The next one goes into the first file, with the number 2.
+    assert_eq!(rt; compact_all(&mut journal), Ok(()));
+    assert_eq!(rt; journal.disk().bytes()[29], 2);
+    assert_eq!(rt; count(rt.alloc(), &mut journal)?, 2);
+    Ok(())
+}
+
+// Whether both files open with two payloads, for each choice of images.
+fn open_with_two(alloc: Global, journal: Journal<MemDisk>) -> Result<bool, Fail> {
+    let (first, Some(second)) = journal.close() else {
+        return Err(refused());
+    };
+    for choice in CHOICES {
+        let mut again = open_two(alloc, first.image(choice)?, second.image(choice)?, false)?;
+        if count(alloc, &mut again)? != 2 {
+            return Ok(false);
+        }
+    }
+    Ok(true)
+}
+
+#[test]
+fn stopped_compaction_keeps_contents(rt: HostRuntime) -> Result<(), Fail> {
+    // Calls 5 to 13 of the second disk are the compaction's.
+    for stop in 5..15 {
+        let mut journal = two_payloads(rt.alloc(), &[stop])?;
+        let answer = compact_all(&mut journal);
+        assert_eq!(rt; answer.is_ok(), stop == 14);
+        assert!(rt; open_with_two(rt.alloc(), journal)?, "stopped at {stop}");
+    }
+    Ok(())
+}
+
+#[test]
+fn abandoned_compaction_is_started_again(rt: HostRuntime) -> Result<(), Fail> {
+    // The second start finds a closed gate, and writes behind it: calls 11 to 17.
+    for stop in 11..19 {
+        let mut journal = two_payloads(rt.alloc(), &[stop])?;
+        assert_eq!(rt; copy_rows(&mut journal), Ok(()));
+        let answer = compact_all(&mut journal);
+        assert_eq!(rt; answer.is_ok(), stop == 18);
+        assert!(rt; open_with_two(rt.alloc(), journal)?, "stopped at {stop}");
+    }
+    Ok(())
+}
+
+#[test]
+fn too_long_row_gives_compaction_up(rt: HostRuntime) -> Result<(), Fail> {
+    let mut journal = two_payloads(rt.alloc(), &[])?;
+    let long = vec![in rt.alloc(); 7u8; 5_242_881]?;
+    assert_eq!(rt; copy_rows(&mut journal), Ok(()));
+    assert_eq!(rt;
+        journal.compact_add(long.as_slice()),
+        Err(JournalError::TooLong { n: 5_242_881 })
+    );
+    assert_eq!(rt; journal.compact(), Err(JournalError::NotStarted));
+    assert_eq!(rt;
+        journal.append(long.as_slice()),
+        Err(JournalError::TooLong { n: 5_242_881 })
+    );
+    assert_eq!(rt; count(rt.alloc(), &mut journal)?, 2);
+    Ok(())
+}
