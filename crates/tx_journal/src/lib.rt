@@ -7,6 +7,7 @@ mod find;
 mod format;
 mod journal;
 mod kind;
+mod law;
 mod make;
 mod open;
 mod pair;
@@ -17,6 +18,7 @@ mod survey;
 pub use error::JournalError;
 pub use format::Format;
 pub use journal::Journal;
+pub use law::run_law;
 
 #[cfg(test)]
 mod tests;

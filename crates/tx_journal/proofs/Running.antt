@@ -1,0 +1,396 @@
+-- A journal over a list of calls.
+use Rattle.std.proofs.Common.{◌≡◌, inl, ℕ, ◌+◌, Bool, true, false, cond, List, [], ◌∷◌, ◌++◌, length, Option, Some, None, Result, Ok, Err, refl, sym, ◌∙◌, ap, subst}
+use Rattle.std.specs.Prelude.{OnOk, nat_lt, ◌||◌}
+use Rattle.disk_model.specs.Disk.{DiskState, Tells}
+use Rattle.disk_model.specs.Crash.{Since}
+use Rattle.disk_model.proofs.Moments.{later_here, since_now, since_weaker}
+use Rattle.disk_model.proofs.Stages.{told_before, tells_map_at, tells_same}
+use Rattle.tx_journal.specs.declared.error.JournalError.{JournalError}
+use Rattle.tx_journal.specs.declared.error.JournalError.TheVariants.{DiskFault, Damaged, TooLong, Full, Reopen, NotStarted, OneDisk, Spent, OutOfMemory}
+use Rattle.tx_journal.specs.File.{journal_payloads, longest, most_bytes}
+use Rattle.tx_journal.specs.Pair.{Files, Claim, generation_row, number, live_payloads, LeavesBoth, LeavesOpened, SinceBoth, SinceOpened, Holds, IsJust, IsEither}
+use Rattle.tx_journal.specs.Journal.{is_fault}
+use Rattle.tx_journal.specs.Calls.{Side, JournalState, first_of, second_of, tell_sides, told, append_refusal, Appends, Commits, Committed, is_alone, is_last, is_none, next_number, start_refusal, Starts, Keeps, Kept, HasBegun, row_refusal, add_refusal, given_up, Adds, HasRow, end_refusal, Turns, Replaces, Replaced, staged_payloads}
+use Rattle.tx_journal.specs.Runs.{JournalCall, Append, Begin, Add, Turn, Look, Answer, AppendMoves, BeginMoves, AddMoves, TurnMoves, LookMoves, Moves, Ledger, settled, GivenUp, outcome_of, with_row, rows_or, ledger_after, Stands, Runs, RisksOne, RisksEach}
+
+-- claims that follow from claims
+leaves_weaker : (P Q : Claim) (first : DiskState) (second : Option DiskState) → ((r : Result (List (List ℕ)) ℕ) → P r → Q r) → LeavesBoth P first second → LeavesBoth Q first second
+leaves_weaker P Q first None f leaves = λ x image. f (journal_payloads x) (leaves x image)
+leaves_weaker P Q first (Some second) f leaves = λ x image y other. f (live_payloads x y) (leaves x image y other)
+
+since_opened_weaker : (P Q : Claim) (a : DiskState) (b : Option DiskState) (a_new : DiskState) (b_new : Option DiskState) → ((r : Result (List (List ℕ)) ℕ) → P r → Q r) → SinceBoth P a b a_new b_new → SinceBoth Q a b a_new b_new
+since_opened_weaker P Q a None a_new None f since = since_weaker (λ x. P (journal_payloads x)) (λ x. Q (journal_payloads x)) a a_new (λ x. f (journal_payloads x)) since
+since_opened_weaker P Q a None a_new (Some e) f since = since
+since_opened_weaker P Q a (Some d) a_new None f since = since
+since_opened_weaker P Q a (Some d) a_new (Some e) f since =
+    since_weaker (λ x. Since (λ y. P (live_payloads x y)) d e) (λ x. Since (λ y. Q (live_payloads x y)) d e) a a_new
+    (λ x. since_weaker (λ y. P (live_payloads x y)) (λ y. Q (live_payloads x y)) d e (λ y. f (live_payloads x y))) since
+
+-- this moment is one of those since an earlier one
+opened_now : (P : Claim) (a : DiskState) (b : Option DiskState) (a_new : DiskState) (b_new : Option DiskState) → SinceBoth P a b a_new b_new → LeavesBoth P a_new b_new
+opened_now P a None a_new None since = since_now (λ x. P (journal_payloads x)) a a_new since
+opened_now P a None a_new (Some e) since = absurd since
+opened_now P a (Some d) a_new None since = absurd since
+opened_now P a (Some d) a_new (Some e) since = λ x image. since_now (λ y. P (live_payloads x y)) d e (since_now (λ x. Since (λ y. P (live_payloads x y)) d e) a a_new since x image)
+
+held_leaves : (held maybe : List (List ℕ)) (files : Files) → Holds held files → LeavesOpened (IsEither held maybe) files
+held_leaves held maybe files holds = leaves_weaker (IsJust held) (IsEither held maybe) files.first files.second (λ r is. inl is) holds.leaves
+
+-- a journal that holds what is acknowledged, and has nothing under way but these rows
+stands_settled : (held : List (List ℕ)) (rows : Option (List (List ℕ))) (j : JournalState) → j.is_broken ≡ false → ((files : Files) → told j ≡ Some files → Holds held files)
+    → ((more : List (List ℕ)) → rows ≡ Some more → (files : Files) → told j ≡ Some files → staged_payloads j.is_second_live files ≡ Ok more)
+    → ((at : ℕ) → j.staged ≡ Some at → (more : List (List ℕ)) × (rows ≡ Some more)) → Stands (settled held rows) j
+stands_settled held rows j works holds staged begun = record {
+  leaves = λ files tells. held_leaves held held files (holds files tells);
+  holds = λ same files tells. holds files tells;
+  rows = λ same more is files tells. staged more is files tells;
+  begun = λ same at is. begun at is;
+}
+
+-- one that met a fault
+stands_broken : (held maybe : List (List ℕ)) (j : JournalState) → j.is_broken ≡ true → ((files : Files) → told j ≡ Some files → LeavesOpened (IsEither held maybe) files) → Stands (record { held = held; maybe = maybe; rows = None }) j
+stands_broken held maybe j broken leaves = record {
+  leaves = leaves;
+  holds = λ works. absurd (let e : true ≡ false = sym broken ∙ works in cc);
+  rows = λ works. absurd (let e : true ≡ false = sym broken ∙ works in cc);
+  begun = λ works. absurd (let e : true ≡ false = sym broken ∙ works in cc);
+}
+
+no_rows : (j : JournalState) (staged : j.staged ≡ None) (at : ℕ) → j.staged ≡ Some at → (more : List (List ℕ)) × (None ≡ Some more)
+no_rows j staged at is = absurd (let e : None ≡ Some at = sym staged ∙ is in cc)
+
+-- what was told before, for a claim on what is told after
+from_before : (step : Files → Files → Type 0) (Q : Files → Type 0) (old new : JournalState) → Tells step (told old) (told new) → ((f g : Files) → told old ≡ Some f → step f g → Q g) → (files : Files) → told new ≡ Some files → Q files
+from_before step Q old new tells f files is = let before = told_before step (told old) (told new) files tells is in f before.0 files before.1 before.2
+
+-- the first test of every refusal
+broken_first : (b : Bool) (rest : Option JournalError) → b ≡ true → cond b (Some Reopen) rest ≡ Some Reopen
+broken_first true rest is = refl
+broken_first false rest is = absurd (let e : false ≡ true = is in cc)
+
+-- a call that is refused as one on a journal that met a fault
+stands_refused : (l : Ledger) (number : ℕ) (call : JournalCall) (answer : Answer) (old new : JournalState) → Stands l old → (answer ≡ Err Reopen) × (new ≡ old) → Stands (ledger_after number call (outcome_of answer) l) new
+stands_refused l number call answer old new stands is =
+    subst (λ (a : Answer). Stands (ledger_after number call (outcome_of a) l) new) (sym is.0) (subst (Stands l) (sym is.1) stands)
+
+no_append_fault : (a b c : Bool) (n len : ℕ) → cond a (Some Reopen) (cond b (Some (TooLong n)) (cond c (Some (Full len)) None)) ≡ Some DiskFault → ⊥
+no_append_fault true b c n len is = let e : Some Reopen ≡ Some DiskFault = is in cc
+no_append_fault false true c n len is = let e : Some (TooLong n) ≡ Some DiskFault = is in cc
+no_append_fault false false true n len is = let e : Some (Full len) ≡ Some DiskFault = is in cc
+no_append_fault false false false n len is = let e : None ≡ Some DiskFault = is in cc
+
+same_after : (l : Ledger) (number : ℕ) (call : JournalCall) (e : JournalError) → ledger_after number call GivenUp l ≡ l → (e ≡ DiskFault → ⊥) → ledger_after number call (outcome_of (Err e)) l ≡ l
+same_after l number call DiskFault given other = absurd (other refl)
+same_after l number call (Damaged offset) given other = refl
+same_after l number call (TooLong n) given other = given
+same_after l number call (Full len) given other = given
+same_after l number call Reopen given other = refl
+same_after l number call NotStarted given other = refl
+same_after l number call OneDisk given other = refl
+same_after l number call (Spent count) given other = refl
+same_after l number call OutOfMemory given other = refl
+
+module _ (l : Ledger) (n : ℕ) (old new : JournalState) (stands : Stands l old) (works : old.is_broken ≡ false) where
+  append_taken : (payload : List ℕ) (answer : Answer) → Appends payload answer old new → Tells (Commits payload) (told old) (told new) → OnOk answer (Tells (Committed payload) (told old) (told new)) → Stands (ledger_after n (Append payload) (outcome_of answer) l) new
+  append_taken payload (Ok x) appends crash done =
+      let staged : new.staged ≡ None = ap (λ (j : JournalState). j.staged) appends.0 in
+      stands_settled (l.held ++ payload ∷ []) None new (ap (λ (j : JournalState). j.is_broken) appends.0 ∙ works)
+      (from_before (Committed payload) (Holds (l.held ++ payload ∷ [])) old new done (λ f g is committed. committed l.held (stands.holds works f is)))
+      (λ more is. absurd (let e : None ≡ Some more = is in cc))
+      (no_rows new staged)
+  append_taken payload (Err DiskFault) appends crash done =
+      stands_broken l.held (l.held ++ payload ∷ []) new (ap (λ (j : JournalState). j.is_broken) appends.0)
+      (from_before (Commits payload) (LeavesOpened (IsEither l.held (l.held ++ payload ∷ []))) old new crash
+      (λ f g is commits. opened_now (IsEither l.held (l.held ++ payload ∷ [])) f.first f.second g.first g.second (commits l.held (stands.holds works f is))))
+  append_taken payload (Err (Damaged offset)) appends crash done = absurd appends
+  append_taken payload (Err (TooLong k)) appends crash done = absurd appends
+  append_taken payload (Err (Full len)) appends crash done = absurd appends
+  append_taken payload (Err Reopen) appends crash done = absurd appends
+  append_taken payload (Err NotStarted) appends crash done = absurd appends
+  append_taken payload (Err OneDisk) appends crash done = absurd appends
+  append_taken payload (Err (Spent count)) appends crash done = absurd appends
+  append_taken payload (Err OutOfMemory) appends crash done = absurd appends
+
+  append_stands : (payload : List ℕ) (answer : Answer) → AppendMoves payload answer old new → Stands (ledger_after n (Append payload) (outcome_of answer) l) new
+  append_stands payload answer moves = go (append_refusal old payload) refl
+    where
+      go : (r : Option JournalError) → append_refusal old payload ≡ r → Stands (ledger_after n (Append payload) (outcome_of answer) l) new
+      go None is = append_taken payload answer (moves.taken is) moves.crash moves.done
+      go (Some e) is =
+          let refused = moves.refused e is in
+          let other = λ (fault : e ≡ DiskFault). no_append_fault old.is_broken (nat_lt longest (length payload)) (nat_lt most_bytes (old.end + 5 + length payload)) (length payload) old.end (is ∙ ap (λ (x : JournalError). Some x) fault) in
+          subst (λ (a : Answer). Stands (ledger_after n (Append payload) (outcome_of a) l) new) (sym refused.0)
+          (subst (λ (m : Ledger). Stands m new) (sym (same_after l n (Append payload) e refl other)) (subst (Stands l) (sym refused.1) stands))
+
+  -- a crash in a call that keeps the payloads
+  keeps_either : (files_old files_new : Files) → Keeps files_old files_new → told old ≡ Some files_old → SinceOpened (IsEither l.held l.held) files_old files_new
+  keeps_either f g keeps is = since_opened_weaker (IsJust l.held) (IsEither l.held l.held) f.first f.second g.first g.second (λ r same. inl same) (keeps l.held (stands.holds works f is))
+
+  keeps_fault : Tells Keeps (told old) (told new) → new.is_broken ≡ true → Stands (record { held = l.held; maybe = l.held; rows = None }) new
+  keeps_fault crash broken = stands_broken l.held l.held new broken
+      (from_before Keeps (LeavesOpened (IsEither l.held l.held)) old new crash (λ f g is keeps. opened_now (IsEither l.held l.held) f.first f.second g.first g.second (keeps_either f g keeps is)))
+
+  kept_holds : Tells Kept (told old) (told new) → (files : Files) → told new ≡ Some files → Holds l.held files
+  kept_holds kept = from_before Kept (Holds l.held) old new kept (λ f g is keeps. keeps l.held (stands.holds works f is))
+
+  -- the start of a compaction
+  begin_taken : (answer : Answer) → Starts answer old new → Tells Keeps (told old) (told new) → OnOk answer (Tells Kept (told old) (told new)) → OnOk answer (Tells (HasBegun old.is_second_live n) (told old) (told new)) → Stands (ledger_after n Begin (outcome_of answer) l) new
+  begin_taken (Ok x) starts crash kept begun =
+      let first = generation_row n ∷ [] in
+      stands_settled l.held (Some first) new (ap (λ (j : JournalState). j.is_broken) starts ∙ works) (kept_holds kept)
+      (λ more is files tells.
+      let same : first ≡ more = cc in
+      ap (λ (s : Bool). staged_payloads s files) (ap (λ (j : JournalState). j.is_second_live) starts)
+      ∙ from_before (HasBegun old.is_second_live n) (λ files. staged_payloads old.is_second_live files ≡ Ok first) old new begun (λ f g is has. has) files tells ∙ ap (λ (m : List (List ℕ)). Ok m) same)
+      (λ at is. (first, refl))
+  begin_taken (Err DiskFault) starts crash kept begun = keeps_fault crash (ap (λ (j : JournalState). j.is_broken) starts.0)
+  begin_taken (Err (Damaged offset)) starts crash kept begun = absurd starts
+  begin_taken (Err (TooLong k)) starts crash kept begun = absurd starts
+  begin_taken (Err (Full len)) starts crash kept begun = absurd starts
+  begin_taken (Err Reopen) starts crash kept begun = absurd starts
+  begin_taken (Err NotStarted) starts crash kept begun = absurd starts
+  begin_taken (Err OneDisk) starts crash kept begun = absurd starts
+  begin_taken (Err (Spent count)) starts crash kept begun = absurd starts
+  begin_taken (Err OutOfMemory) starts crash kept begun = absurd starts
+
+  begin_stands : n ≡ next_number old.generation → (answer : Answer) → BeginMoves answer old new → Stands (ledger_after n Begin (outcome_of answer) l) new
+  begin_stands is_next answer moves = go (start_refusal old) refl
+    where
+      no_fault : (a b c : Bool) (k : ℕ) → cond a (Some Reopen) (cond b (Some OneDisk) (cond c (Some (Spent k)) None)) ≡ Some DiskFault → ⊥
+      no_fault true b c k is = let e : Some Reopen ≡ Some DiskFault = is in cc
+      no_fault false true c k is = let e : Some OneDisk ≡ Some DiskFault = is in cc
+      no_fault false false true k is = let e : Some (Spent k) ≡ Some DiskFault = is in cc
+      no_fault false false false k is = let e : None ≡ Some DiskFault = is in cc
+
+      go : (r : Option JournalError) → start_refusal old ≡ r → Stands (ledger_after n Begin (outcome_of answer) l) new
+      go None is = begin_taken answer (moves.taken is) moves.crash moves.kept (subst (λ k. OnOk answer (Tells (HasBegun old.is_second_live k) (told old) (told new))) (sym is_next) moves.begun)
+      go (Some e) is =
+          let refused = moves.refused e is in
+          let other = λ (fault : e ≡ DiskFault). no_fault old.is_broken (is_alone old.other) (is_last (number old.generation)) (number old.generation) (is ∙ ap (λ (x : JournalError). Some x) fault) in
+          subst (λ (a : Answer). Stands (ledger_after n Begin (outcome_of a) l) new) (sym refused.0)
+          (subst (λ (m : Ledger). Stands m new) (sym (same_after l n Begin e refl other)) (subst (Stands l) (sym refused.1) stands))
+
+  -- a row of a compaction
+  row_of : (payload : List ℕ) (staged : Option ℕ) → row_refusal payload staged ≡ None → (at : ℕ) × (staged ≡ Some at)
+  row_of payload None is = absurd (let e : Some NotStarted ≡ None = is in cc)
+  row_of payload (Some at) is = (at, refl)
+
+  add_taken : (payload : List ℕ) (answer : Answer) (at : ℕ) → old.staged ≡ Some at → Adds payload answer old new → Tells Keeps (told old) (told new) → OnOk answer (Tells Kept (told old) (told new)) → OnOk answer (Tells (HasRow old.is_second_live payload) (told old) (told new)) → Stands (ledger_after n (Add payload) (outcome_of answer) l) new
+  add_taken payload (Ok x) at staged adds crash kept added =
+      let rows = stands.begun works at staged in
+      let next : with_row payload l.rows ≡ Some (rows.0 ++ payload ∷ []) = ap (with_row payload) rows.1 in
+      stands_settled l.held (with_row payload l.rows) new (ap (λ (j : JournalState). j.is_broken) adds ∙ works) (kept_holds kept)
+      (λ more is files tells.
+      let same : rows.0 ++ payload ∷ [] ≡ more = let e : Some (rows.0 ++ payload ∷ []) ≡ Some more = sym next ∙ is in cc in
+      ap (λ (s : Bool). staged_payloads s files) (ap (λ (j : JournalState). j.is_second_live) adds)
+      ∙ from_before (HasRow old.is_second_live payload) (λ files. staged_payloads old.is_second_live files ≡ Ok (rows.0 ++ payload ∷ [])) old new added (λ f g is has. has rows.0 (stands.rows works rows.0 rows.1 f is)) files tells ∙ ap (λ (m : List (List ℕ)). Ok m) same)
+      (λ place is. (rows.0 ++ payload ∷ [], next))
+  add_taken payload (Err DiskFault) at staged adds crash kept added = keeps_fault crash (ap (λ (j : JournalState). j.is_broken) adds.0)
+  add_taken payload (Err (Damaged offset)) at staged adds crash kept added = absurd adds
+  add_taken payload (Err (TooLong k)) at staged adds crash kept added = absurd adds
+  add_taken payload (Err (Full len)) at staged adds crash kept added = absurd adds
+  add_taken payload (Err Reopen) at staged adds crash kept added = absurd adds
+  add_taken payload (Err NotStarted) at staged adds crash kept added = absurd adds
+  add_taken payload (Err OneDisk) at staged adds crash kept added = absurd adds
+  add_taken payload (Err (Spent count)) at staged adds crash kept added = absurd adds
+  add_taken payload (Err OutOfMemory) at staged adds crash kept added = absurd adds
+
+  given_stands : (j : JournalState) → j ≡ record old { staged = None } → Stands (settled l.held None) j
+  given_stands j is = stands_settled l.held None j (ap (λ (x : JournalState). x.is_broken) is ∙ works)
+      (λ files tells. stands.holds works files (ap told (sym is) ∙ tells))
+      (λ more same. absurd (let e : None ≡ Some more = same in cc))
+      (no_rows j (ap (λ (x : JournalState). x.staged) is))
+
+  add_refused : (payload : List ℕ) (e : JournalError) → (e ≡ DiskFault → ⊥) → new ≡ given_up e old → Stands (ledger_after n (Add payload) (outcome_of (Err e)) l) new
+  add_refused payload DiskFault other is = absurd (other refl)
+  add_refused payload (TooLong k) other is = given_stands new is
+  add_refused payload (Full len) other is = given_stands new is
+  add_refused payload (Damaged offset) other is = subst (Stands l) (sym is) stands
+  add_refused payload Reopen other is = subst (Stands l) (sym is) stands
+  add_refused payload NotStarted other is = subst (Stands l) (sym is) stands
+  add_refused payload OneDisk other is = subst (Stands l) (sym is) stands
+  add_refused payload (Spent count) other is = subst (Stands l) (sym is) stands
+  add_refused payload OutOfMemory other is = subst (Stands l) (sym is) stands
+
+  add_stands : (payload : List ℕ) (answer : Answer) → AddMoves payload answer old new → Stands (ledger_after n (Add payload) (outcome_of answer) l) new
+  add_stands payload answer moves = go (add_refusal old payload) refl
+    where
+      row_fault : (staged : Option ℕ) → row_refusal payload staged ≡ Some DiskFault → ⊥
+      row_fault None is = let e : Some NotStarted ≡ Some DiskFault = is in cc
+      row_fault (Some at) is = no_append_fault false (nat_lt longest (length payload)) (nat_lt most_bytes (at + 5 + length payload)) (length payload) at is
+
+      no_fault : (b : Bool) → cond b (Some Reopen) (row_refusal payload old.staged) ≡ Some DiskFault → ⊥
+      no_fault true is = let e : Some Reopen ≡ Some DiskFault = is in cc
+      no_fault false is = row_fault old.staged is
+
+      row_none : (b : Bool) → cond b (Some Reopen) (row_refusal payload old.staged) ≡ None → row_refusal payload old.staged ≡ None
+      row_none true is = absurd (let e : Some Reopen ≡ None = is in cc)
+      row_none false is = is
+
+      go : (r : Option JournalError) → add_refusal old payload ≡ r → Stands (ledger_after n (Add payload) (outcome_of answer) l) new
+      go None is =
+          let at = row_of payload old.staged (row_none old.is_broken is) in
+          add_taken payload answer at.0 at.1 (moves.taken is) moves.crash moves.kept moves.added
+      go (Some e) is =
+          let refused = moves.refused e is in
+          subst (λ (a : Answer). Stands (ledger_after n (Add payload) (outcome_of a) l) new) (sym refused.0)
+          (add_refused payload e (λ fault. no_fault old.is_broken (is ∙ ap (λ (x : JournalError). Some x) fault)) refused.1)
+
+  -- the end of a compaction
+  staged_of : (staged : Option ℕ) → is_none staged ≡ false → (at : ℕ) × (staged ≡ Some at)
+  staged_of None is = absurd (let e : true ≡ false = is in cc)
+  staged_of (Some at) is = (at, refl)
+
+  turn_taken : (answer : Answer) (at : ℕ) → old.staged ≡ Some at → Turns answer old new → Tells (Replaces old.is_second_live) (told old) (told new) → OnOk answer (Tells (Replaced old.is_second_live) (told old) (told new)) → Stands (ledger_after n Turn (outcome_of answer) l) new
+  turn_taken (Ok x) at staged turns crash done =
+      let rows = stands.begun works at staged in
+      let is_rows : rows_or l.rows l.held ≡ rows.0 = ap (λ (r : Option (List (List ℕ))). rows_or r l.held) rows.1 in
+      stands_settled (rows_or l.rows l.held) None new (ap (λ (j : JournalState). j.is_broken) turns.0)
+      (from_before (Replaced old.is_second_live) (Holds (rows_or l.rows l.held)) old new done (λ f g is replaced. subst (λ m. Holds m g) (sym is_rows) (replaced rows.0 (stands.rows works rows.0 rows.1 f is))))
+      (λ more is. absurd (let e : None ≡ Some more = is in cc))
+      (no_rows new (ap (λ (j : JournalState). j.staged) turns.0))
+  turn_taken (Err DiskFault) at staged turns crash done =
+      let rows = stands.begun works at staged in
+      let is_rows : rows_or l.rows l.held ≡ rows.0 = ap (λ (r : Option (List (List ℕ))). rows_or r l.held) rows.1 in
+      subst (λ m. Stands (record { held = l.held; maybe = m; rows = None }) new) (sym is_rows)
+      (stands_broken l.held rows.0 new (ap (λ (j : JournalState). j.is_broken) turns.0)
+      (from_before (Replaces old.is_second_live) (LeavesOpened (IsEither l.held rows.0)) old new crash
+      (λ f g is replaces. opened_now (IsEither l.held rows.0) f.first f.second g.first g.second (replaces l.held rows.0 (stands.holds works f is) (stands.rows works rows.0 rows.1 f is)))))
+  turn_taken (Err (Damaged offset)) at staged turns crash done = absurd turns
+  turn_taken (Err (TooLong k)) at staged turns crash done = absurd turns
+  turn_taken (Err (Full len)) at staged turns crash done = absurd turns
+  turn_taken (Err Reopen) at staged turns crash done = absurd turns
+  turn_taken (Err NotStarted) at staged turns crash done = absurd turns
+  turn_taken (Err OneDisk) at staged turns crash done = absurd turns
+  turn_taken (Err (Spent count)) at staged turns crash done = absurd turns
+  turn_taken (Err OutOfMemory) at staged turns crash done = absurd turns
+
+  turn_stands : (answer : Answer) → TurnMoves answer old new → Stands (ledger_after n Turn (outcome_of answer) l) new
+  turn_stands answer moves = go (end_refusal old) refl
+    where
+      no_fault : (a b : Bool) → cond a (Some Reopen) (cond b (Some NotStarted) None) ≡ Some DiskFault → ⊥
+      no_fault true b is = let e : Some Reopen ≡ Some DiskFault = is in cc
+      no_fault false true is = let e : Some NotStarted ≡ Some DiskFault = is in cc
+      no_fault false false is = let e : None ≡ Some DiskFault = is in cc
+
+      not_none : (a b : Bool) → cond a (Some Reopen) (cond b (Some NotStarted) None) ≡ None → b ≡ false
+      not_none true b is = absurd (let e : Some Reopen ≡ None = is in cc)
+      not_none false true is = absurd (let e : Some NotStarted ≡ None = is in cc)
+      not_none false false is = refl
+
+      go : (r : Option JournalError) → end_refusal old ≡ r → Stands (ledger_after n Turn (outcome_of answer) l) new
+      go None is =
+          let at = staged_of old.staged (not_none old.is_broken (is_none old.staged) is) in
+          turn_taken answer at.0 at.1 (moves.taken is) moves.crash moves.done
+      go (Some e) is =
+          let refused = moves.refused e is in
+          let other = λ (fault : e ≡ DiskFault). no_fault old.is_broken (is_none old.staged) (is ∙ ap (λ (x : JournalError). Some x) fault) in
+          subst (λ (a : Answer). Stands (ledger_after n Turn (outcome_of a) l) new) (sym refused.0)
+          (subst (λ (m : Ledger). Stands m new) (sym (same_after l n Turn e refl other)) (subst (Stands l) (sym refused.1) stands))
+
+-- what disks tell is not what they count
+told_looked : (j : JournalState) (faults : ℕ) (broken : Bool) → told (record j { live = record { told = j.live.told; faults = faults }; is_broken = broken }) ≡ told j
+told_looked j faults broken = go j.is_second_live j.other
+  where
+    go : (s : Bool) (o : Option Side) → tell_sides (first_of s (record { told = j.live.told; faults = faults }) o) (second_of s (record { told = j.live.told; faults = faults }) o) ≡ tell_sides (first_of s j.live o) (second_of s j.live o)
+    go true None = refl
+    go true (Some side) = refl
+    go false None = refl
+    go false (Some side) = refl
+
+module _ (l : Ledger) (n : ℕ) (old new : JournalState) (stands : Stands l old) (works : old.is_broken ≡ false) (answer : Answer) (moves : LookMoves answer old new) where
+  looked : told new ≡ told old
+  looked = ap told moves.same ∙ told_looked old new.live.faults new.is_broken
+
+  look_kept : Stands l new
+  look_kept = record {
+    leaves = λ files tells. stands.leaves files (sym looked ∙ tells);
+    holds = λ still files tells. stands.holds works files (sym looked ∙ tells);
+    rows = λ still rows is files tells. ap (λ (s : Bool). staged_payloads s files) (ap (λ (j : JournalState). j.is_second_live) moves.same) ∙ stands.rows works rows is files (sym looked ∙ tells);
+    begun = λ still at is. stands.begun works at (sym (ap (λ (j : JournalState). j.staged) moves.same) ∙ is);
+  }
+
+  look_broken : is_fault answer ≡ true → Stands (record { held = l.held; maybe = l.held; rows = None }) new
+  look_broken fault = stands_broken l.held l.held new (moves.broken ∙ ap (λ (b : Bool). b || is_fault answer) works ∙ fault)
+      (λ files tells. held_leaves l.held l.held files (stands.holds works files (sym looked ∙ tells)))
+
+look_stands : (l : Ledger) (n : ℕ) (old new : JournalState) (stands : Stands l old) (works : old.is_broken ≡ false) (answer : Answer) (moves : LookMoves answer old new) → Stands (ledger_after n Look (outcome_of answer) l) new
+look_stands l n old new stands works (Ok x) moves = look_kept l n old new stands works (Ok x) moves
+look_stands l n old new stands works (Err DiskFault) moves = look_broken l n old new stands works (Err DiskFault) moves refl
+look_stands l n old new stands works (Err (Damaged offset)) moves = look_kept l n old new stands works (Err (Damaged offset)) moves
+look_stands l n old new stands works (Err (TooLong k)) moves = look_kept l n old new stands works (Err (TooLong k)) moves
+look_stands l n old new stands works (Err (Full len)) moves = look_kept l n old new stands works (Err (Full len)) moves
+look_stands l n old new stands works (Err Reopen) moves = look_kept l n old new stands works (Err Reopen) moves
+look_stands l n old new stands works (Err NotStarted) moves = look_kept l n old new stands works (Err NotStarted) moves
+look_stands l n old new stands works (Err OneDisk) moves = look_kept l n old new stands works (Err OneDisk) moves
+look_stands l n old new stands works (Err (Spent count)) moves = look_kept l n old new stands works (Err (Spent count)) moves
+look_stands l n old new stands works (Err OutOfMemory) moves = look_kept l n old new stands works (Err OutOfMemory) moves
+
+-- one call
+step_broken : (l : Ledger) (n : ℕ) (call : JournalCall) (answer : Answer) (old new : JournalState) → Stands l old → old.is_broken ≡ true → Moves call answer old new → Stands (ledger_after n call (outcome_of answer) l) new
+step_broken l n (Append payload) answer old new stands broken moves = stands_refused l n (Append payload) answer old new stands (moves.refused Reopen (broken_first old.is_broken _ broken))
+step_broken l n Begin answer old new stands broken moves = stands_refused l n Begin answer old new stands (moves.refused Reopen (broken_first old.is_broken _ broken))
+step_broken l n (Add payload) answer old new stands broken moves = stands_refused l n (Add payload) answer old new stands (moves.refused Reopen (broken_first old.is_broken _ broken))
+step_broken l n Turn answer old new stands broken moves = stands_refused l n Turn answer old new stands (moves.refused Reopen (broken_first old.is_broken _ broken))
+step_broken l n Look answer old new stands broken moves = stands_refused l n Look answer old new stands (moves.reopen broken)
+
+step_works : (l : Ledger) (call : JournalCall) (answer : Answer) (old new : JournalState) → Stands l old → old.is_broken ≡ false → Moves call answer old new → Stands (ledger_after (next_number old.generation) call (outcome_of answer) l) new
+step_works l (Append payload) answer old new stands works moves = append_stands l (next_number old.generation) old new stands works payload answer moves
+step_works l Begin answer old new stands works moves = begin_stands l (next_number old.generation) old new stands works refl answer moves
+step_works l (Add payload) answer old new stands works moves = add_stands l (next_number old.generation) old new stands works payload answer moves
+step_works l Turn answer old new stands works moves = turn_stands l (next_number old.generation) old new stands works answer moves
+step_works l Look answer old new stands works moves = look_stands l (next_number old.generation) old new stands works answer moves
+
+step : (l : Ledger) (call : JournalCall) (answer : Answer) (old new : JournalState) → Stands l old → Moves call answer old new → Stands (ledger_after (next_number old.generation) call (outcome_of answer) l) new
+step l call answer old new stands moves = go old.is_broken refl
+  where
+    go : (b : Bool) → old.is_broken ≡ b → Stands (ledger_after (next_number old.generation) call (outcome_of answer) l) new
+    go true is = step_broken l (next_number old.generation) call answer old new stands is moves
+    go false is = step_works l call answer old new stands is moves
+
+pub runs_stand : (l m : Ledger) (old new : JournalState) (entries : List (JournalCall × Answer)) → Stands l old → Runs l old entries m new → Stands m new
+runs_stand l m old new [] stands runs = subst (λ (x : Ledger). Stands x new) (sym runs.0) (subst (Stands l) (sym runs.1) stands)
+runs_stand l m old new (entry ∷ entries) stands runs =
+    runs_stand (ledger_after (next_number old.generation) entry.0 (outcome_of entry.1) l) m runs.0 new entries (step l entry.0 entry.1 old runs.0 stands runs.1) runs.2
+
+-- what a crash leaves within one call
+since_same : (P : Claim) (first : DiskState) (second : Option DiskState) → LeavesBoth P first second → SinceBoth P first second first second
+since_same P first None leaves = record { start = leaves; later = later_here (λ x. P (journal_payloads x)) first }
+since_same P first (Some second) leaves = record {
+  start = λ x image. record { start = leaves x image; later = later_here (λ y. P (live_payloads x y)) second };
+  later = later_here (λ x. Since (λ y. P (live_payloads x y)) second second) first;
+}
+
+still : (P : Claim) (old new : JournalState) → told new ≡ told old → ((files : Files) → told old ≡ Some files → LeavesOpened P files) → Tells (SinceOpened P) (told old) (told new)
+still P old new same leaves = tells_map_at (λ f g. g ≡ f) (SinceOpened P) (told old) (told new)
+    (λ f g is also. subst (SinceOpened P f) (sym also) (since_same P f.first f.second (leaves f is)))
+    (tells_same (λ f g. g ≡ f) (told old) (told new) (λ f. refl) same)
+
+risks_one : (l : Ledger) (call : JournalCall) (answer : Answer) (old new : JournalState) → Stands l old → Moves call answer old new → RisksOne l call old new
+risks_one l (Append payload) answer old new stands moves works =
+    tells_map_at (Commits payload) (SinceOpened (IsEither l.held (l.held ++ payload ∷ []))) (told old) (told new) (λ f g is commits. commits l.held (stands.holds works f is)) moves.crash
+risks_one l Begin answer old new stands moves works =
+    tells_map_at Keeps (SinceOpened (IsEither l.held l.held)) (told old) (told new) (λ f g is keeps. keeps_either l 0 old new stands works f g keeps is) moves.crash
+risks_one l (Add payload) answer old new stands moves works =
+    tells_map_at Keeps (SinceOpened (IsEither l.held l.held)) (told old) (told new) (λ f g is keeps. keeps_either l 0 old new stands works f g keeps is) moves.crash
+risks_one l Look answer old new stands moves works =
+    still (IsEither l.held l.held) old new (looked l 0 old new stands works answer moves) (λ files is. held_leaves l.held l.held files (stands.holds works files is))
+risks_one l Turn answer old new stands moves works = go l.rows refl
+  where
+    started : (rows : List (List ℕ)) → l.rows ≡ Some rows → Tells (SinceOpened (IsEither l.held rows)) (told old) (told new)
+    started rows is = tells_map_at (Replaces old.is_second_live) (SinceOpened (IsEither l.held rows)) (told old) (told new)
+        (λ f g tells replaces. replaces l.held rows (stands.holds works f tells) (stands.rows works rows is f tells)) moves.crash
+
+    refused : (staged : Option ℕ) → old.staged ≡ staged → l.rows ≡ None → new ≡ old
+    refused (Some at) is none = absurd (let rows = stands.begun works at is in let e : None ≡ Some rows.0 = sym none ∙ rows.1 in cc)
+    refused None is none = (moves.refused NotStarted (ap (λ (b : Bool). cond b (Some Reopen) (cond (is_none old.staged) (Some NotStarted) None)) works ∙ ap (λ (s : Option ℕ). cond (is_none s) (Some NotStarted) None) is)).1
+
+    go : (r : Option (List (List ℕ))) → l.rows ≡ r → Tells (SinceOpened (IsEither l.held (rows_or l.rows l.held))) (told old) (told new)
+    go (Some rows) is = subst (λ r. Tells (SinceOpened (IsEither l.held (rows_or r l.held))) (told old) (told new)) (sym is) (started rows is)
+    go None is = subst (λ r. Tells (SinceOpened (IsEither l.held (rows_or r l.held))) (told old) (told new)) (sym is)
+        (still (IsEither l.held l.held) old new (ap told (refused old.staged refl is)) (λ files tells. held_leaves l.held l.held files (stands.holds works files tells)))
+
+pub runs_risk : (l : Ledger) (old : JournalState) (entries : List (JournalCall × Answer)) → Stands l old → RisksEach l old entries
+runs_risk l old [] stands = tt
+runs_risk l old (entry ∷ entries) stands =
+    λ mid moves. (risks_one l entry.0 entry.1 old mid stands moves, runs_risk (ledger_after (next_number old.generation) entry.0 (outcome_of entry.1) l) mid entries (step l entry.0 entry.1 old mid stands moves))
