@@ -78,7 +78,7 @@ fn compaction_writes_generation_and_rows(rt: HostRuntime) -> Result<(), Fail> {
     assert_eq!(rt; row.as_slice(), b"yz".as_slice());
     // The next one goes into the first file, with the number 2.
     assert_eq!(rt; compact_all(&mut journal), Ok(()));
-    assert_eq!(rt; journal.disk().bytes()[29], 2);
+    assert_eq!(rt; journal.disk().bytes().get(29), Some(&2));
     assert_eq!(rt; count(rt.alloc(), &mut journal)?, 2);
     Ok(())
 }
