@@ -3,7 +3,7 @@ use Rattle.std.proofs.Common.{◌≡◌, ◌≢◌, ℕ, ◌+◌, ◌-◌, ◌<�
 use Rattle.std.proofs.lemmas.Bool.{ne_eqb}
 use Rattle.std.proofs.lemmas.Grind.{common_steps}
 use Rattle.actor_names.specs.declared.error.NameError.TheVariants.{BadByte}
-use Rattle.actor_names.specs.Decimals.{number_of}
+use Rattle.lists_and_limits.specs.Decimals.{number_of}
 use Rattle.actor_names.specs.Numerals.{numeral_of}
 use Rattle.actor_names.specs.Addresses.{part_reading, port_reading, joined, ended}
 use Rattle.actor_names.proofs.Numerals.{number_of-piece}

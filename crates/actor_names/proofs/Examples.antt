@@ -5,7 +5,6 @@ use Rattle.actor_names.specs.declared.error.NameError.TheVariants.{Empty, TooLon
 use Rattle.actor_names.specs.Names.{actor_type_fault, actor_id_fault, chain_id_fault, key_fault}
 use Rattle.actor_names.specs.Numerals.{member_fault}
 use Rattle.actor_names.specs.Addresses.{address_reading, address_fault, part_reading, port_reading}
-use Rattle.actor_names.specs.Decimals.{number_of}
 
 type_of_all_classes : actor_type_fault (codes "Order.v2_a-b") ≡ None
 type_of_all_classes = refl
@@ -36,12 +35,6 @@ key_with_two_slashes = refl
 
 key_without_an_id : key_fault (codes "counter/") ≡ Some Empty
 key_without_an_id = refl
-
-number_at_its_bound : number_of 1024 (codes "1024") ≡ Some 1024
-number_at_its_bound = refl
-
-number_with_a_leading_zero : number_of 1024 (codes "07") ≡ None
-number_with_a_leading_zero = refl
 
 member_of_two_parts : member_fault (codes "n-1/4611686018427387904") ≡ None
 member_of_two_parts = refl

@@ -1,9 +1,7 @@
 mod AddressParts
 mod FirstBad
-mod Digits
 mod Examples
 mod Numerals
 mod PaddingLemmas
-pub mod DecimalTexts
-pub mod NameLengths
 pub mod Slashes
+pub mod FormFaults

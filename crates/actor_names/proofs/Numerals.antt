@@ -7,7 +7,7 @@ use Rattle.std.proofs.lemmas.Bool.{leb-true, eqb-true, le-leb, ne_eqb}
 use Rattle.std.proofs.Math.Seq.{take-length}
 use Rattle.actor_names.specs.declared.error.NameError.TheVariants.{BadByte}
 use Rattle.actor_names.specs.Names.{placed_from}
-use Rattle.actor_names.specs.Decimals.{is_digit, number_of}
+use Rattle.lists_and_limits.specs.Decimals.{is_digit, number_of}
 use Rattle.actor_names.specs.Numerals.{numeral_of, ended_fault, number_fault}
 
 -- the number's digits are the text's first bytes

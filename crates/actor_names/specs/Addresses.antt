@@ -4,7 +4,7 @@ use Rattle.actor_names.specs.declared.error.NameError.{NameError}
 use Rattle.actor_names.specs.declared.error.NameError.TheVariants.{BadByte}
 use Rattle.actor_names.specs.declared.address.Address.{Address}
 use Rattle.actor_names.specs.declared.address.Part.{Part}
-use Rattle.actor_names.specs.Decimals.{number_of}
+use Rattle.lists_and_limits.specs.Decimals.{number_of}
 use Rattle.actor_names.specs.Numerals.{numeral_of}
 
 -- what a later piece makes of what an earlier one read; the first fault stands

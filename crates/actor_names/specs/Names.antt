@@ -1,12 +1,9 @@
 -- The forms of names: which bytes each may have and how many, and the first fault of a text.
 -- Own; the types and ids of actors follow the Actors API reference of Dapr.
-use Rattle.std.specs.Prelude.{ℕ, ◌+◌, Bool, not, ◌&&◌, ◌||◌, ◌==◌, nat_lt, nat_le, if◌then◌else◌, List, [], ◌∷◌, length, Option, Some, None, option_map}
+use Rattle.std.specs.Prelude.{◌≡◌, ℕ, ◌+◌, Bool, not, ◌&&◌, ◌||◌, ◌==◌, nat_lt, if◌then◌else◌, List, [], ◌∷◌, length, Option, Some, None, option_map}
+use Rattle.lists_and_limits.specs.Decimals.{is_between}
 use Rattle.actor_names.specs.declared.error.NameError.{NameError}
 use Rattle.actor_names.specs.declared.error.NameError.TheVariants.{Empty, TooLong, BadByte, OutOfMemory}
-
--- from `low` to `high`, both counted in
-abbrev pub is_between : ℕ → ℕ → ℕ → Bool
-is_between low high b = nat_le low b && nat_le b high
 
 -- a lowercase letter, a digit or `-`: nodes and application ids
 abbrev pub is_node_byte : ℕ → Bool
@@ -84,3 +81,7 @@ first_of_two (Some e) later = Some e
 
 abbrev pub key_fault : List ℕ → Option NameError
 key_fault text = first_of_two (actor_type_fault (before_slash text)) (second_fault actor_id_fault text (after_slash text))
+
+-- a text without a fault of its form; a word of its own, so that a proof about something else doesn't look into it
+unfoldable pub HasForm : (List ℕ → Option NameError) → List ℕ → Type 0
+HasForm fault text = fault text ≡ None

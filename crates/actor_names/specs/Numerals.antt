@@ -3,7 +3,8 @@ use Rattle.std.specs.Prelude.{ℕ, ◌==◌, nat_le, if◌then◌else◌, List, 
 use Rattle.actor_names.specs.declared.error.NameError.{NameError}
 use Rattle.actor_names.specs.declared.error.NameError.TheVariants.{BadByte}
 use Rattle.actor_names.specs.Names.{node_fault, before_slash, after_slash, second_fault, first_of_two}
-use Rattle.actor_names.specs.Decimals.{is_digit, number_of}
+use Rattle.lists_and_limits.specs.Decimals.{is_digit, number_of}
+use Rattle.lists_and_limits.specs.Limits.{last_number}
 
 -- the digits of the number at the head of a text: a `0` alone, or all the digits up to the first other byte
 abbrev pub numeral_of : List ℕ → List ℕ
@@ -21,7 +22,7 @@ number_fault low most text = ended_fault low (length (numeral_of text)) (length 
 
 -- a boot is a number from 1 to 2^62
 abbrev pub boot_fault : List ℕ → Option NameError
-boot_fault text = number_fault 1 4611686018427387904 text
+boot_fault text = number_fault 1 last_number text
 
 -- the first fault of `NODE/BOOT`, node before boot
 abbrev pub member_fault : List ℕ → Option NameError

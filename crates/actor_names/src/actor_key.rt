@@ -3,15 +3,17 @@ ghost use Rattle.std.specs.Prelude.{◌≡◌, ◌<◌, ◌≤◌, Some, None, l
 ghost use Rattle.actor_names.specs.Names.{key_fault, actor_id_fault, before_slash, after_slash, second_fault};
 ghost use Rattle.actor_names.specs.Reads.{ReadsInMemory};
 
-use crate::actor_id::{ActorId, MOST_ACTOR_ID_BYTES};
-use crate::actor_type::{ActorType, MOST_ACTOR_TYPE_BYTES, actor_type_fault};
 use crate::byte_class::{IdBytes, TypeBytes, bad_place, fault_in};
-use crate::error::{NameError, OutOfMemory};
+use crate::error::NameError;
+use crate::forms::{
+    ActorId, ActorType, MOST_ACTOR_ID_BYTES, MOST_ACTOR_TYPE_BYTES, actor_type_fault,
+};
 use crate::slash::{first_piece, second_piece, slash_place};
+use lists_and_limits::OutOfMemory;
 use std::alloc::Global;
 
 /// The name of an actor: its type, and its id among the actors of that type.
-#[derive(Debug, Drop)]
+#[derive(Debug, Drop, PartialEq, Eq, PartialOrd, Ord)]
 pub struct ActorKey {
     /// The type.
     pub kind: ActorType,

@@ -2,9 +2,9 @@
 ghost use Rattle.std.specs.Prelude.{◌≡◌, ◌≤◌, drop, length, IfOk};
 ghost use Rattle.actor_names.specs.Addresses.{address_fault, address_reading, part_reading, port_reading};
 
-use crate::decimal::read_decimal;
 use crate::error::NameError;
 use crate::numeral::numeral_end;
+use lists_and_limits::read_decimal;
 
 /// An address of the fourth version of IP, and a port. It is copied without memory.
 #[derive(Clone, Copy, Debug, PartialEq, Eq)]

@@ -1,11 +1,7 @@
 // Why a text is no name.
-use std::alloc::{AllocError, AllocFailed};
+use lists_and_limits::OutOfMemory;
+use std::alloc::AllocError;
 use thiserror::Error;
-
-/// There was no memory for the answer; everything is as before the call.
-#[derive(Clone, Copy, Debug, PartialEq, Eq, Error)]
-#[error("out of memory")]
-pub struct OutOfMemory;
 
 /// Why a text is no name of its form, in the order in which the faults are tested.
 #[derive(Clone, Copy, Debug, PartialEq, Eq, Error)]
@@ -44,17 +40,5 @@ impl From<OutOfMemory> for NameError {
 
     fn from(_: OutOfMemory) -> NameError {
         NameError::OutOfMemory
-    }
-}
-
-impl From<AllocError> for OutOfMemory {
-    fn from(_: AllocError) -> OutOfMemory {
-        OutOfMemory
-    }
-}
-
-impl<T: Drop> From<AllocFailed<T>> for OutOfMemory {
-    fn from(_: AllocFailed<T>) -> OutOfMemory {
-        OutOfMemory
     }
 }

@@ -1,21 +1,21 @@
 // Members: a node in one of its boots, and the text `NODE/BOOT`.
 ghost use Rattle.std.specs.Prelude.{◌≡◌, ◌^◌, Some, None, length, IfOk, OnOk, option_and_then};
 ghost use Rattle.actor_names.specs.Names.{before_slash, after_slash, second_fault};
-ghost use Rattle.actor_names.specs.Decimals.{number_of};
+ghost use Rattle.lists_and_limits.specs.Decimals.{number_of};
 ghost use Rattle.actor_names.specs.Numerals.{boot_fault, member_fault};
 ghost use Rattle.actor_names.specs.Reads.{ReadsInPlace};
 
-use crate::decimal::read_decimal;
 use crate::error::NameError;
-use crate::node::{Node, node_fault};
+use crate::forms::{Node, node_fault};
 use crate::numeral::number_fault;
 use crate::slash::{first_piece, second_piece, slash_place};
+use lists_and_limits::{LAST_NUMBER, read_decimal};
 
 /// The greatest boot of a member.
-pub const MOST_BOOT: u64 = 4611686018427387904;
+pub const MOST_BOOT: u64 = LAST_NUMBER;
 
 /// A node in one of its boots. It is copied without memory.
-#[derive(Clone, Copy, Debug)]
+#[derive(Clone, Copy, Debug, PartialEq, Eq, PartialOrd, Ord)]
 pub struct Member {
     /// The node.
     pub node: Node,

@@ -1,11 +1,11 @@
 // Numbers that are pieces of a text.
 ghost use Rattle.std.specs.Prelude.{◌≡◌, ◌+◌, ◌<◌, ◌≤◌, drop, length, option_map, take_while};
 ghost use Rattle.actor_names.specs.Names.{placed_from};
-ghost use Rattle.actor_names.specs.Decimals.{is_digit};
+ghost use Rattle.lists_and_limits.specs.Decimals.{is_digit};
 ghost use Rattle.actor_names.specs.Numerals.{numeral_of, number_fault};
 
-use crate::decimal::read_decimal;
 use crate::error::NameError;
+use lists_and_limits::read_decimal;
 
 // Where the digits that begin at `start` end.
 fn digits_end(text: &[u8], start: usize) -> usize

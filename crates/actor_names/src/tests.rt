@@ -1,4 +1,6 @@
 use super::*;
+use std::alloc::Global;
+use std::cmp::Ordering;
 
 // 129 letters.
 const LETTERS: &[u8; 129] =
@@ -52,38 +54,47 @@ fn lengths_end_at_their_limits(rt: HostRuntime) {
     );
 }
 
+// Whether a copy of the name that was read has these bytes.
+fn gives<F: NameForm>(
+    alloc: Global,
+    read: Result<Name<F>, NameError>,
+    bytes: &[u8],
+) -> Result<bool, NameError> {
+    let name = read?;
+    let copy = name.copy(alloc)?;
+    Ok(copy.as_slice() == bytes)
+}
+
 #[test]
 fn readers_and_copies_give_the_bytes(rt: HostRuntime) -> Result<(), NameError> {
     let alloc = rt.alloc();
-    let kind = read_actor_type(alloc, b"counter")?;
-    assert_eq!(rt; kind.copy(alloc)?.as_slice(), b"counter".as_slice());
-    let id = read_actor_id(alloc, b"7:a")?;
-    assert_eq!(rt; id.copy(alloc)?.as_slice(), b"7:a".as_slice());
-    let chain = read_chain_id(alloc, b"c/1")?;
-    assert_eq!(rt; chain.copy(alloc)?.as_slice(), b"c/1".as_slice());
-    let key = read_key(alloc, b"counter/7:a")?.copy(alloc)?;
-    assert_eq!(rt; key.kind.as_slice(), b"counter".as_slice());
-    assert_eq!(rt; key.id.as_slice(), b"7:a".as_slice());
-    assert_eq!(rt; key_kind(b"counter/7:a"), b"counter".as_slice());
+    assert!(rt; gives(alloc, read_actor_type(alloc, b"counter"), b"counter")?);
+    assert!(rt; gives(alloc, read_actor_id(alloc, b"7:a"), b"7:a")?);
+    assert!(rt; gives(alloc, read_app_id(alloc, b"shop"), b"shop")?);
+    assert!(rt; gives(alloc, read_record_name(alloc, b"tick:1"), b"tick:1")?);
     Ok(())
 }
 
 #[test]
-fn decimals_have_no_sign_and_no_leading_zero(rt: HostRuntime) {
-    let table: [(&[u8], u64, Option<u64>); 9] = [
-        (b"", 9, None),
-        (b"0", 0, Some(0)),
-        (b"00", 9, None),
-        (b"+1", 9, None),
-        (b"1024", 1024, Some(1024)),
-        (b"1025", 1024, None),
-        (b"18446744073709551615", u64::MAX, Some(u64::MAX)),
-        (b"18446744073709551616", u64::MAX, None),
-        (b"99999999999999999999999", u64::MAX, None),
-    ];
-    for (text, most, number) in table {
-        assert_eq!(rt; read_decimal(text, most), number);
+fn short_and_long_chains_and_their_copies_give_the_bytes(rt: HostRuntime) -> Result<(), NameError> {
+    let alloc = rt.alloc();
+    let texts: [&[u8]; 3] = [b"c/1", &LETTERS[..24], &LETTERS[..25]];
+    for text in texts {
+        let chain = read_chain_id(alloc, text)?;
+        let copy = chain.copy(alloc)?;
+        assert_eq!(rt; copy.as_slice(), text);
+        assert!(rt; copy == chain);
     }
+    Ok(())
+}
+
+#[test]
+fn keys_and_their_copies_give_the_bytes(rt: HostRuntime) -> Result<(), NameError> {
+    let key = read_key(rt.alloc(), b"counter/7:a")?.copy(rt.alloc())?;
+    assert_eq!(rt; key.kind.as_slice(), b"counter".as_slice());
+    assert_eq!(rt; key.id.as_slice(), b"7:a".as_slice());
+    assert_eq!(rt; key_kind(b"counter/7:a"), b"counter".as_slice());
+    Ok(())
 }
 
 #[test]
@@ -131,15 +142,39 @@ fn nodes_members_and_addresses_are_kept_without_memory(rt: HostRuntime) -> Resul
     let address = read_address(b"127.0.0.1:80")?.copy();
     assert_eq!(rt; address.ip, 0x7f00_0001);
     assert_eq!(rt; address.port, 80);
-    let app = read_app_id(rt.alloc(), b"shop")?.copy(rt.alloc())?;
-    assert_eq!(rt; app.as_slice(), b"shop".as_slice());
-    let name = read_record_name(rt.alloc(), b"tick:1")?.copy(rt.alloc())?;
-    assert_eq!(rt; name.as_slice(), b"tick:1".as_slice());
     assert_eq!(rt;
         node_fault(&LETTERS[..65]),
         Some(NameError::TooLong { n: 65 })
     );
     assert_eq!(rt; app_id_fault(b"a_b"), bad(1));
     assert_eq!(rt; record_name_fault(b"a/b"), bad(1));
+    Ok(())
+}
+
+// How two ids stand, by their order and by whether they are equal.
+fn ids_stand(alloc: Global, a: &[u8], b: &[u8]) -> Result<(Ordering, bool), NameError> {
+    let (first, second) = (read_actor_id(alloc, a)?, read_actor_id(alloc, b)?);
+    Ok((first.cmp(&second), first == second))
+}
+
+fn keys_stand(alloc: Global, a: &[u8], b: &[u8]) -> Result<(Ordering, bool), NameError> {
+    let (first, second) = (read_key(alloc, a)?, read_key(alloc, b)?);
+    Ok((first.cmp(&second), first == second))
+}
+
+fn members_stand(a: &[u8], b: &[u8]) -> Result<(Ordering, bool), NameError> {
+    let (first, second) = (read_member(a)?, read_member(b)?);
+    Ok((first.cmp(&second), first == second))
+}
+
+#[test]
+fn names_members_and_keys_are_in_byte_order(rt: HostRuntime) -> Result<(), NameError> {
+    let alloc = rt.alloc();
+    let less = (Ordering::Less, false);
+    assert_eq!(rt; ids_stand(alloc, b"10", b"9")?, less);
+    assert_eq!(rt; ids_stand(alloc, b"7", b"7")?, (Ordering::Equal, true));
+    assert_eq!(rt; keys_stand(alloc, b"a/2", b"b/1")?, less);
+    assert_eq!(rt; members_stand(b"ab/1", b"b/1")?, less);
+    assert_eq!(rt; members_stand(b"a/9", b"a/10")?, less);
     Ok(())
 }

@@ -1,6 +1,6 @@
 -- Numbers in the words: decimal digits without a sign, where leading zeros are allowed. Own.
 use Rattle.std.specs.Prelude.{◌≢◌, ℕ, nat_le, if◌then◌else◌, List, [], ◌∷◌, Option, None, Some, option_and_then}
-use Rattle.actor_names.specs.Decimals.{digits_number}
+use Rattle.lists_and_limits.specs.Decimals.{digits_number}
 
 abbrev pub from_one : ℕ → Option ℕ
 from_one n = if nat_le 1 n then Some n else None

@@ -1,6 +1,6 @@
 // Numbers in the words.
 ghost use Rattle.std.specs.Prelude.{◌≡◌, ℕ};
-ghost use Rattle.actor_names.specs.Decimals.{digits_number};
+ghost use Rattle.lists_and_limits.specs.Decimals.{digits_number};
 ghost use Rattle.command_words.specs.Counts.{count_of, number_up_to, IsUnpadded};
 
 use actor_names::read_decimal;

@@ -1,8 +1,7 @@
 -- What is seen of a map from nodes to boots. Own.
 use Rattle.std.specs.Prelude.{ℕ, List, [], ◌∷◌}
 use Rattle.member_roster.specs.declared.book.Known.{Known}
-use Rattle.member_roster.specs.declared.node_key.NodeKey.{NodeKey}
 
-abbrev pub known_in : List (NodeKey × ℕ) → List Known
+abbrev pub known_in : List (List ℕ × ℕ) → List Known
 known_in [] = []
-known_in (e ∷ es) = record { node = e.0.node; greatest = e.1 } ∷ known_in es
+known_in (e ∷ es) = record { node = e.0; greatest = e.1 } ∷ known_in es

@@ -2,7 +2,6 @@
 ghost use Rattle.std.specs.Prelude.{◌≡◌, ◌<◌, ◌≤◌, [], false, length, OnOk, OnErr, IfOk};
 ghost use Rattle.member_roster.specs.Members.{greatest_boot, is_known, put_boot};
 
-use crate::node_key::NodeKey;
 use actor_names::{Member, Node, OutOfMemory};
 use std::alloc::Global;
 use std::collections::BTreeMap;
@@ -20,7 +19,7 @@ pub struct Known {
 /// The known nodes in byte order, at most 65,536, each with its greatest boot.
 #[derive(Drop)]
 pub struct BootBook {
-    boots: BTreeMap<NodeKey, u64>,
+    boots: BTreeMap<Node, u64>,
 }
 
 impl Model for BootBook {
@@ -33,13 +32,6 @@ impl Model for BootBook {
     ghost view = { λ a. known_in a.boots.entries };
 
     ghost invariant = { λ a. length a.boots.entries ≤ 65536 };
-}
-
-/// The node as a key.
-fn key_of(node: &Node) -> NodeKey
-    ensures { result.node ≡ node.now }
-{
-    NodeKey { node: *node }
 }
 
 impl BootBook {
@@ -64,7 +56,7 @@ impl BootBook {
     pub fn greatest(&self, node: &Node) -> u64
         ensures { result ≡ greatest_boot self.now node.now }
     {
-        match self.boots.get(&key_of(node)) {
+        match self.boots.get(node) {
             Some(greatest) => *greatest,
             None => 0,
         }
@@ -74,7 +66,7 @@ impl BootBook {
     pub fn knows(&self, node: &Node) -> bool
         ensures { result ≡ is_known self.now node.now }
     {
-        self.boots.contains_key(&key_of(node))
+        self.boots.contains_key(node)
     }
 
     /// The member's boot is the greatest one of its node.
@@ -83,7 +75,7 @@ impl BootBook {
         ensures ok { OnOk result (self.new ≡ put_boot self.old member) }
         ensures err { OnErr result (self.new ≡ self.old) }
     {
-        let _before = self.boots.insert(key_of(&member.node), member.boot)?;
+        let _before = self.boots.insert(member.node, member.boot)?;
         Ok(())
     }
 

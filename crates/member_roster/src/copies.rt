@@ -9,34 +9,7 @@ ghost use Rattle.member_roster.specs.Roster.{joined_all, AreBacked, AreSpare};
 use crate::marks::Mark;
 use crate::room::push_in_room;
 use crate::search::host_place;
-use actor_names::ActorType;
 use place_table::HostInfo;
-
-/// Whether the types are the same, in one order.
-fn is_same_kinds(a: &[ActorType], b: &[ActorType]) -> bool
-    ensures { IsTrue result ↔ (a.now ≡ b.now) }
-{
-    if a.len() != b.len() {
-        return false;
-    }
-    for i in 0..a.len() {
-        if a[i].as_slice() != b[i].as_slice() {
-            return false;
-        }
-    }
-    true
-}
-
-/// Whether the two are equal in all parts.
-pub(crate) fn is_same_host(a: &HostInfo, b: &HostInfo) -> bool
-    ensures { IsTrue result ↔ (a.now ≡ b.now) }
-{
-    a.member.boot == b.member.boot
-        && a.address == b.address
-        && a.member.node.as_slice() == b.member.node.as_slice()
-        && a.app.as_slice() == b.app.as_slice()
-        && is_same_kinds(a.kinds.as_slice(), b.kinds.as_slice())
-}
 
 /// A copy that was in the table is spare again where its host is still a member.
 fn give_back(hosts: &[HostInfo], spares: &mut Vec<Option<HostInfo>>, copy: HostInfo)
@@ -48,7 +21,7 @@ fn give_back(hosts: &[HostInfo], spares: &mut Vec<Option<HostInfo>>, copy: HostI
 {
     match host_place(hosts, &copy.member.node) {
         Ok(at) => {
-            if is_same_host(&copy, &hosts[at]) {
+            if copy == hosts[at] {
                 spares[at] = Some(copy);
             }
         }

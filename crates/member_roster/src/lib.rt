@@ -10,7 +10,6 @@ mod copying;
 mod late;
 mod list;
 mod marks;
-mod node_key;
 mod room;
 mod roster;
 mod search;

@@ -6,7 +6,6 @@ ghost use Rattle.part_cells.specs.Tree.{cell_in, IsWithoutFirst};
 
 use crate::actor_cell::is_kept;
 use crate::balance::balanced;
-use crate::order::key_cmp;
 use crate::tree::{Node, Root, Tree, close, emptied};
 use actor_names::ActorKey;
 use std::cmp::Ordering;
@@ -53,7 +52,7 @@ impl Tree {
     {
         match emptied(self).open() {
             Root::Empty => None,
-            Root::Full(mut node) => match key_cmp(&node.cell.key, key) {
+            Root::Full(mut node) => match node.cell.key.cmp(key) {
                 Ordering::Less => {
                     let taken = node.right.take(key);
                     *self = balanced(node);
@@ -85,7 +84,7 @@ impl Tree {
                 node.right = Tree::new();
                 *self = close(node);
             }
-            Root::Full(mut top) => match key_cmp(&top.cell.key, &node.cell.key) {
+            Root::Full(mut top) => match top.cell.key.cmp(&node.cell.key) {
                 Ordering::Less => {
                     top.right.put(node);
                     *self = balanced(top);

@@ -8,12 +8,10 @@ mod actor_cell;
 mod balance;
 mod change;
 mod index;
-mod order;
 mod tree;
 
 pub use actor_cell::{ActorCell, is_kept};
 pub use index::CallIndex;
-pub use order::key_cmp;
 pub use tree::{Node, Root, Tree, leaf};
 
 #[cfg(test)]

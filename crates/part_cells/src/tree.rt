@@ -6,7 +6,6 @@ ghost use Rattle.part_cells.specs.Order.{AreInOrder};
 ghost use Rattle.part_cells.specs.Tree.{node_cells, root_cells};
 
 use crate::actor_cell::ActorCell;
-use crate::order::key_cmp;
 use actor_names::{ActorKey, OutOfMemory};
 use std::alloc::Global;
 use std::cmp::Ordering;
@@ -92,7 +91,7 @@ impl Tree {
     {
         match &self.root {
             Root::Empty => None,
-            Root::Full(node) => match key_cmp(&node.cell.key, key) {
+            Root::Full(node) => match node.cell.key.cmp(key) {
                 Ordering::Less => node.right.get(key),
                 Ordering::Equal => Some(&node.cell),
                 Ordering::Greater => node.left.get(key),

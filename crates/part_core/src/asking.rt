@@ -9,7 +9,7 @@ ghost use Rattle.part_core.specs.Part.{PartState, is_open, ask_cell, ask_owned, 
 
 use crate::chains::carries;
 use crate::event::PartReply;
-use crate::owners::{is_same_member, owner_host};
+use crate::owners::owner_host;
 use crate::stage::Stage;
 use crate::standing::Standing;
 use actor_names::ChainId;
@@ -79,7 +79,7 @@ fn ask_owned(
     match owner_host(&standing.table, &cell.key) {
         None => PartReply::NoHost { version },
         Some(host) => {
-            if is_same_member(&host.member, &standing.member) {
+            if host.member == standing.member {
                 let may_begin = !cell.closing;
                 return ask_cell(alloc, drawn, full, cell, chain, may_begin);
             }

@@ -63,7 +63,7 @@ pub(crate) fn carries(cell: &Cell, chain: Option<&ChainId>) -> bool
         return false;
     }
     match (cell.chain(), chain) {
-        (Some(open), Some(chain)) => open.as_slice() == chain.as_slice(),
+        (Some(open), Some(chain)) => open == chain,
         _ => false,
     }
 }

@@ -2,7 +2,6 @@
 ghost use Rattle.std.specs.Prelude.{◌≡◌, ◌<◌, ◌≤◌, ◌&&◌, not, length, IfOk};
 ghost use Rattle.std.specs.Option.{option_copied};
 ghost use Rattle.part_core.specs.Actors.{no_actors, state_of, foreign_in, total_foreign};
-ghost use Rattle.part_core.specs.Keys.{same_member};
 ghost use Rattle.part_core.specs.Part.{ring_owner, is_owned_by, is_open, owner_reply};
 
 use crate::event::PartReply;
@@ -12,13 +11,6 @@ use actor_names::{ActorKey, Member, OutOfMemory};
 use part_cells::{ActorCell, Node, Root, Tree};
 use place_table::{HostInfo, Table};
 use std::alloc::Global;
-
-/// Whether two members are the same.
-pub(crate) fn is_same_member(a: &Member, b: &Member) -> bool
-    ensures { result ≡ same_member a.now b.now }
-{
-    a.node.as_slice() == b.node.as_slice() && a.boot == b.boot
-}
 
 /// The host that owns the actor.
 #[tactic(auto, unfolding(crate::specs::Part::ring_owner))]
@@ -34,7 +26,7 @@ pub(crate) fn is_own(table: &Table, member: &Member, key: &ActorKey) -> bool
 {
     match owner_host(table, key) {
         None => false,
-        Some(host) => is_same_member(&host.member, member),
+        Some(host) => host.member == *member,
     }
 }
 

@@ -99,6 +99,6 @@ impl Receipt {
     pub fn is_of(&self, member: &Member) -> bool
         ensures { result ≡ same_member self.now.member member.now }
     {
-        self.member.node.as_slice() == member.node.as_slice() && self.member.boot == member.boot
+        self.member == *member
     }
 }

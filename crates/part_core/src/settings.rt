@@ -81,7 +81,7 @@ pub(crate) fn find_settings<'a>(
 {
     let mut found = None;
     for settings in kinds {
-        if settings.kind.as_slice() == kind.as_slice() {
+        if settings.kind == *kind {
             found = Some(settings);
         }
     }

@@ -11,3 +11,4 @@ pub mod NodeOrder
 pub mod Moves
 pub mod Causes
 mod Examples
+pub mod HostEquality

@@ -39,10 +39,7 @@ pub(crate) fn all_places(alloc: Global, hosts: &[HostInfo]) -> Result<Vec<Vec<u6
 fn serves(host: &HostInfo, kind: &ActorType) -> bool
     ensures { result ≡ serves host.now kind.now }
 {
-    host.kinds
-        .as_slice()
-        .iter()
-        .any(|k| k.as_slice() == kind.as_slice())
+    host.kinds.as_slice().iter().any(|k| k == kind)
 }
 
 // Keeps the points of a host.
@@ -111,9 +108,7 @@ fn ring_of(
 fn is_known(rings: &[TypeRing], kind: &ActorType) -> bool
     ensures { result ≡ is_known kind.now rings.now }
 {
-    rings
-        .iter()
-        .any(|ring| ring.kind.as_slice() == kind.as_slice())
+    rings.iter().any(|ring| ring.kind == *kind)
 }
 
 // Keeps the points of the type, unless they are kept.

@@ -34,9 +34,7 @@ fn types_fault(hosts: &[HostInfo]) -> Option<TableError>
 fn has_node(hosts: &[HostInfo], node: &Node) -> bool
     ensures { result ≡ list_any (λ e. bytes_eq (node_of e) node.now) hosts.now }
 {
-    hosts
-        .iter()
-        .any(|host| host.member.node.as_slice() == node.as_slice())
+    hosts.iter().any(|host| host.member.node == *node)
 }
 
 // The first host whose node stood before.

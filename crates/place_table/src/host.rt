@@ -1,5 +1,7 @@
 // Hosts: the members that serve actors, and the types that each serves.
-ghost use Rattle.std.specs.Prelude.{◌≡◌, IfOk};
+ghost use Rattle.std.specs.Prelude.{◌≡◌, IfOk, bytes_eq};
+ghost use Rattle.std.specs.Cmp.{partial_equiv_from_equiv};
+ghost use Rattle.std.specs.Cmp.Lexicographic.{pointwise, lists_per, lists_equiv, nat_list_eq_equiv};
 
 use actor_names::{ActorType, Address, AppId, Member, OutOfMemory};
 use std::alloc::Global;
@@ -54,8 +56,22 @@ impl ActorTypes {
     }
 }
 
-/// A member that serves actors.
-#[derive(Debug, Drop)]
+impl PartialEq for ActorTypes {
+    ghost eq = { pointwise bytes_eq };
+
+    ghost laws = { lists_per (partial_equiv_from_equiv nat_list_eq_equiv) };
+
+    fn eq(&self, other: &ActorTypes) -> bool {
+        self.as_slice() == other.as_slice()
+    }
+}
+
+impl Eq for ActorTypes {
+    ghost laws = { lists_equiv nat_list_eq_equiv };
+}
+
+/// A member that serves actors. Two are equal where all that they have is, the types in one order.
+#[derive(Debug, Drop, PartialEq, Eq)]
 pub struct HostInfo {
     /// The node and its boot.
     pub member: Member,

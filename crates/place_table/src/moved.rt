@@ -29,7 +29,7 @@ fn is_same_node(first: Option<&HostInfo>, second: Option<&HostInfo>) -> bool
 {
     match (first, second) {
         (None, None) => true,
-        (Some(a), Some(b)) => a.member.node.as_slice() == b.member.node.as_slice(),
+        (Some(a), Some(b)) => a.member.node == b.member.node,
         _ => false,
     }
 }

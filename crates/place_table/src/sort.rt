@@ -23,7 +23,7 @@ fn sort_hosts(hosts: &mut Vec<HostInfo>)
     ensures same { IsPermutation hosts.old.items hosts.new.items }
     ensures sorted { IsSorted node_cmp hosts.new.items }
 {
-    hosts.sort_unstable_by(|a, b| a.member.node.as_slice().cmp(&b.member.node.as_slice()));
+    hosts.sort_unstable_by(|a, b| a.member.node.cmp(&b.member.node));
 }
 
 // Equal hosts of distinct nodes, in byte order of node.

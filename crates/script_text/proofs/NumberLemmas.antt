@@ -5,7 +5,7 @@ use Rattle.std.proofs.Math.Seq.{take-suc}
 use Rattle.std.proofs.lemmas.Bool.{and_parts, le-leb, leb-true, ne_eqb}
 use Rattle.std.proofs.lemmas.List.Folds.{list_all-append}
 use Rattle.std.proofs.lemmas.List.Sums.{fold-append}
-use Rattle.actor_names.specs.Decimals.{is_digit, decimal_value, is_unpadded}
+use Rattle.lists_and_limits.specs.Decimals.{is_digit, decimal_value, is_unpadded}
 use Rattle.script_text.specs.Lines.{LacksByte}
 use Rattle.script_text.specs.Reading.{greatest_number, number_in}
 

@@ -5,7 +5,7 @@ use Rattle.actor_names.specs.declared.actor_key.ActorKey.{ActorKey}
 use Rattle.actor_names.specs.declared.member.Member.{Member}
 use Rattle.actor_names.specs.Names.{node_fault, actor_type_fault, before_slash, after_slash}
 use Rattle.actor_names.specs.Numerals.{member_fault}
-use Rattle.actor_names.specs.Decimals.{number_of}
+use Rattle.lists_and_limits.specs.Decimals.{number_of}
 use Rattle.script_text.specs.Lines.{Word}
 use Rattle.script_text.specs.Reading.{number_in, some_number, next_as}
 

@@ -1,7 +1,7 @@
 -- The words of a line, read one after another, and the lines that set what holds for a whole script. Own: docs/scripts.md.
 use Rattle.std.specs.Prelude.{ℕ, ◌+◌, Bool, true, ◌==◌, nat_lt, if◌then◌else◌, List, [], ◌∷◌, length, bytes_eq, codes, Option, None, Some, is_none, option_and_then, Result, Ok, Err}
 use Rattle.actor_names.specs.Names.{actor_type_fault, chain_id_fault, key_fault}
-use Rattle.actor_names.specs.Decimals.{number_of}
+use Rattle.lists_and_limits.specs.Decimals.{number_of}
 use Rattle.script_text.specs.Lines.{Word, words_from}
 
 abbrev pub greatest_number : ℕ

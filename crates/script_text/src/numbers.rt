@@ -1,7 +1,7 @@
 // The numbers of a line's words.
 ghost use Rattle.std.specs.Prelude.{◌≡◌, ◌≤◌, ℕ, true, Ok, take, length, IfSome};
 ghost use Rattle.std.specs.List.{list_all};
-ghost use Rattle.actor_names.specs.Decimals.{is_digit, decimal_value};
+ghost use Rattle.lists_and_limits.specs.Decimals.{is_digit, decimal_value};
 ghost use Rattle.script_text.specs.Told.{Gives, words_left};
 ghost use Rattle.script_text.specs.Reading.{greatest_number, next_as, number_in};
 

@@ -21,7 +21,7 @@ pub(crate) fn is_same_chain(a: Option<&ChainId>, b: Option<&ChainId>) -> bool
 {
     match (a, b) {
         (None, None) => true,
-        (Some(a), Some(b)) => a.as_slice() == b.as_slice(),
+        (Some(a), Some(b)) => a == b,
         _ => false,
     }
 }

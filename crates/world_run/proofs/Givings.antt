@@ -114,6 +114,16 @@ module _ (settings : WorldSettings) (post : PostView) (moment events : ℕ) wher
             )
       ])))
 
+  -- a call for which the part wanted memory
+  pub call_wants : (pv new : PartsView) (cv next : CallsView) (n : ℕ) (e : PartEvent) (reply : PartReply) (s : WorldStep) → StepsAt e reply n pv new → n < length pv.parts → MayWant e → wants reply ≡ true → next.calls ≡ cv.calls →
+      Gives (Err refused.OutOfMemory) (viewed settings post pv cv moment events) (viewed settings post new next moment events) s
+  call_wants pv new cv next n e reply s steps l may w same =
+      let h = part_at pv.parts n l in
+      elim (steps h.0 h.1) [
+        | inl k ↦ inl (refl, (λ i. record (viewed settings post (k.2 i) cv moment events) { calls = same i }))
+        | inr k ↦ absurd (true≢false (sym w ∙ k.0 may))
+      ]
+
   pub end_gives : (pv new : PartsView) (cv : CallsView) (number : ℕ) (c : CallPlace) (reply : PartReply) (r : Result Outcome WorldError) → world.call_at cv.calls number ≡ Some c → StepsAt (events_of.End c.call moment) reply c.place pv new → c.place < length pv.parts →
       r ≡ Ok (world.end_outcome cv.calls number c.place reply) →
       Gives r (viewed settings post pv cv moment events) (viewed settings post new cv moment events) (world.end_call ring_owner key_part (cluster_of (viewed settings post pv cv moment events)) number (world.call_at cv.calls number))

@@ -17,7 +17,7 @@ fn find_settings<'a>(settings: &'a WorldSettings, kind: &ActorType) -> Option<&'
     let mut found = None;
     let kinds = settings.kinds.as_slice();
     for entry in kinds {
-        if entry.kind.as_slice() == kind.as_slice() {
+        if entry.kind == *kind {
             found = Some(entry);
         }
     }

@@ -1,8 +1,8 @@
 // Calls of actors, their turns, and what ends them.
-ghost use Rattle.std.specs.Prelude.{◌≡◌, ◌<◌, ◌≤◌, ◌+◌, ◌*◌, ◌^◌, length};
+ghost use Rattle.std.specs.Prelude.{◌≡◌, ◌<◌, ◌≤◌, ◌+◌, ◌*◌, ◌^◌, true, false, length, IfSome, IfNone};
 ghost use Rattle.part_core.specs.Rooms.{IsInRange};
 ghost use Rattle.cluster_model.specs.World.{ask_of, next_number, end_outcome, closed_outcome};
-ghost use Rattle.world_run.specs.Views.{wants};
+ghost use Rattle.world_run.specs.Views.{MayWant, wants};
 ghost use Rattle.world_events.specs.declared.event.WorldEvent.TheVariants as lines;
 ghost use Rattle.world_run.specs.Worlds.{Happens, Ticks, AskedAt};
 
@@ -20,6 +20,7 @@ use world_events::{Outcome, TurnOutcome, WorldError};
 fn ask_of(key: ActorKey, least: u64, chain: Option<ChainId>, now: u64) -> PartEvent
     ensures event { result ≡ ask_of key least chain now }
     ensures range { IsInRange result }
+    ensures memory { MayWant result }
 {
     if least == 0 {
         PartEvent::Ask { key, chain, now }
@@ -41,6 +42,15 @@ fn wants(reply: &PartReply) -> bool
         PartReply::OutOfMemory => true,
         _ => false,
     }
+}
+
+/// The reply, if the part had the memory for it.
+fn in_memory(reply: PartReply) -> Option<PartReply>
+    ensures reply { IfSome result (λ r. r ≡ reply) }
+    ensures had { IfSome result (λ r. wants reply ≡ false) }
+    ensures wanted { IfNone result (wants reply ≡ true) }
+{
+    if wants(&reply) { None } else { Some(reply) }
 }
 
 /// The script's number of the call that began at a place, where one did.
@@ -111,10 +121,10 @@ impl Cluster {
         };
         self.calls.reserve()?;
         let event = ask_of(key, least, chain, self.moment);
-        let reply = self.parts.step_at(at, event);
-        if wants(&reply) {
+        let answer = self.parts.step_at(at, event);
+        let Some(reply) = in_memory(answer) else {
             return Err(WorldError::OutOfMemory);
-        }
+        };
         self.calls.add(at, &reply);
         Ok(call_outcome(call, reply))
     }

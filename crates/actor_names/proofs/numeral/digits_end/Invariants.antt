@@ -1,6 +1,6 @@
 use Rattle.std.proofs.Common.{◌≡◌, ◌+◌, length, drop}
 use Rattle.std.specs.Prelude.{take_while}
-use Rattle.actor_names.specs.Decimals.{is_digit}
+use Rattle.lists_and_limits.specs.Decimals.{is_digit}
 use Rattle.actor_names.proofs.numeral.digits_end.Given as goal
 
 abbrev pub invariant-loop-at : goal.invariant-loop-at

@@ -1,5 +1,5 @@
 use Rattle.std.proofs.Common.{◌≡◌, ℕ, length}
-use Rattle.actor_names.specs.Decimals.{digits_number}
+use Rattle.lists_and_limits.specs.Decimals.{digits_number}
 use Rattle.command_words.proofs.count.without_zeros.Given as goal
 
 abbrev pub invariant-loop-rest : goal.invariant-loop-rest

@@ -1,5 +1,5 @@
 use Rattle.std.proofs.Common.{◌≡◌, true, get_or, sym, ◌∙◌, arith}
-use Rattle.actor_names.specs.Decimals.{is_digit}
+use Rattle.lists_and_limits.specs.Decimals.{is_digit}
 use Rattle.script_text.proofs.NumberLemmas.{digits_more, value_more, digit_range}
 use Rattle.script_text.proofs.numbers.leading_number.Goals as goal
 

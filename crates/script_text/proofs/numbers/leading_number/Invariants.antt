@@ -1,6 +1,6 @@
 use Rattle.std.proofs.Common.{◌≡◌, ◌≤◌, true, take}
 use Rattle.std.specs.List.{list_all}
-use Rattle.actor_names.specs.Decimals.{is_digit, decimal_value}
+use Rattle.lists_and_limits.specs.Decimals.{is_digit, decimal_value}
 use Rattle.script_text.specs.Reading.{greatest_number}
 use Rattle.script_text.proofs.numbers.leading_number.Given as goal
 

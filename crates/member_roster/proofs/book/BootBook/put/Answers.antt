@@ -5,9 +5,9 @@ use Rattle.member_roster.proofs.book.BootBook.put.Goals as goal
 
 pub invariant_of-self-2 : goal.invariant_of-self-2
 invariant_of-self-2 c =
-    few_at c.key_of.result c.args.member.node c.self.inside.boots.entries c.insert.new.self.entries c.in_ok-_before._before c.key_of.ensures c.in_ok-_before.ensures.old c.in_ok-_before.ensures.len c.self.invariant
+    few_at c.args.member.node c.self.inside.boots.entries c.insert.new.self.entries c.in_ok-_before._before c.in_ok-_before.ensures.old c.in_ok-_before.ensures.len c.self.invariant
     (rw (← c.self.view_is) at c.requires)
 
 pub returns-clause-ok : goal.returns-clause-ok
 returns-clause-ok c =
-    rw (← c.self.view_is) (ap known_in c.in_ok-_before.ensures.entries ∙ put_at c.key_of.result c.args.member c.self.inside.boots.entries c.key_of.ensures)
+    rw (← c.self.view_is) (ap known_in c.in_ok-_before.ensures.entries ∙ put_at c.args.member c.self.inside.boots.entries)

@@ -21,7 +21,7 @@ returns-in-Less t c =
     let n = c.in-Full.node.value in
     let e = at_Full c.self.view_is c.in-Full.is in
     let o = rw e at c.requires in
-    let less = let k = rw c.deref.ensures at c.key_cmp.ensures in sym k ∙ c.in-Less.is in
+    let less = let k = rw c.deref.ensures at c.cmp.ensures in sym k ∙ c.in-Less.is in
     rw e ((let g = rw c.deref-in-Less.ensures at c.get.ensures in g) ∙ sym (at_right c.args.key.now n.left n.cell n.right o less))
 
 pub returns-in-Equal : goal.returns-in-Equal
@@ -29,7 +29,7 @@ returns-in-Equal t c =
     let n = c.in-Full.node.value in
     let e = at_Full c.self.view_is c.in-Full.is in
     let o = rw e at c.requires in
-    let same = let k = rw c.deref.ensures at c.key_cmp.ensures in sym k ∙ c.in-Equal.is in
+    let same = let k = rw c.deref.ensures at c.cmp.ensures in sym k ∙ c.in-Equal.is in
     rw (e, c.deref-in-Equal.ensures) (sym (at_here c.args.key.now n.left n.cell n.right o same))
 
 pub returns-in-Greater : goal.returns-in-Greater
@@ -37,5 +37,5 @@ returns-in-Greater t c =
     let n = c.in-Full.node.value in
     let e = at_Full c.self.view_is c.in-Full.is in
     let o = rw e at c.requires in
-    let more = let k = rw c.deref.ensures at c.key_cmp.ensures in sym k ∙ c.in-Greater.is in
+    let more = let k = rw c.deref.ensures at c.cmp.ensures in sym k ∙ c.in-Greater.is in
     rw e ((let g = rw c.deref-in-Greater.ensures at c.get-in-Greater.ensures in g) ∙ sym (at_left c.args.key.now n.left n.cell n.right o more))

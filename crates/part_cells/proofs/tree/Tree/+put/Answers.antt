@@ -25,7 +25,7 @@ returns-in-Less t c =
     let n = c.in-Full.top.value in
     let e = opened c.emptied.ensures.taken c.open.ensures c.in-Full.is in
     let o = rw e at c.requires in
-    let less = (let k = rw (c.deref.ensures, c.deref-in-Full.ensures) at c.key_cmp.ensures in sym k ∙ c.in-Less.is) in
+    let less = (let k = rw (c.deref.ensures, c.deref-in-Full.ensures) at c.cmp.ensures in sym k ∙ c.in-Less.is) in
     let b = rw c.deref_mut-in-Less.ensures.value at c.balanced.ensures in
     let h = rw c.deref_mut-in-Less.ensures.value at c.put.ensures in
     rw e (b ∙ ap (λ ys. n.left ++ n.cell ∷ ys) h ∙ sym (put_right c.args.node.value.cell n.left n.cell n.right o less))
@@ -35,7 +35,7 @@ returns-in-Equal t c =
     let n = c.in-Full.top.value in
     let e = opened c.emptied.ensures.taken c.open.ensures c.in-Full.is in
     let o = rw e at c.requires in
-    let same = (let k = rw (c.deref.ensures, c.deref-in-Full.ensures) at c.key_cmp.ensures in sym k ∙ c.in-Equal.is) in
+    let same = (let k = rw (c.deref.ensures, c.deref-in-Full.ensures) at c.cmp.ensures in sym k ∙ c.in-Equal.is) in
     let l = rw c.deref_mut-in-Equal.ensures.value at c.emptied-in-Equal.ensures.taken in
     let r = rw (c.deref_mut-in-Equal-4.ensures.value, c.deref_mut-in-Equal.ensures.value) at c.emptied-in-Equal-2.ensures.taken in
     let b = rw (c.deref_mut-in-Equal-5.ensures.value, c.deref_mut-in-Equal-2.ensures.value) at c.close-in-Equal.ensures in
@@ -46,7 +46,7 @@ returns-in-Greater t c =
     let n = c.in-Full.top.value in
     let e = opened c.emptied.ensures.taken c.open.ensures c.in-Full.is in
     let o = rw e at c.requires in
-    let more = (let k = rw (c.deref.ensures, c.deref-in-Full.ensures) at c.key_cmp.ensures in sym k ∙ c.in-Greater.is) in
+    let more = (let k = rw (c.deref.ensures, c.deref-in-Full.ensures) at c.cmp.ensures in sym k ∙ c.in-Greater.is) in
     let b = rw c.deref_mut-in-Greater.ensures.value at c.balanced-in-Greater.ensures in
     let h = rw c.deref_mut-in-Greater.ensures.value at c.put-in-Greater.ensures in
     rw e (b ∙ ap (λ ys. ys ++ n.cell ∷ n.right) h ∙ sym (put_left c.args.node.value.cell n.left n.cell n.right o more))

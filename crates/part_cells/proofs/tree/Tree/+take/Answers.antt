@@ -25,7 +25,7 @@ returns-in-Less-clause-cell t c =
     let n = c.in-Full.node.value in
     let e = opened c.emptied.ensures.taken c.open.ensures c.in-Full.is in
     let o = rw e at c.requires in
-    let less = (let k = rw c.deref.ensures at c.key_cmp.ensures in sym k ∙ c.in-Less.is) in
+    let less = (let k = rw c.deref.ensures at c.cmp.ensures in sym k ∙ c.in-Less.is) in
     let h = rw c.deref_mut.ensures.value at c.take-taken.ensures.cell in
     rw e (h ∙ sym (at_right c.args.key.now n.left n.cell n.right o less))
 
@@ -34,7 +34,7 @@ returns-in-Less-clause-rest t c =
     let n = c.in-Full.node.value in
     let e = opened c.emptied.ensures.taken c.open.ensures c.in-Full.is in
     let o = rw e at c.requires in
-    let less = (let k = rw c.deref.ensures at c.key_cmp.ensures in sym k ∙ c.in-Less.is) in
+    let less = (let k = rw c.deref.ensures at c.cmp.ensures in sym k ∙ c.in-Less.is) in
     let b = rw c.deref_mut.ensures.value at c.balanced.ensures in
     let h = rw c.deref_mut.ensures.value at c.take-taken.ensures.rest in
     rw e (b ∙ ap (λ ys. n.left ++ n.cell ∷ ys) h ∙ sym (drop_right c.args.key.now n.left n.cell n.right o less))
@@ -44,7 +44,7 @@ returns-in-Equal-clause-cell t c =
     let n = c.in-Full.node.value in
     let e = opened c.emptied.ensures.taken c.open.ensures c.in-Full.is in
     let o = rw e at c.requires in
-    let same = (let k = rw c.deref.ensures at c.key_cmp.ensures in sym k ∙ c.in-Equal.is) in
+    let same = (let k = rw c.deref.ensures at c.cmp.ensures in sym k ∙ c.in-Equal.is) in
     rw (e, c.deref_mut-in-Equal-2.ensures.value, c.deref_mut-in-Equal.ensures.value) (sym (at_here c.args.key.now n.left n.cell n.right o same))
 
 pub returns-in-Equal-clause-rest : goal.returns-in-Equal-clause-rest
@@ -52,7 +52,7 @@ returns-in-Equal-clause-rest t c =
     let n = c.in-Full.node.value in
     let e = opened c.emptied.ensures.taken c.open.ensures c.in-Full.is in
     let o = rw e at c.requires in
-    let same = (let k = rw c.deref.ensures at c.key_cmp.ensures in sym k ∙ c.in-Equal.is) in
+    let same = (let k = rw c.deref.ensures at c.cmp.ensures in sym k ∙ c.in-Equal.is) in
     let l = rw c.deref_mut-in-Equal.ensures.value at c.emptied-left.ensures.taken in
     let r = rw (c.deref_mut-in-Equal-2.ensures.value, c.deref_mut-in-Equal.ensures.value) at c.emptied-right.ensures.taken in
     rw e (c.joined.ensures ∙ (λ i. l i ++ r i) ∙ sym (drop_here c.args.key.now n.left n.cell n.right o same))
@@ -62,7 +62,7 @@ returns-in-Greater-clause-cell t c =
     let n = c.in-Full.node.value in
     let e = opened c.emptied.ensures.taken c.open.ensures c.in-Full.is in
     let o = rw e at c.requires in
-    let more = (let k = rw c.deref.ensures at c.key_cmp.ensures in sym k ∙ c.in-Greater.is) in
+    let more = (let k = rw c.deref.ensures at c.cmp.ensures in sym k ∙ c.in-Greater.is) in
     let h = rw c.deref_mut-in-Greater.ensures.value at c.take-taken-in-Greater.ensures.cell in
     rw e (h ∙ sym (at_left c.args.key.now n.left n.cell n.right o more))
 
@@ -71,7 +71,7 @@ returns-in-Greater-clause-rest t c =
     let n = c.in-Full.node.value in
     let e = opened c.emptied.ensures.taken c.open.ensures c.in-Full.is in
     let o = rw e at c.requires in
-    let more = (let k = rw c.deref.ensures at c.key_cmp.ensures in sym k ∙ c.in-Greater.is) in
+    let more = (let k = rw c.deref.ensures at c.cmp.ensures in sym k ∙ c.in-Greater.is) in
     let b = rw c.deref_mut-in-Greater.ensures.value at c.balanced-in-Greater.ensures in
     let h = rw c.deref_mut-in-Greater.ensures.value at c.take-taken-in-Greater.ensures.rest in
     rw e (b ∙ ap (λ ys. ys ++ n.cell ∷ n.right) h ∙ sym (drop_left c.args.key.now n.left n.cell n.right o more))

@@ -1,6 +1,6 @@
 use Rattle.std.proofs.Common.{◌≡◌, ◌+◌, ◌-◌, ◌++◌, List, [], ◌∷◌, refl, sym, ap, ◌∙◌, subst, arith, append_assoc}
 use Rattle.std.specs.Prelude.{Option, Some, IsSome, Result, Ok, Err, OnOk, map}
-use Rattle.actor_names.specs.declared.error.OutOfMemory.{OutOfMemory}
+use Rattle.lists_and_limits.specs.declared.memory.OutOfMemory.{OutOfMemory}
 use Rattle.part_core.specs.Part.{PartState, receipt_of, ring_owner}
 use Rattle.part_core.specs.Receipts.{ReceiptState}
 use Rattle.world_run.specs.Layout.{segment}

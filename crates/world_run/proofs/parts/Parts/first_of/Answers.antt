@@ -38,7 +38,7 @@ returns-then-ne c =
     let here = slice_get-get_or nodes (m.boot - 1) node (omega arith) ∙ ap (λ (u : List ℕ). Some u) (sym c.index.ensures) in
     let none : HasNone m c.args.self.now.parts = subst (λ (v : PartsView). HasNone m v.parts) c.self.view_is
     (none_other m c.self.inside.per 1 (m.boot - 1) nodes ps node c.self.invariant.laid (omega arith) here
-    (λ q. differs c.ne.result _ _ (c.ne.ensures) c.if-ne.true (c.as_slice.ensures ∙ sym q ∙ sym c.as_slice-2.ensures))) in
+    (λ q. differs c.ne.result _ _ (c.ne.ensures) c.if-ne.true (sym q))) in
     record { found = none; fits = tt }
 
 pub overflow_mul-result : goal.overflow_mul-result
@@ -53,6 +53,6 @@ returns c =
     let node : List ℕ = c.index.result.now in
     let here = slice_get-get_or nodes (m.boot - 1) node (omega arith) ∙ ap (λ (u : List ℕ). Some u) (sym c.index.ensures) in
     let first : IsFirst c.args.self.now.parts m c.args.self.now.per ((m.boot - 1) * c.self.inside.per) = subst (λ (v : PartsView). IsFirst v.parts m v.per ((m.boot - 1) * c.self.inside.per)) c.self.view_is
-    (found_first m c.self.inside.per 1 (m.boot - 1) nodes ps c.self.invariant.many c.self.invariant.laid (omega arith) (here ∙ ap (λ (u : List ℕ). Some u) (sym c.as_slice.ensures ∙ agrees c.ne.result _ _ c.ne.ensures c.if-ne.false ∙ c.as_slice-2.ensures))) in
+    (found_first m c.self.inside.per 1 (m.boot - 1) nodes ps c.self.invariant.many c.self.invariant.laid (omega arith) (here ∙ ap (λ (u : List ℕ). Some u) (agrees c.ne.result _ _ c.ne.ensures c.if-ne.false))) in
     let many : length ps ≡ length c.args.self.now.parts = ap (λ (v : PartsView). length v.parts) c.self.view_is in
     record { found = first; fits = omega (arith, first-within c.args.self.now.parts m c.args.self.now.per ((m.boot - 1) * c.self.inside.per) first, many, length-map c.self.inside.items.items state_in, c.self.inside.items.ok.0) }

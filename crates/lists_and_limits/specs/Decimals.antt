@@ -1,7 +1,10 @@
 -- Decimal numbers in texts: digits alone, without a sign and without leading zeros. Own.
 use Rattle.std.specs.Prelude.{ℕ, ◌+◌, ◌*◌, ◌-◌, Bool, false, not, ◌&&◌, ◌||◌, ◌==◌, nat_le, if◌then◌else◌, List, [], ◌∷◌, length, Option, Some, None, fold}
 use Rattle.std.specs.List.{list_all}
-use Rattle.actor_names.specs.Names.{is_between}
+
+-- from `low` to `high`, both counted in
+abbrev pub is_between : ℕ → ℕ → ℕ → Bool
+is_between low high b = nat_le low b && nat_le b high
 
 -- `0` to `9`
 abbrev pub is_digit : ℕ → Bool

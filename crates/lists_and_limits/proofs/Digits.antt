@@ -5,7 +5,7 @@ use Rattle.std.specs.List.{list_all}
 use Rattle.std.proofs.lemmas.Grind.{common_steps}
 use Rattle.std.proofs.lemmas.Bool.Decides.{leb_tells}
 use Rattle.std.proofs.lemmas.Bool.{le-leb, leb-true, leb-false}
-use Rattle.actor_names.specs.Decimals.{is_digit, digits_number}
+use Rattle.lists_and_limits.specs.Decimals.{is_digit, digits_number}
 
 -- the number with one digit more
 abbrev pub with_digit : ℕ → ℕ → ℕ

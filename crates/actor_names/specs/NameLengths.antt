@@ -11,3 +11,6 @@ in_length most n false false found is past none = (grind (arith, nat_tests), gri
 
 pub length-text_fault : (ok : ℕ → Bool) (most : ℕ) (text : List ℕ) → text_fault ok most text ≡ None → (0 < length text) × (length text ≤ most)
 length-text_fault ok most text none = in_length most (length text) (length text == 0) (nat_lt most (length text)) (first_bad ok text) refl refl none
+
+pub most-text_fault : (ok : ℕ → Bool) (most : ℕ) (text : List ℕ) → text_fault ok most text ≡ None → length text ≤ most
+most-text_fault ok most text none = (length-text_fault ok most text none).1

@@ -1,6 +1,6 @@
 // Decimal numbers in texts.
 ghost use Rattle.std.specs.Prelude.{◌≡◌, ◌&&◌, ◌+◌, ◌-◌, ◌*◌, Some, None, nat_le, if◌then◌else◌};
-ghost use Rattle.actor_names.specs.Decimals.{number_of, digits_number, is_digit};
+ghost use Rattle.lists_and_limits.specs.Decimals.{number_of, digits_number, is_digit};
 
 // The number with one digit more, where the byte is a digit and the number stays at most `most`.
 fn with_digit(number: u64, byte: u8, most: u64) -> Option<u64>

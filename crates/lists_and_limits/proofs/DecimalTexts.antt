@@ -9,8 +9,8 @@ use Rattle.std.proofs.lemmas.Int.Digits.{first_digits_of}
 use Rattle.std.proofs.lemmas.Str.Parse.{IsNumeralModel, IsDigitsTest, FoldsDigits, numerals_by_fold}
 use Rattle.std.proofs.lemmas.Bool.Decides.{leb_tells, nat_tests}
 use Rattle.std.proofs.lemmas.Bool.{le-leb, cases_lt}
-use Rattle.actor_names.specs.Decimals.{is_digit, is_decimal, is_unpadded, decimal_value, number_of}
-use Rattle.actor_names.proofs.Digits.{value_from}
+use Rattle.lists_and_limits.specs.Decimals.{is_digit, is_decimal, is_unpadded, decimal_value, number_of}
+use Rattle.lists_and_limits.proofs.Digits.{value_from}
 
 -- a `&&` that holds, holds on both sides
 both : (a b : Bool) → (a && b) ≡ true → (a ≡ true) × (b ≡ true)

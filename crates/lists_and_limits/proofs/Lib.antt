@@ -1,0 +1,3 @@
+mod Digits
+mod Examples
+pub mod DecimalTexts
