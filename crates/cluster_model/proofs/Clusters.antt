@@ -57,7 +57,7 @@ module _ (owner : PlacementTable → ActorKey → Option HostInfo) (part_of : Ac
         opened = λ p i. below p.opened (let l = seen_low p i in let h = (t.safe.safe.parts p i).tied.opened_seen in omega arith);
         installed = λ p i. below p.table.version (let l = seen_low p i in let h = (t.safe.safe.parts p i).tied.table_seen in omega arith);
         round = λ stage e. (round_at stage e).used;
-        left = λ stage j e i l. (round_at stage e).left_target j i l;
+        pending = λ stage j e i l. (round_at stage e).pending_target j i l;
         told = λ stage j e i k. (round_at stage e).told_target j (last_of w) i k;
         sent = λ stage m e k. elim (t.safe.safe.members.told m (last_of w) k) [
           | inl i ↦ (
@@ -111,7 +111,7 @@ module _ (owner : PlacementTable → ActorKey → Option HostInfo) (part_of : Ac
         acks = t.safe.safe.members.acks;
         updating = λ e j i g. (round_at stages.Update e).facts.2 j i g;
         unlocking = λ e j i g. (round_at stages.Unlock e).facts.1 j i g;
-        not_left = λ stage j e i g off. (round_at stage e).not_left j i g off;
+        not_pending = λ stage j e i g off. (round_at stage e).not_pending j i g off;
       }
 
   pub informed_targets : InformedAreTargets w

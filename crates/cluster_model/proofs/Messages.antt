@@ -77,9 +77,9 @@ module _ (owner : PlacementTable → ActorKey → Option HostInfo) where
     plain_round last js fixed (Running s) r =
         record {
           used = r.used;
-          left_target = r.left_target;
+          pending_target = r.pending_target;
           told_target = λ j v i w. r.told_target j v i (told_before j.host.member v w);
-          not_left = r.not_left;
+          not_pending = r.not_pending;
           facts = plain_facts last js fixed s r.facts;
         }
 
@@ -113,7 +113,7 @@ module _ (owner : PlacementTable → ActorKey → Option HostInfo) where
           };
         }
 
-  -- ---- the message of a round that runs, to one that is left in it
+  -- ---- the message of a round that runs, to one that is pending in it
 
   version-stage_answer : (last : ℕ) (fixed : List HostInfo) (s : AckStage) → version_of (stage_answer last fixed s) ≡ Some last
   version-stage_answer last fixed stages.Lock = refl
@@ -196,7 +196,7 @@ module _ (owner : PlacementTable → ActorKey → Option HostInfo) where
   fixed_at last fixed ms f m t i e = let h = f m t i e in λ k. record { version = e k; hosts = h k }
 
   module _ (last : ℕ) (js : List Joined) (ks : List Known) (fixed : List HostInfo) (ps : List PartState) (ms : List Message) (boots : ℕ) (stage : AckStage)
-      (s : IsSafeAt owner last js ks fixed (Running stage) ps ms boots) (j : Joined) (here : In j js) (left : j.left ≡ true)
+      (s : IsSafeAt owner last js ks fixed (Running stage) ps ms boots) (j : Joined) (here : In j js) (pending : j.pending ≡ true)
       (one : (k : Joined) → In k js → k.host.member ≡ j.host.member → k ≡ j) where
     abbrev new : List Message
     new = ms ++ Tells j.host.member (stage_answer last fixed stage) ∷ []
@@ -223,12 +223,12 @@ module _ (owner : PlacementTable → ActorKey → Option HostInfo) where
     round_new =
         record {
           used = s.round.used;
-          left_target = s.round.left_target;
+          pending_target = s.round.pending_target;
           told_target = λ y v i w. elim (told_new y.host.member v w) [
             | inl o ↦ s.round.told_target y v i o
-            | inr q ↦ ap (λ (z : Joined). z.target) (one y i q.0) ∙ s.round.left_target j here left
+            | inr q ↦ ap (λ (z : Joined). z.target) (one y i q.0) ∙ s.round.pending_target j here pending
           ];
-          not_left = s.round.not_left;
+          not_pending = s.round.not_pending;
           facts = pushed_facts last js fixed ms new ps stage update_new unlock_new s.round.facts;
         }
 

@@ -185,9 +185,9 @@ module _ (owner : PlacementTable → ActorKey → Option HostInfo) where
     round_changed (Running stage) r =
         record {
           used = r.used;
-          left_target = r.left_target;
+          pending_target = r.pending_target;
           told_target = r.told_target;
-          not_left = λ j i t off. reached_changed j.host.member stage last (r.not_left j i t off);
+          not_pending = λ j i t off. reached_changed j.host.member stage last (r.not_pending j i t off);
           facts = facts_changed stage r.facts;
         }
 

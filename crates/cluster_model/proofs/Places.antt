@@ -20,11 +20,11 @@ use Rattle.round_core.specs.Runs.{HasMember}
 use Rattle.round_core.proofs.Durable.{hosts_map, hosts_with, ack_same, settle_keeps}
 use Rattle.round_core.proofs.Hosts.{here_same, put_member, without_member, heard_member}
 use Rattle.round_core.proofs.Memory.{boots_rise}
-use Rattle.member_roster.specs.Members.{Joined, hosts_of, of_node, is_here, is_left_in, is_left, with_node, without_node, put_joined, late_of, heard_of, any_left, entered, targeted, heard_at, restarted_at, new_joined, greatest_boot, put_boot}
+use Rattle.member_roster.specs.Members.{Joined, hosts_of, of_node, is_here, is_pending_in, is_pending, with_node, without_node, put_joined, late_of, heard_of, any_pending, entered, targeted, heard_at, restarted_at, new_joined, greatest_boot, put_boot}
 use Rattle.member_core.specs.Progress.{MemberReached}
 use Rattle.cluster_model.specs.Messages.{Message, answer_of}
 use Rattle.cluster_model.specs.Invariant.{version_of, AllStopped, RoundFacts, AreMessagesSound, IsSafeAt, IsSafe}
-use Rattle.cluster_model.proofs.Joins.{entry_of, has_entry, here_entry, In-with_node, In-without_node, In-or_node, In-heard_of, In-or_late, In-put_joined, In-kept_joined, put_here, none_left, greatest-put}
+use Rattle.cluster_model.proofs.Joins.{entry_of, has_entry, here_entry, In-with_node, In-without_node, In-or_node, In-heard_of, In-or_late, In-put_joined, In-kept_joined, put_here, none_pending, greatest-put}
 use Rattle.cluster_model.proofs.Rounds.{followed, Follows, follows_self, regrouped, update_round, unlock_round, started_round, removed_safe, joined_safe}
 
 pub same_stage-true : (a b : AckStage) → same_stage a b ≡ true → a ≡ b
@@ -38,24 +38,24 @@ same_stage-true stages.Unlock stages.Lock e = absurd (false≢true e)
 same_stage-true stages.Unlock stages.Update e = absurd (false≢true e)
 same_stage-true stages.Unlock stages.Unlock e = refl
 
--- the stage of the round to a member that is left in it
+-- the stage of the round to a member that is pending in it
 pub record IsOfRound (s : PlacementState) (m : Member) (r : PlaceReply) : Type 0 where
   pub stage : AckStage
   pub entry : Joined
   pub phase : s.phase ≡ Running stage
   pub here : In entry s.members
   pub member : entry.host.member ≡ m
-  pub left : entry.left ≡ true
+  pub pending : entry.pending ≡ true
   pub reply : r ≡ stage_reply stage (last_version s)
 
--- what a reply to a member says: nothing of a version, or the stage of the phase to one that is left in it
+-- what a reply to a member says: nothing of a version, or the stage of the phase to one that is pending in it
 abbrev pub IsReplyOf : PlacementState → Member → PlaceReply → Type 0
 IsReplyOf s m r = (version_of (answer_of s.table r) ≡ None) ⊎ IsOfRound s m r
 
 module _ (owner : PlacementTable → ActorKey → Option HostInfo) (ps : List PartState) (ms : List Message) (boots : ℕ) where
   -- ---- rounds go on, and start
 
-  next_safe : (s : PlacementState) (phase : RoundPhase) → s.phase ≡ phase → ((j : Joined) → In j s.members → j.left ≡ false) → IsSafe owner s ps ms boots → IsSafe owner (next_stage s phase) ps ms boots
+  next_safe : (s : PlacementState) (phase : RoundPhase) → s.phase ≡ phase → ((j : Joined) → In j s.members → j.pending ≡ false) → IsSafe owner s ps ms boots → IsSafe owner (next_stage s phase) ps ms boots
   next_safe s Quiet e none safe = safe
   next_safe s (Running stages.Lock) e none safe =
       regrouped owner (last_version s) s.members (map entered s.members) s.boots s.table _ s.phase (Running stages.Update) ps ms boots (hosts_map entered s.members (λ j. refl))
@@ -68,7 +68,7 @@ module _ (owner : PlacementTable → ActorKey → Option HostInfo) (ps : List Pa
 
   pub advance_safe : (s : PlacementState) → IsSafe owner s ps ms boots → IsSafe owner (advance_round s) ps ms boots
   advance_safe s safe =
-      cond_both (any_left s.members) _ _ (λ (t : PlacementState). IsSafe owner t ps ms boots) (λ _. safe) (λ f. next_safe s s.phase refl (none_left s.members f) safe)
+      cond_both (any_pending s.members) _ _ (λ (t : PlacementState). IsSafe owner t ps ms boots) (λ _. safe) (λ f. next_safe s s.phase refl (none_pending s.members f) safe)
 
   last_up : (n : ℕ) → 1 ≤ n → n + 1 - 1 ≡ suc (n - 1)
   last_up n h = omega arith
@@ -100,7 +100,7 @@ module _ (owner : PlacementTable → ActorKey → Option HostInfo) (ps : List Pa
       again = regrouped owner (last_version s) s.members (map targeted s.members) s.boots s.table s.table s.phase Quiet ps ms boots same tt safe
 
   advance_version : (s : PlacementState) → (advance_round s).next_version ≡ s.next_version
-  advance_version s = cond_both (any_left s.members) _ _ (λ (t : PlacementState). t.next_version ≡ s.next_version) (λ _. refl) (λ _. go s.phase)
+  advance_version s = cond_both (any_pending s.members) _ _ (λ (t : PlacementState). t.next_version ≡ s.next_version) (λ _. refl) (λ _. go s.phase)
     where
       go : (phase : RoundPhase) → (next_stage s phase).next_version ≡ s.next_version
       go Quiet = refl
@@ -138,7 +138,7 @@ module _ (owner : PlacementTable → ActorKey → Option HostInfo) (ps : List Pa
       one a b e = cc
 
   heard_safe : (s : PlacementState) (m : Member) (now : ℕ) → is_here s.members m ≡ true → IsSafe owner s ps ms boots → IsSafe owner (with_member s m (heard_at now)).state ps ms boots
-  heard_safe s m now here safe = with_safe s m (heard_at now) (λ j. refl) (λ stage j e q. record { host = refl; target = refl; left = inl refl }) here safe
+  heard_safe s m now here safe = with_safe s m (heard_at now) (λ j. refl) (λ stage j e q. record { host = refl; target = refl; pending = inl refl }) here safe
 
   acked_safe : (s : PlacementState) (m : Member) (stage : AckStage) (v now : ℕ) → MemberReached owner ps m stage v → is_here s.members m ≡ true → IsSafe owner s ps ms boots →
       IsSafe owner (with_member s m (ack_change s stage v now)).state ps ms boots
@@ -149,8 +149,8 @@ module _ (owner : PlacementTable → ActorKey → Option HostInfo) (ps : List Pa
       let h = and_parts (is_in_stage s.phase stage) (v == last_version s) t in
       let a : st ≡ stage = same_stage-true st stage (subst (λ (f : RoundPhase). is_in_stage f stage ≡ true) e h.0) in
       let b : v ≡ last_version s = eqb-true v (last_version s) h.1 in
-      record { host = refl; target = refl; left = inr (refl, rw (q, a, ← b) reached) })
-      (λ _. record { host = refl; target = refl; left = inl refl }))
+      record { host = refl; target = refl; pending = inr (refl, rw (q, a, ← b) reached) })
+      (λ _. record { host = refl; target = refl; pending = inl refl }))
       here safe
 
   without_safe : (s : PlacementState) (m : Member) → is_here s.members m ≡ true → AllStopped ps m → IsSafe owner s ps ms boots →
@@ -200,15 +200,15 @@ module _ (owner : PlacementTable → ActorKey → Option HostInfo) (ps : List Pa
   told_reply : (s : PlacementState) (m : Member) → is_here s.members m ≡ true → IsReplyOf s m (reply_for s m)
   told_reply s m here =
       let k = here_entry s.members m here in
-      cond_both (is_left s.members m) _ _ (IsReplyOf s m)
-      (λ t. go (ap is_left_in (sym k.1) ∙ t) s.phase refl)
+      cond_both (is_pending s.members m) _ _ (IsReplyOf s m)
+      (λ t. go (ap is_pending_in (sym k.1) ∙ t) s.phase refl)
       (λ _. inl refl)
     where
-      go : ((here_entry s.members m here).0.left ≡ true) → (phase : RoundPhase) → s.phase ≡ phase → IsReplyOf s m (phase_reply phase (last_version s))
+      go : ((here_entry s.members m here).0.pending ≡ true) → (phase : RoundPhase) → s.phase ≡ phase → IsReplyOf s m (phase_reply phase (last_version s))
       go l Quiet e = inl refl
       go l (Running stage) e =
           let k = here_entry s.members m here in
-          inr (record { stage = stage; entry = k.0; phase = e; here = k.2; member = k.3; left = l; reply = refl })
+          inr (record { stage = stage; entry = k.0; phase = e; here = k.2; member = k.3; pending = l; reply = refl })
 
   tells_safe : (s : PlacementState) (m : Member) → 1 ≤ s.next_version → is_here s.members m ≡ true → IsSafe owner s ps ms boots → IsStepSafe m (conclude s (Tells m))
   tells_safe s m used here safe =

@@ -26,16 +26,16 @@ module _ (owner : PlacementTable → ActorKey → Option HostInfo) where
 
   -- ---- entries that change while a round runs
 
-  -- the entry is as before, but for the moment when it was heard, and where it acknowledged for being left
+  -- the entry is as before, but for the moment when it was heard, and where it acknowledged for being pending
   pub record Follows (last : ℕ) (ps : List PartState) (stage : AckStage) (j y : Joined) : Type 0 where
     pub host : y.host ≡ j.host
     pub target : y.target ≡ j.target
-    pub left : (y.left ≡ j.left) ⊎ ((y.left ≡ false) × MemberReached owner ps j.host.member stage last)
+    pub pending : (y.pending ≡ j.pending) ⊎ ((y.pending ≡ false) × MemberReached owner ps j.host.member stage last)
 
   -- the entry is new: in no round, and never told anything
   pub record IsFresh (ms : List Message) (y : Joined) : Type 0 where
     pub target : y.target ≡ false
-    pub left : y.left ≡ false
+    pub pending : y.pending ≡ false
     pub untold : (v : ℕ) → WasTold ms y.host.member v → ⊥
 
   -- each entry follows one that was there, or is new
@@ -59,20 +59,20 @@ module _ (owner : PlacementTable → ActorKey → Option HostInfo) where
     followed_round stage from r =
         record {
           used = r.used;
-          left_target = λ y i l. elim (from y i) [
-            | inl f ↦ elim f.2.left [
-              | inl e ↦ f.2.target ∙ r.left_target f.0 f.1 (sym e ∙ l)
+          pending_target = λ y i l. elim (from y i) [
+            | inl f ↦ elim f.2.pending [
+              | inl e ↦ f.2.target ∙ r.pending_target f.0 f.1 (sym e ∙ l)
               | inr e ↦ absurd (true≢false (sym l ∙ e.0))
             ]
-            | inr f ↦ absurd (true≢false (sym l ∙ f.left))
+            | inr f ↦ absurd (true≢false (sym l ∙ f.pending))
           ];
           told_target = λ y v i w. elim (from y i) [
             | inl f ↦ f.2.target ∙ r.told_target f.0 v f.1 (subst (λ (x : HostInfo). WasTold ms x.member v) f.2.host w)
             | inr f ↦ absurd (f.untold v w)
           ];
-          not_left = λ y i t off. elim (from y i) [
-            | inl f ↦ subst (λ (x : HostInfo). MemberReached owner ps x.member stage last) (sym f.2.host) (elim f.2.left [
-              | inl e ↦ r.not_left f.0 f.1 (sym f.2.target ∙ t) (sym e ∙ off)
+          not_pending = λ y i t off. elim (from y i) [
+            | inl f ↦ subst (λ (x : HostInfo). MemberReached owner ps x.member stage last) (sym f.2.host) (elim f.2.pending [
+              | inl e ↦ r.not_pending f.0 f.1 (sym f.2.target ∙ t) (sym e ∙ off)
               | inr e ↦ e.1
             ])
             | inr f ↦ absurd (true≢false (sym t ∙ f.target))
@@ -85,7 +85,7 @@ module _ (owner : PlacementTable → ActorKey → Option HostInfo) where
     followed (Running stage) from r = followed_round stage (from stage refl) r
 
   pub follows_self : (last : ℕ) (ps : List PartState) (stage : AckStage) (j : Joined) → Follows last ps stage j j
-  follows_self last ps stage j = record { host = refl; target = refl; left = inl refl }
+  follows_self last ps stage j = record { host = refl; target = refl; pending = inl refl }
 
   -- ---- the same hosts, in another round
 
@@ -103,25 +103,25 @@ module _ (owner : PlacementTable → ActorKey → Option HostInfo) where
 
   -- ---- a round goes on, and starts
 
-  entered_left : (js : List Joined) (y : Joined) → In y (map entered js) → y.left ≡ y.target
-  entered_left js y i = let m = In-map entered js y i in ap (λ (z : Joined). z.left) m.2 ∙ ap (λ (z : Joined). z.target) (sym m.2)
+  entered_pending : (js : List Joined) (y : Joined) → In y (map entered js) → y.pending ≡ y.target
+  entered_pending js y i = let m = In-map entered js y i in ap (λ (z : Joined). z.pending) m.2 ∙ ap (λ (z : Joined). z.target) (sym m.2)
 
-  module _ (last : ℕ) (js : List Joined) (fixed : List HostInfo) (ms : List Message) (ps : List PartState) (none : (j : Joined) → In j js → j.left ≡ false) where
+  module _ (last : ℕ) (js : List Joined) (fixed : List HostInfo) (ms : List Message) (ps : List PartState) (none : (j : Joined) → In j js → j.pending ≡ false) where
     entered_from : (stage : AckStage) → IsRoundSound owner last js fixed ms ps stage → (y : Joined) → In y (map entered js) → y.target ≡ true → MemberReached owner ps y.host.member stage last
     entered_from stage r y i t =
         let m = In-map entered js y i in
         subst (λ (x : HostInfo). MemberReached owner ps x.member stage last) (ap (λ (z : Joined). z.host) (sym m.2))
-        (r.not_left m.0 m.1 (ap (λ (z : Joined). z.target) (sym m.2) ∙ t) (none m.0 m.1))
+        (r.not_pending m.0 m.1 (ap (λ (z : Joined). z.target) (sym m.2) ∙ t) (none m.0 m.1))
 
     entered_round : (stage next : AckStage) (other : List HostInfo) → StageFacts owner last (map entered js) other ms ps next → IsRoundSound owner last js fixed ms ps stage → IsRoundSound owner last (map entered js) other ms ps next
     entered_round stage next other facts r =
         record {
           used = r.used;
-          left_target = λ y i l. sym (entered_left js y i) ∙ l;
+          pending_target = λ y i l. sym (entered_pending js y i) ∙ l;
           told_target = λ y v i w.
               let m = In-map entered js y i in
               ap (λ (z : Joined). z.target) m.2 ∙ r.told_target m.0 v m.1 (subst (λ (z : Joined). WasTold ms z.host.member v) m.2 w);
-          not_left = λ y i t off. absurd (true≢false (sym t ∙ sym (entered_left js y i) ∙ off));
+          not_pending = λ y i t off. absurd (true≢false (sym t ∙ sym (entered_pending js y i) ∙ off));
           facts = facts;
         }
 
@@ -137,9 +137,9 @@ module _ (owner : PlacementTable → ActorKey → Option HostInfo) where
   started_round last next js hosts fixed ks ms ps more s =
       record {
         used = omega arith;
-        left_target = λ y i l. (let m = In-map targeted js y i in ap (λ (z : Joined). z.target) m.2);
+        pending_target = λ y i l. (let m = In-map targeted js y i in ap (λ (z : Joined). z.target) m.2);
         told_target = λ y v i w. (let m = In-map targeted js y i in ap (λ (z : Joined). z.target) m.2);
-        not_left = λ y i t off. (let m = In-map targeted js y i in absurd (true≢false (sym (ap (λ (z : Joined). z.left) m.2) ∙ off)));
+        not_pending = λ y i t off. (let m = In-map targeted js y i in absurd (true≢false (sym (ap (λ (z : Joined). z.pending) m.2) ∙ off)));
         facts = (λ m t i. (let h = s.told_below m t.version (told_update ms m t i) in omega arith), λ m v i. (let h = s.told_below m v (told_unlock ms m v i) in omega arith));
       }
 
@@ -165,11 +165,11 @@ module _ (owner : PlacementTable → ActorKey → Option HostInfo) where
   -- ---- a member joins with a boot above its node's greatest
 
   pub joined_safe : (last : ℕ) (js ls : List Joined) (ks zs : List Known) (fixed : List HostInfo) (phase : RoundPhase) (ps : List PartState) (ms : List Message) (boots : ℕ) (x : Joined) →
-      greatest_boot ks x.host.member.node < x.host.member.boot → x.host.member.boot ≤ boots → x.target ≡ false → x.left ≡ false →
+      greatest_boot ks x.host.member.node < x.host.member.boot → x.host.member.boot ≤ boots → x.target ≡ false → x.pending ≡ false →
       ((node : List ℕ) → greatest_boot ks node ≤ greatest_boot zs node) → greatest_boot zs x.host.member.node ≡ x.host.member.boot →
       ((y : Joined) → In y ls → (y ≡ x) ⊎ In y js) → ((m : Member) → HasMember (hosts_of ls) m → HasMember (hosts_of js) m ⊎ (m ≡ x.host.member)) → ((m : Member) → HasMember (hosts_of js) m → HasMember (hosts_of ls) m) →
       IsSafeAt owner last js ks fixed phase ps ms boots → IsSafeAt owner last ls zs fixed phase ps ms boots
-  joined_safe last js ls ks zs fixed phase ps ms boots x higher booted target left rise top entries from kept s =
+  joined_safe last js ls ks zs fixed phase ps ms boots x higher booted target pending rise top entries from kept s =
       record {
         parts = s.parts;
         messages = record {
@@ -193,7 +193,7 @@ module _ (owner : PlacementTable → ActorKey → Option HostInfo) where
         round = followed last js ls fixed ms ps phase (λ stage e y i. elim (entries y i) [
           | inl q ↦ inr (record {
             target = ap (λ (z : Joined). z.target) q ∙ target;
-            left = ap (λ (z : Joined). z.left) q ∙ left;
+            pending = ap (λ (z : Joined). z.pending) q ∙ pending;
             untold = λ v w. (let h = s.messages.told_boot x.host.member v (subst (λ (z : Joined). WasTold ms z.host.member v) q w) in absurd (omega arith));
           })
           | inr j ↦ inl (y, j, follows_self last ps stage y)

@@ -95,7 +95,7 @@ module _ (owner : PlacementTable → ActorKey → Option HostInfo) (part_of : Ac
       }) _ _ _ _ _ safe
   reply_told ps ms boots t m r reached (inr h) safe =
       let at = subst (λ (f : RoundPhase). IsSafeAt owner (last_version t) t.members t.boots t.table f ps ms boots) h.phase safe in
-      let told = push_told owner (last_version t) t.members t.boots t.table ps ms boots h.stage at h.entry h.here h.left
+      let told = push_told owner (last_version t) t.members t.boots t.table ps ms boots h.stage at h.entry h.here h.pending
       (λ k i q. one_entry t.members k h.entry reached.distinct i h.here (ap (λ (z : Member). z.node) q)) in
       let same : Tells h.entry.host.member (stage_answer (last_version t) t.table h.stage) ≡ Tells m (answer_of t.table r) =
       ap (λ (z : Member). Tells z (stage_answer (last_version t) t.table h.stage)) h.member ∙ ap (λ (a : Answer). Tells m a) (stage_message (last_version t) t.table h.stage ∙ ap (λ (q : PlaceReply). answer_of t.table q) (sym h.reply)) in

@@ -33,7 +33,7 @@ abbrev pub last_of : ClusterState → ℕ
 last_of w = last_version w.placement
 
 -- Every version is below the next one, and each version that a part has now came by a message. A round's version is
--- the next one less one; those left are targets, and who was told its version and is a member is one. So each message of
+-- the next one less one; those pending are targets, and who was told its version and is a member is one. So each message of
 -- its version went to one of its targets, but for members that have gone since, whose parts have all stopped.
 pub record VersionsBelowNext (w : ClusterState) : Type 0 where
   pub messages : (m : Member) (v : ℕ) → WasTold w.messages m v → v < w.placement.next_version
@@ -41,7 +41,7 @@ pub record VersionsBelowNext (w : ClusterState) : Type 0 where
   pub opened : (p : PartState) → In p w.parts → p.opened < w.placement.next_version
   pub installed : (p : PartState) → In p w.parts → p.table.version < w.placement.next_version
   pub round : (stage : AckStage) → w.placement.phase ≡ Running stage → 0 < last_of w
-  pub left : (stage : AckStage) (j : Joined) → w.placement.phase ≡ Running stage → In j w.placement.members → j.left ≡ true → j.target ≡ true
+  pub pending : (stage : AckStage) (j : Joined) → w.placement.phase ≡ Running stage → In j w.placement.members → j.pending ≡ true → j.target ≡ true
   pub told : (stage : AckStage) (j : Joined) → w.placement.phase ≡ Running stage → In j w.placement.members → WasTold w.messages j.host.member (last_of w) → j.target ≡ true
   pub sent : (stage : AckStage) (m : Member) → w.placement.phase ≡ Running stage → WasTold w.messages m (last_of w) →
       ((j : Joined) × In j w.placement.members × (m ≡ j.host.member) × (j.target ≡ true)) ⊎ AllStopped w.parts m
@@ -118,12 +118,12 @@ pub record TurnsIsolated (w : ClusterState) : Type 0 where
 
 module _ (owner : PlacementTable → ActorKey → Option HostInfo) (part_of : ActorKey → ℕ → ℕ) where
   -- An acknowledged stage is reached by its member; from the second stage on the targets have reached the one before, and
-  -- a target that isn't left has reached the stage itself.
+  -- a target that isn't pending has reached the stage itself.
   pub record AcksAreReached (w : ClusterState) : Type 0 where
     pub acks : (m : Member) (stage : AckStage) (v : ℕ) → In (Asks (Ack m stage v)) w.messages → MemberReached owner w.parts m stage v
     pub updating : w.placement.phase ≡ Running stages.Update → (j : Joined) → In j w.placement.members → j.target ≡ true → MemberReached owner w.parts j.host.member stages.Lock (last_of w)
     pub unlocking : w.placement.phase ≡ Running stages.Unlock → (j : Joined) → In j w.placement.members → j.target ≡ true → MemberReached owner w.parts j.host.member stages.Update (last_of w)
-    pub not_left : (stage : AckStage) (j : Joined) → w.placement.phase ≡ Running stage → In j w.placement.members → j.target ≡ true → j.left ≡ false → MemberReached owner w.parts j.host.member stage (last_of w)
+    pub not_pending : (stage : AckStage) (j : Joined) → w.placement.phase ≡ Running stage → In j w.placement.members → j.target ≡ true → j.pending ≡ false → MemberReached owner w.parts j.host.member stage (last_of w)
 
   -- An active cell is owned in the table at which its part opened last. Where at any place of the marks a member had an
   -- actor active while its part had opened last at a version, an Update and an Unlock of it went to the member and that

@@ -116,9 +116,9 @@ module _ (owner : PlacementTable → ActorKey → Option HostInfo) where
 
   pub record IsRoundSound (last : ℕ) (js : List Joined) (fixed : List HostInfo) (ms : List Message) (ps : List PartState) (stage : AckStage) : Type 0 where
     pub used : 0 < last
-    pub left_target : (j : Joined) → In j js → j.left ≡ true → j.target ≡ true
+    pub pending_target : (j : Joined) → In j js → j.pending ≡ true → j.target ≡ true
     pub told_target : (j : Joined) (v : ℕ) → In j js → WasTold ms j.host.member v → j.target ≡ true
-    pub not_left : (j : Joined) → In j js → j.target ≡ true → j.left ≡ false → MemberReached owner ps j.host.member stage last
+    pub not_pending : (j : Joined) → In j js → j.target ≡ true → j.pending ≡ false → MemberReached owner ps j.host.member stage last
     pub facts : StageFacts last js fixed ms ps stage
 
   abbrev pub RoundFacts : ℕ → List Joined → List HostInfo → List Message → List PartState → RoundPhase → Type 0

@@ -74,6 +74,6 @@ put_at m es = put_in m.node m.boot es
 pub few_at : (k : List ℕ) (es fs : List (List ℕ × ℕ)) (before : Option ℕ) → before ≡ boot_at k es → length fs ≡ length es + cond (is_some before) 0 1 → length es ≤ 65536 → (is_known (known_in es) k ≡ false → length (known_in es) < 65536) → length fs ≤ 65536
 few_at k es fs (Some boot) is long few free = omega arith
 few_at k es fs None is long few free =
-    let room = free (sym (known_at k es) ∙ ap is_some (sym is)) in
+    let capacity = free (sym (known_at k es) ∙ ap is_some (sym is)) in
     let count = known_count es in
     omega arith

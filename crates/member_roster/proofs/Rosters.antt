@@ -9,7 +9,7 @@ use Rattle.std.specs.declared.result.Result.TheVariants.{Ok, Err}
 use Rattle.actor_names.specs.declared.member.Member.{Member}
 use Rattle.place_table.specs.declared.host.HostInfo.{HostInfo}
 use Rattle.member_roster.specs.declared.marks.Mark.{Mark}
-use Rattle.member_roster.specs.Members.{Joined, has_boot, is_here, of_node, with_node, without_node, put_joined, any_left, hosts_of}
+use Rattle.member_roster.specs.Members.{Joined, has_boot, is_here, of_node, with_node, without_node, put_joined, any_pending, hosts_of}
 use Rattle.member_roster.specs.Places.{host_node, Ascends, place_from, place_by}
 use Rattle.member_roster.specs.Roster.{joined_of, joined_all}
 use Rattle.member_roster.proofs.Places.{cmp, same_texts, before_texts, one_more-Ok, one_more-Err, none_after}
@@ -19,7 +19,7 @@ abbrev pub no_host : HostInfo
 no_host = record { member = record { node = []; boot = 0 }; app = []; address = record { ip = 0; port = 0 }; kinds = [] }
 
 abbrev pub no_mark : Mark
-no_mark = record { heard = 0; target = false; left = false }
+no_mark = record { heard = 0; target = false; pending = false }
 
 abbrev place : List ℕ → List HostInfo → Result ℕ ℕ
 place node hs = place_by host_node node hs
@@ -103,8 +103,8 @@ length-joined_all [] ms l = refl
 length-joined_all (h ∷ hs) [] l = absurd (omega arith)
 length-joined_all (h ∷ hs) (k ∷ ms) l = let e = length-joined_all hs ms (omega arith) in omega arith
 
-pub any_left-joined_all : (hs : List HostInfo) (ms : List Mark) → length ms ≡ length hs → any_left (joined_all hs ms) ≡ list_any (λ k. k.left) ms
-any_left-joined_all [] [] l = refl
-any_left-joined_all [] (k ∷ ms) l = absurd (omega arith)
-any_left-joined_all (h ∷ hs) [] l = absurd (omega arith)
-any_left-joined_all (h ∷ hs) (k ∷ ms) l = ap (λ b. k.left || b) (any_left-joined_all hs ms (omega arith))
+pub any_pending-joined_all : (hs : List HostInfo) (ms : List Mark) → length ms ≡ length hs → any_pending (joined_all hs ms) ≡ list_any (λ k. k.pending) ms
+any_pending-joined_all [] [] l = refl
+any_pending-joined_all [] (k ∷ ms) l = absurd (omega arith)
+any_pending-joined_all (h ∷ hs) [] l = absurd (omega arith)
+any_pending-joined_all (h ∷ hs) (k ∷ ms) l = ap (λ b. k.pending || b) (any_pending-joined_all hs ms (omega arith))

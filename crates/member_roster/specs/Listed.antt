@@ -4,4 +4,4 @@ use Rattle.actor_names.specs.declared.member.Member.{Member}
 
 pub record Listed : Type 0 where
   pub members : List Member
-  pub room : ℕ
+  pub capacity : ℕ

@@ -9,12 +9,12 @@ use Rattle.place_table.specs.Hosts.{node_of}
 use Rattle.member_roster.specs.declared.book.Known.{Known}
 
 -- A member: its host, when it was last heard, whether it is a target of the running round, and whether it is
--- among those left, which haven't acknowledged the stage of the round.
+-- among those pending, which haven't acknowledged the stage of the round.
 pub record Joined : Type 0 where
   pub host : HostInfo
   pub heard : ℕ
   pub target : Bool
-  pub left : Bool
+  pub pending : Bool
 
 abbrev pub is_before : List ℕ → List ℕ → Bool
 is_before a b = is_lt (slice_cmp nat_cmp a b)
@@ -64,13 +64,13 @@ has_boot boot (Some j) = boot == j.host.member.boot
 abbrev pub is_here : List Joined → Member → Bool
 is_here js m = has_boot m.boot (of_node js m.node)
 
-abbrev pub is_left_in : Option Joined → Bool
-is_left_in None = false
-is_left_in (Some j) = j.left
+abbrev pub is_pending_in : Option Joined → Bool
+is_pending_in None = false
+is_pending_in (Some j) = j.pending
 
--- whether the member is among those left
-abbrev pub is_left : List Joined → Member → Bool
-is_left js m = is_left_in (of_node js m.node)
+-- whether the member is among those pending
+abbrev pub is_pending : List Joined → Member → Bool
+is_pending js m = is_pending_in (of_node js m.node)
 
 -- the members with the one of this node changed
 abbrev pub with_node : List Joined → List ℕ → (Joined → Joined) → List Joined
@@ -104,18 +104,18 @@ abbrev pub heard_of : List Joined → ℕ → List Joined
 heard_of [] now = []
 heard_of (j ∷ js) now = if is_late now j then heard_of js now else j ∷ heard_of js now
 
--- ---- those left, and the targets
+-- ---- those pending, and the targets
 
-abbrev pub any_left : List Joined → Bool
-any_left js = list_any (λ j. j.left) js
+abbrev pub any_pending : List Joined → Bool
+any_pending js = list_any (λ j. j.pending) js
 
--- on entering a stage the targets are left
+-- on entering a stage the targets are pending
 abbrev pub entered : Joined → Joined
-entered j = record j { left = j.target }
+entered j = record j { pending = j.target }
 
 -- on starting a round each member is a target
 abbrev pub targeted : Joined → Joined
-targeted j = record j { target = true; left = true }
+targeted j = record j { target = true; pending = true }
 
 -- the hosts of the targets
 abbrev pub target_hosts : List Joined → List HostInfo
@@ -125,14 +125,14 @@ target_hosts (j ∷ js) = if j.target then j.host ∷ target_hosts js else targe
 abbrev pub heard_at : ℕ → Joined → Joined
 heard_at now j = record j { heard = now }
 
--- heard, and not among those left any more
+-- heard, and not among those pending any more
 abbrev pub acked_at : ℕ → Joined → Joined
-acked_at now j = record j { heard = now; left = false }
+acked_at now j = record j { heard = now; pending = false }
 
 -- heard at the restart, in no round
 abbrev pub restarted_at : ℕ → Joined → Joined
-restarted_at now j = record j { heard = now; target = false; left = false }
+restarted_at now j = record j { heard = now; target = false; pending = false }
 
 -- a new member, in no round
 abbrev pub new_joined : HostInfo → ℕ → Joined
-new_joined host now = record { host = host; heard = now; target = false; left = false }
+new_joined host now = record { host = host; heard = now; target = false; pending = false }

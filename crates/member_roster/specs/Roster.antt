@@ -6,32 +6,32 @@ use Rattle.member_roster.specs.Members.{Joined}
 use Rattle.member_roster.specs.Places.{Ascends, host_node}
 
 abbrev pub joined_of : HostInfo → Mark → Joined
-joined_of h k = record { host = h; heard = k.heard; target = k.target; left = k.left }
+joined_of h k = record { host = h; heard = k.heard; target = k.target; pending = k.pending }
 
 abbrev pub joined_all : List HostInfo → List Mark → List Joined
 joined_all [] ms = []
 joined_all (h ∷ hs) [] = []
 joined_all (h ∷ hs) (k ∷ ks) = joined_of h k ∷ joined_all hs ks
 
-abbrev pub is_mark_left : Mark → Bool
-is_mark_left k = k.left
+abbrev pub is_mark_pending : Mark → Bool
+is_mark_pending k = k.pending
 
 abbrev pub entered_mark : Mark → Mark
-entered_mark k = record k { left = k.target }
+entered_mark k = record k { pending = k.target }
 
 abbrev pub targeted_mark : Mark → Mark
-targeted_mark k = record k { target = true; left = true }
+targeted_mark k = record k { target = true; pending = true }
 
 abbrev pub restarted_mark : ℕ → Mark → Mark
-restarted_mark now k = record k { heard = now; target = false; left = false }
+restarted_mark now k = record k { heard = now; target = false; pending = false }
 
--- how many are left
+-- how many are pending
 abbrev pub mark_weight : Mark → ℕ
-mark_weight k = if k.left then 1 else 0
+mark_weight k = if k.pending then 1 else 0
 
-abbrev pub left_count : List Mark → ℕ
-left_count [] = 0
-left_count (k ∷ ks) = mark_weight k + left_count ks
+abbrev pub pending_count : List Mark → ℕ
+pending_count [] = 0
+pending_count (k ∷ ks) = mark_weight k + pending_count ks
 
 -- one of the hosts
 abbrev pub IsIn : HostInfo → List HostInfo → Type 0
@@ -68,27 +68,27 @@ AreBackedTo (suc i) (h ∷ hs) (s ∷ ss) table = IsBacked h s table × AreBacke
 pub record RosterState : Type 0 where
   pub members : List Joined
   pub table : List HostInfo
-  pub room : ℕ
+  pub capacity : ℕ
 
-pub record IsRosterKept (hosts : List HostInfo) (marks : List Mark) (spares : List (Option HostInfo)) (table : List HostInfo) (room left : ℕ) : Type 0 where
+pub record IsRosterKept (hosts : List HostInfo) (marks : List Mark) (spares : List (Option HostInfo)) (table : List HostInfo) (capacity pending : ℕ) : Type 0 where
   pub ascends : Ascends host_node hosts
   pub marked : length marks ≡ length hosts
   pub spared : length spares ≡ length hosts
   pub backed : AreBacked hosts spares table
   pub few : length hosts ≤ 256
-  pub within : length hosts ≤ room
+  pub within : length hosts ≤ capacity
   pub ordered : Ascends host_node table
-  pub counted : left ≡ left_count marks
+  pub counted : pending ≡ pending_count marks
 
 -- each vector has that much room
-pub record HasRoom (room hosts marks spares table : ℕ) : Type 0 where
-  pub hosts_room : room ≤ hosts
-  pub marks_room : room ≤ marks
-  pub spares_room : room ≤ spares
-  pub table_room : room ≤ table
+pub record HasCapacity (capacity hosts marks spares table : ℕ) : Type 0 where
+  pub hosts_capacity : capacity ≤ hosts
+  pub marks_capacity : capacity ≤ marks
+  pub spares_capacity : capacity ≤ spares
+  pub table_capacity : capacity ≤ table
 
 -- whether two lists of members and a table are the same, and the room no less
-pub record SameButRoom (old new : RosterState) : Type 0 where
+pub record SameButCapacity (old new : RosterState) : Type 0 where
   pub members : new.members ≡ old.members
   pub table : new.table ≡ old.table
-  pub room : old.room ≤ new.room
+  pub capacity : old.capacity ≤ new.capacity

@@ -7,7 +7,7 @@ ghost use Rattle.member_roster.specs.Places.{Ascends, host_node};
 ghost use Rattle.member_roster.specs.Roster.{joined_all, AreBacked, AreSpare};
 
 use crate::marks::Mark;
-use crate::room::push_in_room;
+use crate::reserved::push_reserved;
 use crate::search::host_place;
 use place_table::HostInfo;
 
@@ -17,7 +17,7 @@ fn give_back(hosts: &[HostInfo], spares: &mut Vec<Option<HostInfo>>, copy: HostI
     requires long { length spares.old.items ≡ length hosts.now }
     ensures backed { (rest : List HostInfo) → AreBacked hosts.now spares.old.items (rest ++ copy ∷ []) → AreBacked hosts.now spares.new.items rest }
     ensures long { length spares.new.items ≡ length spares.old.items }
-    ensures room { vec_capacity spares.new ≡ vec_capacity spares.old }
+    ensures capacity { vec_capacity spares.new ≡ vec_capacity spares.old }
 {
     match host_place(hosts, &copy.member.node) {
         Ok(at) => {
@@ -40,8 +40,8 @@ pub(crate) fn give_back_all(
     requires backed { AreBacked hosts.now spares.old.items table.old.items }
     ensures table { table.new.items ≡ [] }
     ensures spares { AreSpare hosts.now spares.new.items }
-    ensures room { vec_capacity table.new ≡ vec_capacity table.old }
-    ensures spares_room { vec_capacity spares.new ≡ vec_capacity spares.old }
+    ensures capacity { vec_capacity table.new ≡ vec_capacity table.old }
+    ensures spares_capacity { vec_capacity spares.new ≡ vec_capacity spares.old }
 {
     while let Some(copy) = table.pop() {
         give_back(hosts, spares, copy);
@@ -54,7 +54,7 @@ fn take_spare(spares: &mut Vec<Option<HostInfo>>, at: usize) -> HostInfo
     requires spare { IsSome (slice_index_or spares.old.items at None) }
     ensures value { slice_index_or spares.old.items at None ≡ Some result }
     ensures rest { spares.new.items ≡ slice_set spares.old.items at None }
-    ensures room { vec_capacity spares.new ≡ vec_capacity spares.old }
+    ensures capacity { vec_capacity spares.new ≡ vec_capacity spares.old }
 {
     let place = &mut spares[at];
     match place.take() {
@@ -74,18 +74,18 @@ pub(crate) fn fix_table(
     requires marked { length marks.now ≡ length hosts.now }
     requires long { length spares.old.items ≡ length hosts.now }
     requires backed { AreBacked hosts.now spares.old.items table.old.items }
-    requires room { length hosts.now ≤ vec_capacity table.old }
+    requires capacity { length hosts.now ≤ vec_capacity table.old }
     ensures table { table.new.items ≡ target_hosts (joined_all hosts.now marks.now) }
     ensures backed { AreBacked hosts.now spares.new.items table.new.items }
     ensures long { length spares.new.items ≡ length hosts.now }
-    ensures room { vec_capacity table.old ≤ vec_capacity table.new }
-    ensures spares_room { vec_capacity spares.new ≡ vec_capacity spares.old }
+    ensures capacity { vec_capacity table.old ≤ vec_capacity table.new }
+    ensures spares_capacity { vec_capacity spares.new ≡ vec_capacity spares.old }
 {
     give_back_all(hosts, spares, table);
     for i in 0..hosts.len() {
         if marks[i].target {
             let copy = take_spare(spares, i);
-            push_in_room(table, copy);
+            push_reserved(table, copy);
         }
     }
 }

@@ -10,12 +10,12 @@ use std::alloc::Global;
 pub(crate) fn copy_hosts(
     alloc: Global,
     hosts: &[HostInfo],
-    room: usize,
+    capacity: usize,
 ) -> Result<Vec<HostInfo>, OutOfMemory>
     ensures items { IfOk result (λ v. v.items ≡ hosts.now) }
-    ensures room { IfOk result (λ v. room ≤ vec_capacity v) }
+    ensures capacity { IfOk result (λ v. capacity ≤ vec_capacity v) }
 {
-    let mut items = Vec::with_capacity(alloc, room)?;
+    let mut items = Vec::with_capacity(alloc, capacity)?;
     for host in hosts.iter() {
         items.push(host.copy(alloc)?)?;
     }
@@ -39,12 +39,12 @@ pub fn copy_option(alloc: Global, host: &Option<HostInfo>) -> Result<Option<Host
 pub(crate) fn copy_spares(
     alloc: Global,
     spares: &[Option<HostInfo>],
-    room: usize,
+    capacity: usize,
 ) -> Result<Vec<Option<HostInfo>>, OutOfMemory>
     ensures items { IfOk result (λ v. v.items ≡ spares.now) }
-    ensures room { IfOk result (λ v. room ≤ vec_capacity v) }
+    ensures capacity { IfOk result (λ v. capacity ≤ vec_capacity v) }
 {
-    let mut items = Vec::with_capacity(alloc, room)?;
+    let mut items = Vec::with_capacity(alloc, capacity)?;
     for spare in spares.iter() {
         items.push(copy_option(alloc, spare)?)?;
     }
@@ -55,12 +55,12 @@ pub(crate) fn copy_spares(
 pub(crate) fn copy_marks(
     alloc: Global,
     marks: &[Mark],
-    room: usize,
+    capacity: usize,
 ) -> Result<Vec<Mark>, OutOfMemory>
     ensures items { IfOk result (λ v. v.items ≡ marks.now) }
-    ensures room { IfOk result (λ v. room ≤ vec_capacity v) }
+    ensures capacity { IfOk result (λ v. capacity ≤ vec_capacity v) }
 {
-    let mut items = Vec::with_capacity(alloc, room)?;
+    let mut items = Vec::with_capacity(alloc, capacity)?;
     items.extend_from_slice(marks)?;
     Ok(items)
 }

@@ -30,7 +30,7 @@ pub(crate) fn drop_late(
     requires ascends { Ascends host_node hosts.old.items }
     requires marked { length marks.old.items ≡ length hosts.old.items }
     requires spared { length spares.old.items ≡ length hosts.old.items }
-    requires room { length removed.old.members + length hosts.old.items ≤ removed.old.room }
+    requires capacity { length removed.old.members + length hosts.old.items ≤ removed.old.capacity }
     ensures heard { joined_all hosts.new.items marks.new.items ≡ heard_of (joined_all hosts.old.items marks.old.items) now }
     ensures late { removed.new.members ≡ removed.old.members ++ late_of (joined_all hosts.old.items marks.old.items) now }
     ensures ascends { Ascends host_node hosts.new.items }
@@ -38,15 +38,15 @@ pub(crate) fn drop_late(
     ensures spared { length spares.new.items ≡ length hosts.new.items }
     ensures backed { (table : List HostInfo) → AreBacked hosts.old.items spares.old.items table → AreBacked hosts.new.items spares.new.items table }
     ensures fewer { length hosts.new.items ≤ length hosts.old.items }
-    ensures list_room { removed.old.room ≤ removed.new.room }
-    ensures hosts_room { vec_capacity hosts.new ≡ vec_capacity hosts.old }
-    ensures marks_room { vec_capacity marks.new ≡ vec_capacity marks.old }
-    ensures spares_room { vec_capacity spares.new ≡ vec_capacity spares.old }
+    ensures list_capacity { removed.old.capacity ≤ removed.new.capacity }
+    ensures hosts_capacity { vec_capacity hosts.new ≡ vec_capacity hosts.old }
+    ensures marks_capacity { vec_capacity marks.new ≡ vec_capacity marks.old }
+    ensures spares_capacity { vec_capacity spares.new ≡ vec_capacity spares.old }
 {
     let mut at = 0;
     while at < hosts.len() {
         if is_mark_late(marks[at], now) {
-            removed.push_in_room(hosts[at].member);
+            removed.push_reserved(hosts[at].member);
             let _host = hosts.remove(at);
             let _mark = marks.remove(at);
             let _spare = spares.remove(at);

@@ -10,7 +10,7 @@ mod copying;
 mod late;
 mod list;
 mod marks;
-mod room;
+mod reserved;
 mod roster;
 mod search;
 

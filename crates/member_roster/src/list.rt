@@ -17,23 +17,23 @@ impl Model for MemberList {
 
     ghost Value = { Listed };
 
-    ghost view = { λ a. record { members = a.items.items; room = vec_capacity a.items } };
+    ghost view = { λ a. record { members = a.items.items; capacity = vec_capacity a.items } };
 }
 
 impl MemberList {
     /// The members of a vector, in its order.
     pub fn from_vec(items: Vec<Member>) -> MemberList
         ensures members { result.members ≡ items.items }
-        ensures room { result.room ≡ vec_capacity items }
+        ensures capacity { result.capacity ≡ vec_capacity items }
     {
         MemberList { items }
     }
 
     /// Puts a member at the end, for which there is room.
-    pub fn push_in_room(&mut self, member: Member)
-        requires { length self.old.members < self.old.room }
+    pub fn push_reserved(&mut self, member: Member)
+        requires { length self.old.members < self.old.capacity }
         ensures members { self.new.members ≡ self.old.members ++ member ∷ [] }
-        ensures room { self.old.room ≤ self.new.room }
+        ensures capacity { self.old.capacity ≤ self.new.capacity }
     {
         match self.items.push(member) {
             Ok(()) => {}
@@ -44,8 +44,8 @@ impl MemberList {
     /// Makes room for so many members.
     pub fn reserve(&mut self, count: usize) -> Result<(), OutOfMemory>
         ensures members { self.new.members ≡ self.old.members }
-        ensures room { self.old.room ≤ self.new.room }
-        ensures ok { OnOk result (count ≤ self.new.room) }
+        ensures capacity { self.old.capacity ≤ self.new.capacity }
+        ensures ok { OnOk result (count ≤ self.new.capacity) }
     {
         self.items.reserve(count.saturating_sub(self.items.len()))?;
         Ok(())
@@ -54,7 +54,7 @@ impl MemberList {
     /// The same members, with no less room.
     pub fn copy(&self, alloc: Global) -> Result<MemberList, OutOfMemory>
         ensures members { IfOk result (λ copy. copy.members ≡ self.now.members) }
-        ensures room { IfOk result (λ copy. self.now.room ≤ copy.room) }
+        ensures capacity { IfOk result (λ copy. self.now.capacity ≤ copy.capacity) }
     {
         let mut items = Vec::with_capacity(alloc, self.items.capacity())?;
         items.extend_from_slice(self.items.as_slice())?;
@@ -63,7 +63,7 @@ impl MemberList {
 
     /// No members any more, with the room that there was.
     pub fn clear(&mut self)
-        ensures { self.new ≡ record { members = []; room = self.old.room } }
+        ensures { self.new ≡ record { members = []; capacity = self.old.capacity } }
     {
         self.items.clear();
     }
@@ -78,7 +78,7 @@ impl MemberList {
     /// The vector of the members; takes no memory.
     pub fn into_vec(self) -> Vec<Member>
         ensures members { result.items ≡ self.members }
-        ensures room { vec_capacity result ≡ self.room }
+        ensures capacity { vec_capacity result ≡ self.capacity }
     {
         let MemberList { items } = self;
         items

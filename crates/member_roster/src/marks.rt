@@ -1,6 +1,6 @@
 // What is kept of a member beside its host.
 ghost use Rattle.std.specs.Prelude.{◌≡◌, map, vec_capacity};
-ghost use Rattle.member_roster.specs.Roster.{mark_weight, left_count, entered_mark, targeted_mark, restarted_mark};
+ghost use Rattle.member_roster.specs.Roster.{mark_weight, pending_count, entered_mark, targeted_mark, restarted_mark};
 
 /// When a member was last heard, and its part in the running round.
 #[derive(Clone, Copy)]
@@ -10,19 +10,19 @@ pub struct Mark {
     /// Whether it is a target of the running round.
     pub target: bool,
     /// Whether it hasn't acknowledged the stage of the round.
-    pub left: bool,
+    pub pending: bool,
 }
 
-/// How much it adds to the count of those left.
+/// How much it adds to the count of those pending.
 pub(crate) fn weigh_mark(mark: Mark) -> usize
     ensures { result ≡ mark_weight mark }
 {
-    if mark.left { 1 } else { 0 }
+    if mark.pending { 1 } else { 0 }
 }
 
-/// How many of them are left.
-pub(crate) fn count_left(marks: &[Mark]) -> usize
-    ensures { result ≡ left_count marks.now }
+/// How many of them are pending.
+pub(crate) fn count_pending(marks: &[Mark]) -> usize
+    ensures { result ≡ pending_count marks.now }
 {
     let mut count = 0;
     for i in 0..marks.len() {
@@ -31,37 +31,37 @@ pub(crate) fn count_left(marks: &[Mark]) -> usize
     count
 }
 
-/// The targets are left; counts them.
+/// The targets are pending; counts them.
 pub(crate) fn enter_marks(marks: &mut Vec<Mark>) -> usize
     ensures items { marks.new.items ≡ map entered_mark marks.old.items }
-    ensures room { vec_capacity marks.new ≡ vec_capacity marks.old }
-    ensures count { result ≡ left_count marks.new.items }
+    ensures capacity { vec_capacity marks.new ≡ vec_capacity marks.old }
+    ensures count { result ≡ pending_count marks.new.items }
 {
     for mark in marks.iter_mut() {
-        mark.left = mark.target;
+        mark.pending = mark.target;
     }
-    count_left(marks)
+    count_pending(marks)
 }
 
-/// Each is a target, and left.
+/// Each is a target, and pending.
 pub(crate) fn target_marks(marks: &mut Vec<Mark>)
     ensures items { marks.new.items ≡ map targeted_mark marks.old.items }
-    ensures room { vec_capacity marks.new ≡ vec_capacity marks.old }
+    ensures capacity { vec_capacity marks.new ≡ vec_capacity marks.old }
 {
     for mark in marks.iter_mut() {
         mark.target = true;
-        mark.left = true;
+        mark.pending = true;
     }
 }
 
 /// Each was heard now, and there is no round.
 pub(crate) fn restart_marks(marks: &mut Vec<Mark>, now: u64)
     ensures items { marks.new.items ≡ map (restarted_mark now) marks.old.items }
-    ensures room { vec_capacity marks.new ≡ vec_capacity marks.old }
+    ensures capacity { vec_capacity marks.new ≡ vec_capacity marks.old }
 {
     for mark in marks.iter_mut() {
         mark.heard = now;
         mark.target = false;
-        mark.left = false;
+        mark.pending = false;
     }
 }

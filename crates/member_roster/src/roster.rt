@@ -1,16 +1,16 @@
 // The members and the table that was fixed last.
 ghost use Rattle.std.specs.Prelude.{◌≡◌, ◌==◌, ◌+◌, ◌<◌, ◌≤◌, ◌↔◌, [], ◌∷◌, ◌++◌, None, false, length, map, IfOk, OnOk, OnErr, IsTrue, IsFalse, Some, max, option_map};
-ghost use Rattle.member_roster.specs.Members.{heard_at, acked_at, restarted_at, new_joined, boot_of, hosts_of, of_node, is_here, is_left, with_node, without_node, put_joined, Joined, is_late, late_of, heard_of, any_left, entered, targeted, target_hosts, removes_all};
+ghost use Rattle.member_roster.specs.Members.{heard_at, acked_at, restarted_at, new_joined, boot_of, hosts_of, of_node, is_here, is_pending, with_node, without_node, put_joined, Joined, is_late, late_of, heard_of, any_pending, entered, targeted, target_hosts, removes_all};
 ghost use Rattle.std.specs.List.{slice_get};
 ghost use Rattle.member_roster.specs.Places.{Ascends, host_node};
-ghost use Rattle.member_roster.specs.Roster.{RosterState, SameButRoom};
+ghost use Rattle.member_roster.specs.Roster.{RosterState, SameButCapacity};
 
 use crate::copies::{fix_table, give_back_all};
 use crate::copying::{copy_hosts, copy_marks, copy_spares};
 use crate::late::{drop_late, is_mark_late};
 use crate::list::MemberList;
-use crate::marks::{Mark, count_left, enter_marks, restart_marks, target_marks, weigh_mark};
-use crate::room::insert_in_room;
+use crate::marks::{Mark, count_pending, enter_marks, restart_marks, target_marks, weigh_mark};
+use crate::reserved::insert_reserved;
 use crate::search::{host_place, host_place_near};
 use actor_names::{Member, Node, OutOfMemory};
 use place_table::HostInfo;
@@ -18,7 +18,7 @@ use std::alloc::Global;
 use std::marker::Model;
 
 /// The members in byte order of node, at most 256, and the table that was fixed last. Of each member's host there
-/// is a second copy, which is spare or in the table. Those left are counted, and the place of the member that was
+/// is a second copy, which is spare or in the table. Those pending are counted, and the place of the member that was
 /// heard last is kept, since it is asked for again.
 #[derive(Drop)]
 pub struct Roster {
@@ -26,20 +26,20 @@ pub struct Roster {
     marks: Vec<Mark>,
     spares: Vec<Option<HostInfo>>,
     table: Vec<HostInfo>,
-    room: usize,
-    left: usize,
+    capacity: usize,
+    pending: usize,
     near: usize,
 }
 
 impl Model for Roster {
     ghost use Rattle.std.specs.Prelude.{vec_capacity};
-    ghost use Rattle.member_roster.specs.Roster.{RosterState, joined_all, IsRosterKept, HasRoom};
+    ghost use Rattle.member_roster.specs.Roster.{RosterState, joined_all, IsRosterKept, HasCapacity};
 
     ghost Value = { RosterState };
 
-    ghost view = { λ a. record { members = joined_all a.hosts.items a.marks.items; table = a.table.items; room = a.room } };
+    ghost view = { λ a. record { members = joined_all a.hosts.items a.marks.items; table = a.table.items; capacity = a.capacity } };
 
-    ghost invariant = { λ a. IsRosterKept a.hosts.items a.marks.items a.spares.items a.table.items a.room a.left × HasRoom a.room (vec_capacity a.hosts) (vec_capacity a.marks) (vec_capacity a.spares) (vec_capacity a.table) };
+    ghost invariant = { λ a. IsRosterKept a.hosts.items a.marks.items a.spares.items a.table.items a.capacity a.pending × HasCapacity a.capacity (vec_capacity a.hosts) (vec_capacity a.marks) (vec_capacity a.spares) (vec_capacity a.table) };
 }
 
 /// Whether the host is of the member's boot.
@@ -52,15 +52,15 @@ fn has_boot(host: &HostInfo, member: &Member) -> bool
 impl Roster {
     /// Nobody, and no table.
     pub fn new(alloc: Global) -> Roster
-        ensures { result ≡ record { members = []; table = []; room = 0 } }
+        ensures { result ≡ record { members = []; table = []; capacity = 0 } }
     {
         Roster {
             hosts: Vec::new(alloc),
             marks: Vec::new(alloc),
             spares: Vec::new(alloc),
             table: Vec::new(alloc),
-            room: 0,
-            left: 0,
+            capacity: 0,
+            pending: 0,
             near: 0,
         }
     }
@@ -85,16 +85,16 @@ impl Roster {
     pub fn len(&self) -> u32
         ensures count { result ≡ length self.now.members }
         ensures within { result ≤ 256 }
-        ensures room { result ≤ self.now.room }
+        ensures capacity { result ≤ self.now.capacity }
     {
         self.hosts.len() as u32
     }
 
     /// For how many members there is room.
-    pub fn room(&self) -> usize
-        ensures { result ≡ self.now.room }
+    pub fn capacity(&self) -> usize
+        ensures { result ≡ self.now.capacity }
     {
-        self.room
+        self.capacity
     }
 
     /// The boot of the member of this node.
@@ -107,24 +107,24 @@ impl Roster {
         }
     }
 
-    /// Whether the member of its node is among those left.
-    pub fn is_left(&self, member: &Member) -> bool
-        ensures { result ≡ is_left self.now.members member.now }
+    /// Whether the member of its node is among those pending.
+    pub fn is_pending(&self, member: &Member) -> bool
+        ensures { result ≡ is_pending self.now.members member.now }
     {
-        if self.left == 0 {
+        if self.pending == 0 {
             return false;
         }
         match host_place_near(&self.hosts, &member.node, self.near) {
-            Ok(at) => self.marks[at].left,
+            Ok(at) => self.marks[at].pending,
             Err(_) => false,
         }
     }
 
-    /// Whether anybody is left.
-    pub fn any_left(&self) -> bool
-        ensures { result ≡ any_left self.now.members }
+    /// Whether anybody is pending.
+    pub fn any_pending(&self) -> bool
+        ensures { result ≡ any_pending self.now.members }
     {
-        self.left > 0
+        self.pending > 0
     }
 
     /// The member is heard, if it is one; says whether it is.
@@ -147,7 +147,7 @@ impl Roster {
         }
     }
 
-    /// The member is heard, if it is one, and isn't left any more; says whether it is one.
+    /// The member is heard, if it is one, and isn't pending any more; says whether it is one.
     pub fn ack(&mut self, member: &Member, now: u64) -> bool
         ensures here { result ≡ is_here self.old.members member.now }
         ensures acked { IsTrue result → self.new ≡ record self.old { members = with_node self.old.members member.now.node (acked_at now) } }
@@ -161,8 +161,8 @@ impl Roster {
                 let weight = weigh_mark(self.marks[at]);
                 let mark = &mut self.marks[at];
                 mark.heard = now;
-                mark.left = false;
-                self.left -= weight;
+                mark.pending = false;
+                self.pending -= weight;
                 self.near = at;
                 true
             }
@@ -172,25 +172,25 @@ impl Roster {
 
     /// Makes room for one member more.
     pub fn reserve(&mut self) -> Result<(), OutOfMemory>
-        ensures same { SameButRoom self.old self.new }
-        ensures room { OnOk result (length self.old.members < self.new.room) }
-        ensures most { self.new.room ≤ max self.old.room (length self.old.members + 1) }
+        ensures same { SameButCapacity self.old self.new }
+        ensures capacity { OnOk result (length self.old.members < self.new.capacity) }
+        ensures most { self.new.capacity ≤ max self.old.capacity (length self.old.members + 1) }
     {
         let wanted = self.hosts.len() + 1;
-        if wanted <= self.room {
+        if wanted <= self.capacity {
             return Ok(());
         }
         self.hosts.reserve(1)?;
         self.marks.reserve(1)?;
         self.spares.reserve(1)?;
         self.table.reserve(wanted.saturating_sub(self.table.len()))?;
-        self.room = wanted;
+        self.capacity = wanted;
         Ok(())
     }
 
     /// A host joins, whose node has no member; `spare` is a copy of it.
     pub fn join(&mut self, host: HostInfo, spare: HostInfo, now: u64)
-        requires room { length self.old.members < self.old.room }
+        requires capacity { length self.old.members < self.old.capacity }
         requires few { length self.old.members < 256 }
         requires free { of_node self.old.members host.member.node ≡ None }
         requires copy { spare ≡ host }
@@ -199,14 +199,14 @@ impl Roster {
         match host_place(&self.hosts, &host.member.node) {
             Ok(_) => unreachable!(),
             Err(at) => {
-                insert_in_room(&mut self.hosts, at, host);
+                insert_reserved(&mut self.hosts, at, host);
                 let mark = Mark {
                     heard: now,
                     target: false,
-                    left: false,
+                    pending: false,
                 };
-                insert_in_room(&mut self.marks, at, mark);
-                insert_in_room(&mut self.spares, at, Some(spare));
+                insert_reserved(&mut self.marks, at, mark);
+                insert_reserved(&mut self.spares, at, Some(spare));
             }
         }
     }
@@ -226,7 +226,7 @@ impl Roster {
                 let mark = self.marks.remove(at);
                 let _spare = self.spares.remove(at);
                 let weight = weigh_mark(mark);
-                self.left -= weight;
+                self.pending -= weight;
                 true
             }
             Err(_) => false,
@@ -238,7 +238,7 @@ impl Roster {
         ensures all { IsTrue result → removes_all self.old.members members.now ≡ Some self.new.members }
         ensures stranger { IsFalse result → removes_all self.old.members members.now ≡ None }
         ensures table { self.new.table ≡ self.old.table }
-        ensures room { self.new.room ≡ self.old.room }
+        ensures capacity { self.new.capacity ≡ self.old.capacity }
     {
         for i in 0..members.len() {
             if !self.remove(&members[i]) {
@@ -255,21 +255,21 @@ impl Roster {
         fix_table(&self.hosts, &self.marks, &mut self.spares, &mut self.table);
     }
 
-    /// A round enters a stage: the targets are left.
+    /// A round enters a stage: the targets are pending.
     pub fn enter(&mut self)
         ensures { self.new ≡ record self.old { members = map entered self.old.members } }
     {
-        let left = enter_marks(&mut self.marks);
-        self.left = left;
+        let pending = enter_marks(&mut self.marks);
+        self.pending = pending;
     }
 
-    /// A round starts: each member is a target, and left.
+    /// A round starts: each member is a target, and pending.
     pub fn target(&mut self)
         ensures { self.new ≡ record self.old { members = map targeted self.old.members } }
     {
         target_marks(&mut self.marks);
-        let left = self.marks.len();
-        self.left = left;
+        let pending = self.marks.len();
+        self.pending = pending;
     }
 
     /// Whether the member at this place, from 0 in byte order of node, was not heard for 10,000 milliseconds or more.
@@ -283,10 +283,10 @@ impl Roster {
 
     /// Drops each member that was not heard for 10,000 milliseconds, and lists it.
     pub fn drop_late(&mut self, removed: &mut MemberList, now: u64)
-        requires { length removed.old.members + length self.old.members ≤ removed.old.room }
+        requires { length removed.old.members + length self.old.members ≤ removed.old.capacity }
         ensures members { self.new ≡ record self.old { members = heard_of self.old.members now } }
         ensures late { removed.new.members ≡ removed.old.members ++ late_of self.old.members now }
-        ensures room { removed.old.room ≤ removed.new.room }
+        ensures capacity { removed.old.capacity ≤ removed.new.capacity }
     {
         drop_late(
             &mut self.hosts,
@@ -295,8 +295,8 @@ impl Roster {
             removed,
             now,
         );
-        let left = count_left(&self.marks);
-        self.left = left;
+        let pending = count_pending(&self.marks);
+        self.pending = pending;
     }
 
     /// A restart: each member is heard, and there is no round and no table.
@@ -305,7 +305,7 @@ impl Roster {
     {
         give_back_all(&self.hosts, &mut self.spares, &mut self.table);
         restart_marks(&mut self.marks, now);
-        self.left = 0;
+        self.pending = 0;
     }
 
     /// Nobody, and no table.
@@ -316,23 +316,23 @@ impl Roster {
         self.marks.clear();
         self.spares.clear();
         self.table.clear();
-        self.left = 0;
+        self.pending = 0;
     }
     /// An equal roster, with the same room.
     pub fn copy(&self, alloc: Global) -> Result<Roster, OutOfMemory>
         ensures { IfOk result (λ copy. copy ≡ self.now) }
     {
-        let hosts = copy_hosts(alloc, self.hosts.as_slice(), self.room)?;
-        let marks = copy_marks(alloc, self.marks.as_slice(), self.room)?;
-        let spares = copy_spares(alloc, self.spares.as_slice(), self.room)?;
-        let table = copy_hosts(alloc, self.table.as_slice(), self.room)?;
+        let hosts = copy_hosts(alloc, self.hosts.as_slice(), self.capacity)?;
+        let marks = copy_marks(alloc, self.marks.as_slice(), self.capacity)?;
+        let spares = copy_spares(alloc, self.spares.as_slice(), self.capacity)?;
+        let table = copy_hosts(alloc, self.table.as_slice(), self.capacity)?;
         Ok(Roster {
             hosts,
             marks,
             spares,
             table,
-            room: self.room,
-            left: self.left,
+            capacity: self.capacity,
+            pending: self.pending,
             near: self.near,
         })
     }

@@ -11,10 +11,10 @@ use Rattle.round_core.specs.declared.event.PlaceReply.{PlaceReply}
 use Rattle.round_core.specs.declared.event.PlaceReply.TheVariants as replies
 use Rattle.round_core.specs.declared.phase.RoundPhase.{RoundPhase}
 use Rattle.round_core.specs.declared.phase.RoundPhase.TheVariants.{Quiet, Running}
-use Rattle.member_roster.specs.Members.{Joined, joined_node, hosts_of, of_node, has_boot, is_here, is_before, is_late, with_node, without_node, put_joined, late_of, heard_of, any_left, entered, targeted, heard_at, acked_at, new_joined}
+use Rattle.member_roster.specs.Members.{Joined, joined_node, hosts_of, of_node, has_boot, is_here, is_before, is_late, with_node, without_node, put_joined, late_of, heard_of, any_pending, entered, targeted, heard_at, acked_at, new_joined}
 use Rattle.round_core.specs.Placement.{PlacementState, Membership, Conclusion, Stays, Says, Tells, SameDurableState, next_stage, advance_round, may_start, start_round, advance_fully, settle_round, conclude, unchanged, not_member, with_member, with_joined, join_node, ack_change, remove_member, drop_late, apply_membership, placement_step}
 use Rattle.round_core.specs.Records.{RecordOf, changes_record, step_record}
-use Rattle.round_core.specs.Rooms.{PlacementView, Gives, GivesInMemory}
+use Rattle.round_core.specs.Views.{PlacementView, Gives, GivesInMemory}
 use Rattle.round_core.proofs.Giving.{counted}
 
 -- greatest boots and members are the same
@@ -55,7 +55,7 @@ next_keeps s (Running stages.Update) = record { boots = refl; hosts = hosts_map 
 next_keeps s (Running stages.Unlock) = record { boots = refl; hosts = refl }
 
 advance_keeps : (s : PlacementState) → Keeps s (advance_round s)
-advance_keeps s = go (any_left s.members)
+advance_keeps s = go (any_pending s.members)
   where
     go : (b : Bool) → Keeps s (cond b s (next_stage s s.phase))
     go true = keeps_all s

@@ -11,10 +11,10 @@ use Rattle.place_table.specs.declared.ack_stage.AckStage.TheVariants as stages
 use Rattle.round_core.specs.declared.phase.RoundPhase.{RoundPhase}
 use Rattle.round_core.specs.declared.phase.RoundPhase.TheVariants.{Quiet, Running}
 use Rattle.round_core.specs.declared.record.PlacementRecord as declared
-use Rattle.member_roster.specs.Members.{Joined, boot_of, is_here, is_left, is_late, heard_of, late_of}
+use Rattle.member_roster.specs.Members.{Joined, boot_of, is_here, is_pending, is_late, heard_of, late_of}
 use Rattle.round_core.specs.Placement.{PlacementState, Membership, Conclusion, apply_membership, conclude, settle_round, placement_restarted, reply_for, phase_reply, last_version}
 use Rattle.round_core.specs.Records.{record_of, changes_record, restart_record}
-use Rattle.round_core.specs.Rooms.{RoundState, with_state, PlacementView, Gives, GivesInMemory}
+use Rattle.round_core.specs.Views.{RoundState, with_state, PlacementView, Gives, GivesInMemory}
 
 gives : (event : PlaceEvent) (now : ℕ) (old new : PlacementView) (reply : PlaceReply) (t : Membership) → apply_membership old.state event now ≡ t → reply ≡ (conclude t.state t.conclusion).reply → new.state ≡ (conclude t.state t.conclusion).state → new.recent ≡ changes_record t.joined t.removed old.state.next_version (conclude t.state t.conclusion).state.next_version → Gives event now reply old new
 gives event now old new reply t e a b c = rw e (a, rw (← c, ← b) refl)
@@ -61,7 +61,7 @@ here_some (j ∷ js) m e = omega arith
 -- ---- a Register that had memory
 
 pub told_memory : (s : PlacementState) (m : Member) → reply_for s m ≡ replies.OutOfMemory → ⊥
-told_memory s m = go (is_left s.members m) s.phase
+told_memory s m = go (is_pending s.members m) s.phase
   where
     go : (b : Bool) (phase : RoundPhase) → cond b (phase_reply phase (last_version s)) replies.Idle ≡ replies.OutOfMemory → ⊥
     go false phase e = absurd (cc)

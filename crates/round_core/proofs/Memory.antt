@@ -12,7 +12,7 @@ use Rattle.round_core.specs.declared.event.PlaceReply.{PlaceReply}
 use Rattle.round_core.specs.declared.event.PlaceReply.TheVariants as replies
 use Rattle.member_roster.specs.Members.{Joined, of_node, is_here, is_before, greatest_boot, put_boot, heard_at, new_joined}
 use Rattle.round_core.specs.Placement.{PlacementState, Membership, settle_round, conclude, not_member, with_member, with_joined, join_node, is_full, ack_change, remove_member, apply_membership, placement_step, awoken}
-use Rattle.round_core.specs.Rooms.{PlacementView, Gives, GivesInMemory}
+use Rattle.round_core.specs.Views.{PlacementView, Gives, GivesInMemory}
 use Rattle.round_core.specs.Runs.{HasMember, ForgetsNothing}
 use Rattle.round_core.proofs.Durable.{Keeps, hosts_map, hosts_with, settle_keeps, conclude_keeps, ack_same}
 use Rattle.round_core.proofs.Hosts.{put_member, without_member, heard_member}

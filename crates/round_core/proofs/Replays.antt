@@ -46,7 +46,7 @@ removes_behind k (m ∷ ms) ks ls o e = rw o.0 (go (is_here ks m) (λ f. removes
     go true ih f = ih f
     go false ih f = absurd (cc)
 
--- the members that are left
+-- the members that are pending
 record IsRemoved (js ks : List Joined) (ms : List Member) : Type 0 where
   rest : List Joined
   removed : removes_all ks ms ≡ Some rest

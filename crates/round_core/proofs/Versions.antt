@@ -5,7 +5,7 @@ use Rattle.std.proofs.lemmas.Bool.{and_parts, ltb-true, cond_both}
 use Rattle.place_table.specs.declared.ack_stage.AckStage.TheVariants as stages
 use Rattle.round_core.specs.declared.phase.RoundPhase.{RoundPhase}
 use Rattle.round_core.specs.declared.phase.RoundPhase.TheVariants.{Quiet, Running}
-use Rattle.member_roster.specs.Members.{any_left, targeted}
+use Rattle.member_roster.specs.Members.{any_pending, targeted}
 use Rattle.round_core.specs.Placement.{PlacementState, Conclusion, Stays, Says, Tells, is_quiet, next_stage, advance_round, may_start, start_round, advance_fully, settle_round, conclude}
 
 pub record Rises (s t : PlacementState) : Type 0 where
@@ -26,7 +26,7 @@ next_rises s (Running stages.Update) = rises_all s _ refl
 next_rises s (Running stages.Unlock) = rises_all s _ refl
 
 advance_rises : (s : PlacementState) → Rises s (advance_round s)
-advance_rises s = go (any_left s.members)
+advance_rises s = go (any_pending s.members)
   where
     go : (b : Bool) → Rises s (cond b s (next_stage s s.phase))
     go true = rises_all s s refl

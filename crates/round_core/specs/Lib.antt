@@ -1,6 +1,6 @@
 pub mod Placement
 pub mod Openings
 pub mod Records
-pub mod Rooms
+pub mod Views
 pub mod Runs
 pub mod Reached

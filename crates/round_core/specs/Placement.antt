@@ -12,7 +12,7 @@ use Rattle.round_core.specs.declared.event.PlaceReply.TheVariants as replies
 use Rattle.round_core.specs.declared.phase.RoundPhase.{RoundPhase}
 use Rattle.round_core.specs.declared.phase.RoundPhase.TheVariants.{Quiet, Running}
 use Rattle.member_roster.specs.declared.book.Known.{Known}
-use Rattle.member_roster.specs.Members.{Joined, greatest_boot, is_known, put_boot, of_node, is_here, is_left, with_node, without_node, put_joined, late_of, heard_of, any_left, entered, targeted, target_hosts, heard_at, acked_at, restarted_at, hosts_of, new_joined}
+use Rattle.member_roster.specs.Members.{Joined, greatest_boot, is_known, put_boot, of_node, is_here, is_pending, with_node, without_node, put_joined, late_of, heard_of, any_pending, entered, targeted, target_hosts, heard_at, acked_at, restarted_at, hosts_of, new_joined}
 
 pub record PlacementState : Type 0 where
   pub next_version : ℕ
@@ -45,7 +45,7 @@ same_stage _ _ = false
 
 -- ---- rounds
 
--- the next stage, where nobody is left: it fixes the table, goes on, or ends the round
+-- the next stage, where nobody is pending: it fixes the table, goes on, or ends the round
 abbrev pub next_stage : PlacementState → RoundPhase → PlacementState
 next_stage s Quiet = s
 next_stage s (Running stages.Lock) = record s { phase = Running stages.Update; members = map entered s.members; table = target_hosts s.members }
@@ -53,7 +53,7 @@ next_stage s (Running stages.Update) = record s { phase = Running stages.Unlock;
 next_stage s (Running stages.Unlock) = record s { phase = Quiet }
 
 abbrev pub advance_round : PlacementState → PlacementState
-advance_round s = if any_left s.members then s else next_stage s s.phase
+advance_round s = if any_pending s.members then s else next_stage s s.phase
 
 abbrev pub is_quiet : RoundPhase → Bool
 is_quiet Quiet = true
@@ -62,7 +62,7 @@ is_quiet (Running stage) = false
 abbrev pub may_start : PlacementState → Bool
 may_start s = is_quiet s.phase && (s.dirty && nat_lt s.next_version version_limit)
 
--- a round begins where none is running and one is due: each member is a target, and left
+-- a round begins where none is running and one is due: each member is a target, and pending
 abbrev pub start_round : PlacementState → PlacementState
 start_round s =
     if may_start s then record s { next_version = s.next_version + 1; members = map targeted s.members; phase = Running stages.Lock; dirty = false } else s
@@ -86,9 +86,9 @@ abbrev pub phase_reply : RoundPhase → ℕ → PlaceReply
 phase_reply Quiet version = replies.Idle
 phase_reply (Running stage) version = stage_reply stage version
 
--- what a member is told: the stage of the round where it is among those left
+-- what a member is told: the stage of the round where it is among those pending
 abbrev pub reply_for : PlacementState → Member → PlaceReply
-reply_for s m = if is_left s.members m then phase_reply s.phase (last_version s) else replies.Idle
+reply_for s m = if is_pending s.members m then phase_reply s.phase (last_version s) else replies.Idle
 
 -- ---- membership
 

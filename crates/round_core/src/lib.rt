@@ -4,6 +4,7 @@
 // each step that a restart needs (`specs/Records`). Stands on `member_roster`, `place_table` and `actor_names`.
 #![tactic(auto)]
 
+mod admission;
 mod event;
 mod law;
 mod phase;
@@ -11,7 +12,6 @@ mod placement;
 mod record;
 mod restore;
 mod rounds;
-mod seating;
 
 pub use event::{PlaceEvent, PlaceReply};
 pub use law::{memory_law, restore_law};

@@ -9,13 +9,13 @@ ghost use Rattle.member_roster.specs.Places.{Ascends, host_node};
 ghost use Rattle.round_core.specs.Records.{record_of, restart_record, placement_restored, restored_record, IsBadAt};
 ghost use Rattle.round_core.specs.Runs.{RunEvent, ForgetsNothing, run_state, run_records};
 ghost use Rattle.round_core.specs.declared.restore.RestoreError.TheVariants.{OutOfMemory as out_of_memory};
-ghost use Rattle.round_core.specs.Rooms.{with_state, Gives, GivesInMemory, GivesStep};
+ghost use Rattle.round_core.specs.Views.{with_state, Gives, GivesInMemory, GivesStep};
 
+use crate::admission::admit;
 use crate::event::{PlaceEvent, PlaceReply};
 use crate::record::PlacementRecord;
 use crate::restore::{RestoreError, apply_records};
 use crate::rounds::Rounds;
-use crate::seating::seat;
 use actor_names::{Member, OutOfMemory};
 use member_roster::{MemberList, copy_option};
 use place_table::{AckStage, HostInfo};
@@ -35,13 +35,13 @@ impl Model for Placement {
     ghost use Rattle.std.specs.Prelude.{◌≤◌, if◌then◌else◌, Some, None};
     ghost use Rattle.round_core.specs.Openings.{IsNewOrUsed};
     ghost use Rattle.round_core.specs.Records.{record_of};
-    ghost use Rattle.round_core.specs.Rooms.{PlacementView};
+    ghost use Rattle.round_core.specs.Views.{PlacementView};
 
     ghost Value = { PlacementView };
 
     ghost view = { λ a. record { state = a.rounds.state; recent = if a.recorded then Some (record_of a.record) else None } };
 
-    ghost invariant = { λ a. (a.rounds.room ≤ a.record.removed.room) × IsNewOrUsed a.rounds.state };
+    ghost invariant = { λ a. (a.rounds.capacity ≤ a.record.removed.capacity) × IsNewOrUsed a.rounds.state };
 }
 
 /// A record of nothing.
@@ -58,7 +58,7 @@ fn new_record(alloc: Global) -> PlacementRecord
 
 /// Nobody joined or was removed.
 fn clear_record(record_: &mut PlacementRecord)
-    ensures { record_.new ≡ record record_.old { joined = None; removed = record { members = []; room = record_.old.removed.room } } }
+    ensures { record_.new ≡ record record_.old { joined = None; removed = record { members = []; capacity = record_.old.removed.capacity } } }
 {
     record_.joined = None;
     record_.removed.clear();
@@ -99,16 +99,16 @@ fn join(
     host: HostInfo,
     now: u64,
 ) -> Result<(), OutOfMemory>
-    requires room { rounds.old.room ≤ record_.old.removed.room }
+    requires capacity { rounds.old.capacity ≤ record_.old.removed.capacity }
     requires places { is_full rounds.old.state host.member.node ≡ false }
     requires free { of_node rounds.old.state.members host.member.node ≡ None }
     ensures ok { OnOk result ((rounds.new.state ≡ with_joined rounds.old.state host now) × (record_.new.joined ≡ Some host)) }
     ensures err { OnErr result (rounds.new.state ≡ rounds.old.state) }
     ensures removed { record_.new.removed.members ≡ record_.old.removed.members }
-    ensures room { rounds.new.room ≤ record_.new.removed.room }
+    ensures capacity { rounds.new.capacity ≤ record_.new.removed.capacity }
 {
     let shown = host.copy(alloc)?;
-    seat(alloc, rounds, &mut record_.removed, host, now)?;
+    admit(alloc, rounds, &mut record_.removed, host, now)?;
     record_.joined = Some(shown);
     Ok(())
 }
@@ -281,7 +281,7 @@ impl Placement {
                 greatest: self.rounds.greatest(&member.node),
             };
         }
-        self.record.removed.push_in_room(member);
+        self.record.removed.push_reserved(member);
         self.recorded = go_on(&mut self.rounds, &mut self.record);
         PlaceReply::Gone
     }

@@ -4,9 +4,9 @@ ghost use Rattle.round_core.specs.Placement.{PlacementState};
 ghost use Rattle.round_core.specs.Records.{record_of, after_join, after_record, after_records, IsBadAt};
 ghost use Rattle.std.specs.declared.result.Result.TheVariants.{Ok};
 
+use crate::admission::admit;
 use crate::record::PlacementRecord;
 use crate::rounds::{Rounds, VERSION_LIMIT};
-use crate::seating::seat;
 use actor_names::OutOfMemory;
 use member_roster::MemberList;
 use place_table::HostInfo;
@@ -33,15 +33,15 @@ fn join_again(
     removed: &mut MemberList,
     host: &HostInfo,
 ) -> Result<bool, OutOfMemory>
-    requires { rounds.old.room ≤ removed.old.room }
+    requires { rounds.old.capacity ≤ removed.old.capacity }
     ensures joined { IfOk result (λ b. after_join rounds.old.state (Some host.now) ≡ (if b then Some rounds.new.state else None)) }
-    ensures room { rounds.new.room ≤ removed.new.room }
+    ensures capacity { rounds.new.capacity ≤ removed.new.capacity }
 {
     if !rounds.may_join(host) {
         return Ok(false);
     }
     let copy = host.copy(alloc)?;
-    seat(alloc, rounds, removed, copy, 0)?;
+    admit(alloc, rounds, removed, copy, 0)?;
     Ok(true)
 }
 
@@ -52,9 +52,9 @@ fn join_recorded(
     removed: &mut MemberList,
     joined: &Option<HostInfo>,
 ) -> Result<bool, OutOfMemory>
-    requires { rounds.old.room ≤ removed.old.room }
+    requires { rounds.old.capacity ≤ removed.old.capacity }
     ensures joined { IfOk result (λ b. after_join rounds.old.state joined.now ≡ (if b then Some rounds.new.state else None)) }
-    ensures room { rounds.new.room ≤ removed.new.room }
+    ensures capacity { rounds.new.capacity ≤ removed.new.capacity }
 {
     match joined {
         None => Ok(true),
@@ -69,9 +69,9 @@ fn apply_record(
     removed: &mut MemberList,
     record_: &PlacementRecord,
 ) -> Result<bool, OutOfMemory>
-    requires { rounds.old.room ≤ removed.old.room }
+    requires { rounds.old.capacity ≤ removed.old.capacity }
     ensures after { IfOk result (λ b. after_record rounds.old.state (record_of record_.now) ≡ (if b then Some rounds.new.state else None)) }
-    ensures room { rounds.new.room ≤ removed.new.room }
+    ensures capacity { rounds.new.capacity ≤ removed.new.capacity }
 {
     let next = record_.next_version;
     if next < rounds.next_version() || next > VERSION_LIMIT {
@@ -94,10 +94,10 @@ pub(crate) fn apply_records(
     removed: &mut MemberList,
     records: &[PlacementRecord],
 ) -> Result<(), RestoreError>
-    requires { rounds.old.room ≤ removed.old.room }
+    requires { rounds.old.capacity ≤ removed.old.capacity }
     ensures after { OnOk result (after_records 0 rounds.old.state (map record_of records.now) ≡ Ok rounds.new.state) }
     ensures bad { IfErr result (λ e. IsBadAt e (after_records 0 rounds.old.state (map record_of records.now))) }
-    ensures room { rounds.new.room ≤ removed.new.room }
+    ensures capacity { rounds.new.capacity ≤ removed.new.capacity }
 {
     for i in 0..records.len() {
         match apply_record(alloc, rounds, removed, &records[i]) {

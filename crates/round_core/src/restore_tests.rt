@@ -5,7 +5,7 @@ use actor_names::read_member;
 use std::alloc::Global;
 use std::test::Fail;
 
-/// A run that is going on: the placement, and the records that it has left.
+/// A run that is going on: the placement, and the records that it has pending.
 #[derive(Drop)]
 struct Run {
     alloc: Global,

@@ -1,11 +1,11 @@
 // The members, their greatest boots, and the rounds that spread each table.
 ghost use Rattle.std.specs.Prelude.{◌≡◌, ◌==◌, ◌&&◌, true, ◌+◌, ◌<◌, ◌≤◌, ◌^◌, ◌++◌, length, IfOk, OnOk, OnErr, Some, None, false, max, option_map, IsTrue, IsFalse};
 ghost use Rattle.std.specs.List.{slice_get};
-ghost use Rattle.member_roster.specs.Members.{is_here, is_left, with_node, without_node, heard_at, hosts_of, boot_of, of_node, greatest_boot, Joined, is_late, late_of, removes_all};
+ghost use Rattle.member_roster.specs.Members.{is_here, is_pending, with_node, without_node, heard_at, hosts_of, boot_of, of_node, greatest_boot, Joined, is_late, late_of, removes_all};
 ghost use Rattle.round_core.specs.Placement.{placement_restarted, new_placement, advance_round, start_round, settle_round, advance_fully, may_start, is_in_stage, is_full, with_joined, drop_late, reply_for, last_version, ack_change};
 ghost use Rattle.member_roster.specs.Places.{Ascends, host_node};
 ghost use Rattle.round_core.specs.Records.{may_join};
-ghost use Rattle.round_core.specs.Rooms.{with_state};
+ghost use Rattle.round_core.specs.Views.{with_state};
 
 use crate::event::PlaceReply;
 use crate::phase::RoundPhase;
@@ -30,11 +30,11 @@ pub(crate) struct Rounds {
 
 impl Model for Rounds {
     ghost use Rattle.std.specs.Prelude.{◌≤◌, ◌^◌};
-    ghost use Rattle.round_core.specs.Rooms.{RoundState};
+    ghost use Rattle.round_core.specs.Views.{RoundState};
 
     ghost Value = { RoundState };
 
-    ghost view = { λ a. record { state = record { next_version = a.next_version; boots = a.boots; members = a.roster.members; phase = a.phase; dirty = a.dirty; table = a.roster.table }; room = a.roster.room } };
+    ghost view = { λ a. record { state = record { next_version = a.next_version; boots = a.boots; members = a.roster.members; phase = a.phase; dirty = a.dirty; table = a.roster.table }; capacity = a.roster.capacity } };
 
     ghost invariant = { λ a. (1 ≤ a.next_version) × (a.next_version ≤ 2 ^ 62) };
 }
@@ -42,7 +42,7 @@ impl Model for Rounds {
 impl Rounds {
     /// Nobody, and no round.
     pub(crate) fn new(alloc: Global) -> Rounds
-        ensures { result ≡ record { state = new_placement; room = 0 } }
+        ensures { result ≡ record { state = new_placement; capacity = 0 } }
     {
         Rounds {
             next_version: 1,
@@ -85,11 +85,11 @@ impl Rounds {
         self.boots.greatest(node)
     }
 
-    /// The next stage of the round, where nobody is left.
+    /// The next stage of the round, where nobody is pending.
     fn advance(&mut self)
         ensures { self.new ≡ with_state self.old (advance_round self.old.state) }
     {
-        if self.roster.any_left() {
+        if self.roster.any_pending() {
             return;
         }
         match self.phase {
@@ -166,7 +166,7 @@ impl Rounds {
     pub(crate) fn reply_for(&self, member: &Member) -> PlaceReply
         ensures { result ≡ reply_for self.now.state member.now }
     {
-        if !self.roster.is_left(member) {
+        if !self.roster.is_pending(member) {
             return PlaceReply::Idle;
         }
         let version = self.next_version - 1;
@@ -241,7 +241,7 @@ impl Rounds {
     /// How many members there are.
     pub(crate) fn len(&self) -> u32
         ensures count { result ≡ length self.now.state.members }
-        ensures room { result ≤ self.now.room }
+        ensures capacity { result ≤ self.now.capacity }
     {
         self.roster.len()
     }
@@ -289,18 +289,18 @@ impl Rounds {
     }
 
     /// For how many members there is room.
-    pub(crate) fn room(&self) -> usize
-        ensures { result ≡ self.now.room }
+    pub(crate) fn capacity(&self) -> usize
+        ensures { result ≡ self.now.capacity }
     {
-        self.roster.room()
+        self.roster.capacity()
     }
 
     /// Makes room for one member more.
     pub(crate) fn reserve(&mut self) -> Result<(), OutOfMemory>
         ensures state { self.new.state ≡ self.old.state }
-        ensures room { self.old.room ≤ self.new.room }
-        ensures ok { OnOk result (length self.old.state.members < self.new.room) }
-        ensures most { self.new.room ≤ max self.old.room (length self.old.state.members + 1) }
+        ensures capacity { self.old.capacity ≤ self.new.capacity }
+        ensures ok { OnOk result (length self.old.state.members < self.new.capacity) }
+        ensures most { self.new.capacity ≤ max self.old.capacity (length self.old.state.members + 1) }
     {
         self.roster.reserve()?;
         Ok(())
@@ -313,7 +313,7 @@ impl Rounds {
         spare: HostInfo,
         now: u64,
     ) -> Result<(), OutOfMemory>
-        requires room { length self.old.state.members < self.old.room }
+        requires capacity { length self.old.state.members < self.old.capacity }
         requires places { is_full self.old.state host.member.node ≡ false }
         requires free { of_node self.old.state.members host.member.node ≡ None }
         requires copy { spare ≡ host }
@@ -336,11 +336,11 @@ impl Rounds {
 
     /// Drops each member that was not heard for 10,000 milliseconds, lists it, and counts them.
     pub(crate) fn drop_late(&mut self, removed: &mut MemberList, now: u64) -> u32
-        requires { length removed.old.members + length self.old.state.members ≤ removed.old.room }
+        requires { length removed.old.members + length self.old.state.members ≤ removed.old.capacity }
         ensures state { self.new ≡ with_state self.old (drop_late self.old.state now).state }
         ensures late { removed.new.members ≡ removed.old.members ++ late_of self.old.state.members now }
         ensures count { result ≡ length (late_of self.old.state.members now) }
-        ensures room { removed.old.room ≤ removed.new.room }
+        ensures capacity { removed.old.capacity ≤ removed.new.capacity }
     {
         let before = self.roster.len();
         self.roster.drop_late(removed, now);

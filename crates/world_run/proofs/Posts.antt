@@ -15,8 +15,8 @@ use Rattle.round_core.specs.declared.event.PlaceReply.TheVariants as replies
 use Rattle.round_core.specs.Placement.{PlacementState, placement_step, placement_restarted, last_version}
 use Rattle.round_core.specs.Records.{restart_record}
 use Rattle.cluster_model.specs.World.{restarted_version}
-use Rattle.round_core.specs.Rooms as rooms
-use Rattle.round_core.specs.Rooms.{PlacementView}
+use Rattle.round_core.specs.Views as views
+use Rattle.round_core.specs.Views.{PlacementView}
 use Rattle.cluster_model.specs.Messages.{Request, UpdateTo, Message, Asks, Tells, table_of, answer_of, change_of, asker_of}
 use Rattle.world_run.specs.declared.kept.Kept.{Kept}
 use Rattle.world_run.specs.declared.kept.Kept.TheVariants as kept
@@ -41,7 +41,7 @@ numbered_at ts ks (suc n) x some within e =
 -- ---- steps of the placement
 
 -- another event wants no memory
-pub gives_other : (event : PlaceEvent) (now : ℕ) (reply : PlaceReply) (old new : PlacementView) → is_register event ≡ false → rooms.GivesStep event now reply old new → GivesReply event now reply old.state new.state
+pub gives_other : (event : PlaceEvent) (now : ℕ) (reply : PlaceReply) (old new : PlacementView) → is_register event ≡ false → views.GivesStep event now reply old new → GivesReply event now reply old.state new.state
 gives_other (changes.Register host) now reply old new e g = absurd (cc)
 gives_other (changes.Beat m) now reply old new e g = (g.0, ap (λ (v : PlacementView). v.state) g.1)
 gives_other (changes.Ack m stage version) now reply old new e g = (g.0, ap (λ (v : PlacementView). v.state) g.1)
@@ -50,16 +50,16 @@ gives_other (changes.Lost m) now reply old new e g = (g.0, ap (λ (v : Placement
 gives_other changes.Tick now reply old new e g = (g.0, ap (λ (v : PlacementView). v.state) g.1)
 gives_other changes.Look now reply old new e g = (g.0, ap (λ (v : PlacementView). v.state) g.1)
 
-in_memory : (event : PlaceEvent) (now : ℕ) (reply : PlaceReply) (old new : PlacementView) → place_wants reply ≡ false → rooms.GivesInMemory event now reply old new → GivesReply event now reply old.state new.state
+in_memory : (event : PlaceEvent) (now : ℕ) (reply : PlaceReply) (old new : PlacementView) → place_wants reply ≡ false → views.GivesInMemory event now reply old new → GivesReply event now reply old.state new.state
 in_memory event now replies.OutOfMemory old new e g = absurd (cc)
 in_memory event now reply old new e g = (g.0, ap (λ (v : PlacementView). v.state) g.1)
 
-without : (event : PlaceEvent) (now : ℕ) (reply : PlaceReply) (old new : PlacementView) → place_wants reply ≡ true → rooms.GivesInMemory event now reply old new → new.state ≡ old.state
+without : (event : PlaceEvent) (now : ℕ) (reply : PlaceReply) (old new : PlacementView) → place_wants reply ≡ true → views.GivesInMemory event now reply old new → new.state ≡ old.state
 without event now replies.OutOfMemory old new e g = ap (λ (v : PlacementView). v.state) g
 without event now reply old new e g = absurd (cc)
 
 -- a Register that wanted none
-pub gives_register : (event : PlaceEvent) (now : ℕ) (reply : PlaceReply) (old new : PlacementView) → place_wants reply ≡ false → rooms.GivesStep event now reply old new → GivesReply event now reply old.state new.state
+pub gives_register : (event : PlaceEvent) (now : ℕ) (reply : PlaceReply) (old new : PlacementView) → place_wants reply ≡ false → views.GivesStep event now reply old new → GivesReply event now reply old.state new.state
 gives_register (changes.Register host) now reply old new e g = in_memory (changes.Register host) now reply old new e g
 gives_register (changes.Beat m) now reply old new e g = gives_other (changes.Beat m) now reply old new refl g
 gives_register (changes.Ack m stage version) now reply old new e g = gives_other (changes.Ack m stage version) now reply old new refl g
@@ -68,7 +68,7 @@ gives_register (changes.Lost m) now reply old new e g = gives_other (changes.Los
 gives_register changes.Tick now reply old new e g = gives_other changes.Tick now reply old new refl g
 gives_register changes.Look now reply old new e g = gives_other changes.Look now reply old new refl g
 
-pub gives_none : (event : PlaceEvent) (now : ℕ) (reply : PlaceReply) (old new : PlacementView) → is_register event ≡ true → place_wants reply ≡ true → rooms.GivesStep event now reply old new → new.state ≡ old.state
+pub gives_none : (event : PlaceEvent) (now : ℕ) (reply : PlaceReply) (old new : PlacementView) → is_register event ≡ true → place_wants reply ≡ true → views.GivesStep event now reply old new → new.state ≡ old.state
 gives_none (changes.Register host) now reply old new e f g = without (changes.Register host) now reply old new f g
 gives_none (changes.Beat m) now reply old new e f g = absurd (cc)
 gives_none (changes.Ack m stage version) now reply old new e f g = absurd (cc)

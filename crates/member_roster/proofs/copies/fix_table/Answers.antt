@@ -14,8 +14,8 @@ loop-i-init c =
       backed = c.give_back_all.ensures.spares;
       long = length-spare c.args.hosts.now c.give_back_all.new.spares.items c.give_back_all.ensures.spares;
       few = omega arith;
-      room = (let r = c.give_back_all.ensures.room in omega arith);
-      spares_room = c.give_back_all.ensures.spares_room;
+      capacity = (let r = c.give_back_all.ensures.capacity in omega arith);
+      spares_capacity = c.give_back_all.ensures.spares_capacity;
     }
 
 pub take_spare-copy-requires-clause-spare : goal.take_spare-copy-requires-clause-spare
@@ -35,19 +35,19 @@ loop-i-preserved c =
           let s = spare_at i hs c.loop-i.spares.items c.loop-i.table.items no_host v.backed within in
           let was = w.take_spare-copy.ensures.value in
           let q : w.take_spare-copy.result ≡ get_or hs i no_host = some_same _ _ (sym was ∙ s) in
-          let r = w.push_in_room.ensures.room in
-          let old = v.room in
+          let r = w.push_reserved.ensures.capacity in
+          let old = v.capacity in
           let f = v.few in
-          let e1 = w.push_in_room.new.items.ok.0 in
+          let e1 = w.push_reserved.new.items.ok.0 in
           let e2 = c.loop-i.table.ok.0 in
-          let e3 = ap length w.push_in_room.ensures.items in
+          let e3 = ap length w.push_reserved.ensures.items in
           record {
-            table = rw (add-one, w.table-is, w.push_in_room.ensures.items, q) (ap (λ (t : List HostInfo). t ++ get_or hs i no_host ∷ []) v.table ∙ sym (target-more hs ms i no_host no_mark c.requires.marked within w.if-marks-i.true));
-            backed = rw (add-one, w.table-is, w.spares-is, w.take_spare-copy.ensures.rest, w.push_in_room.ensures.items, q) (backed_target i hs c.loop-i.spares.items c.loop-i.table.items no_host v.backed within);
+            table = rw (add-one, w.table-is, w.push_reserved.ensures.items, q) (ap (λ (t : List HostInfo). t ++ get_or hs i no_host ∷ []) v.table ∙ sym (target-more hs ms i no_host no_mark c.requires.marked within w.if-marks-i.true));
+            backed = rw (add-one, w.table-is, w.spares-is, w.take_spare-copy.ensures.rest, w.push_reserved.ensures.items, q) (backed_target i hs c.loop-i.spares.items c.loop-i.table.items no_host v.backed within);
             long = rw (w.spares-is, w.take_spare-copy.ensures.rest, length-set) v.long;
             few = rw w.table-is (omega (arith, length-append c.loop-i.table.items (w.take_spare-copy.result ∷ [])));
-            room = rw w.table-is (omega arith);
-            spares_room = rw w.spares-is (w.take_spare-copy.ensures.room ∙ v.spares_room);
+            capacity = rw w.table-is (omega arith);
+            spares_capacity = rw w.spares-is (w.take_spare-copy.ensures.capacity ∙ v.spares_capacity);
           }
       | else-marks-i w ↦
           record {
@@ -55,8 +55,8 @@ loop-i-preserved c =
             backed = rw (add-one, w.table-is, w.spares-is) (backed_other i hs c.loop-i.spares.items c.loop-i.table.items v.backed within);
             long = rw w.spares-is v.long;
             few = rw w.table-is (let f = v.few in omega arith);
-            room = rw w.table-is v.room;
-            spares_room = rw w.spares-is v.spares_room;
+            capacity = rw w.table-is v.capacity;
+            spares_capacity = rw w.spares-is v.spares_capacity;
           }
     ]
 

@@ -11,6 +11,6 @@ invariant-loop-i l =
       backed : AreBackedTo l.i l.hosts l.spares.items l.table.items;
       long : length l.spares.items ≡ length l.hosts;
       few : vec_len l.table ≤ l.i;
-      room : vec_capacity l.fn.table ≤ vec_capacity l.table;
-      spares_room : vec_capacity l.spares ≡ vec_capacity l.fn.spares;
+      capacity : vec_capacity l.fn.table ≤ vec_capacity l.table;
+      spares_capacity : vec_capacity l.spares ≡ vec_capacity l.fn.spares;
     }

@@ -8,8 +8,8 @@ invariant-loop-copy l =
     record {
       long : length l.spares.items ≡ length l.hosts;
       backed : AreBacked l.hosts l.spares.items l.table.items;
-      room : vec_capacity l.table ≡ vec_capacity l.fn.table;
-      spares_room : vec_capacity l.spares ≡ vec_capacity l.fn.spares;
+      capacity : vec_capacity l.table ≡ vec_capacity l.fn.table;
+      spares_capacity : vec_capacity l.spares ≡ vec_capacity l.fn.spares;
     }
 
 abbrev pub decreases-loop-copy : goal.decreases-loop-copy

@@ -25,9 +25,9 @@ loop-at-preserved-then-is_mark_late c =
     let vm = v.marked in
     let vs = v.spared in
     let vf = v.fewer in
-    let vr = v.room in
-    let vl = v.list_room in
-    let pr = c.push_in_room.ensures.room in
+    let vr = v.capacity in
+    let vl = v.list_capacity in
+    let pr = c.push_reserved.ensures.capacity in
     let l0 = c.loop-at.hosts.ok.0 in
     let within : c.loop-at.at < length c.loop-at.hosts.items = omega arith in
     let t : is_late c.args.now (joined_of (get_or hs i d) (get_or ms i k)) ≡ true = subst (λ (x : Mark). nat_le 10000 (c.args.now - x.heard) ≡ true) c.index.ensures (sym c.is_mark_late.ensures ∙ c.if-is_mark_late.true) in
@@ -37,7 +37,7 @@ loop-at-preserved-then-is_mark_late c =
     let e = length-remove ss i (rw v.spared within) in
     record {
       heard = rw (c.remove-host.ensures.items, c.remove-mark.ensures.items, take_remove hs i, take_remove ms i) (v.heard ∙ ap (λ (js : List Joined). joined_all (take i hs) (take i ms) ++ js) (heard_skip hs ms i c.args.now d k v.marked within t));
-      late = rw (c.remove-host.ensures.items, c.remove-mark.ensures.items, c.push_in_room.ensures.members) (
+      late = rw (c.remove-host.ensures.items, c.remove-mark.ensures.items, c.push_reserved.ensures.members) (
           v.late ∙ ap (λ (xs : List Member). c.loop-at.removed.members ++ xs) (late_skip hs ms i c.args.now d k v.marked within t)
           ∙ ap (λ (h : HostInfo). c.loop-at.removed.members ++ h.member ∷ rest) (sym c.index-then-is_mark_late.ensures)
           ∙ sym (append_assoc c.loop-at.removed.members (d.member ∷ []) rest)
@@ -47,11 +47,11 @@ loop-at-preserved-then-is_mark_late c =
       spared = rw (c.remove-host.ensures.items, c.remove-spare.ensures.items) (omega arith);
       backed = λ table x. rw (c.remove-host.ensures.items, c.remove-spare.ensures.items) (backed_remove hs ss table i (v.backed table x));
       fewer = rw c.remove-host.ensures.items (omega arith);
-      room = rw (c.remove-host.ensures.items, c.push_in_room.ensures.members) (omega (arith, length-append c.loop-at.removed.members (d.member ∷ [])));
-      list_room = omega arith;
-      hosts_room = c.remove-host.ensures.capacity ∙ v.hosts_room;
-      marks_room = c.remove-mark.ensures.capacity ∙ v.marks_room;
-      spares_room = c.remove-spare.ensures.capacity ∙ v.spares_room;
+      capacity = rw (c.remove-host.ensures.items, c.push_reserved.ensures.members) (omega (arith, length-append c.loop-at.removed.members (d.member ∷ [])));
+      list_capacity = omega arith;
+      hosts_capacity = c.remove-host.ensures.capacity ∙ v.hosts_capacity;
+      marks_capacity = c.remove-mark.ensures.capacity ∙ v.marks_capacity;
+      spares_capacity = c.remove-spare.ensures.capacity ∙ v.spares_capacity;
       within = rw c.remove-host.ensures.items (omega arith);
     }
 
@@ -73,10 +73,10 @@ loop-at-preserved c =
       spared = v.spared;
       backed = v.backed;
       fewer = v.fewer;
-      room = v.room;
-      list_room = v.list_room;
-      hosts_room = v.hosts_room;
-      marks_room = v.marks_room;
-      spares_room = v.spares_room;
+      capacity = v.capacity;
+      list_capacity = v.list_capacity;
+      hosts_capacity = v.hosts_capacity;
+      marks_capacity = v.marks_capacity;
+      spares_capacity = v.spares_capacity;
       within = omega arith;
     }

@@ -16,11 +16,11 @@ invariant-loop-at l =
       spared : length l.spares.items ≡ length l.hosts.items;
       backed : (table : List HostInfo) → AreBacked l.initial.hosts.items l.initial.spares.items table → AreBacked l.hosts.items l.spares.items table;
       fewer : length l.hosts.items ≤ length l.initial.hosts.items;
-      room : length l.removed.members + length l.hosts.items ≤ l.removed.room;
-      list_room : l.initial.removed.room ≤ l.removed.room;
-      hosts_room : vec_capacity l.hosts ≡ vec_capacity l.initial.hosts;
-      marks_room : vec_capacity l.marks ≡ vec_capacity l.initial.marks;
-      spares_room : vec_capacity l.spares ≡ vec_capacity l.initial.spares;
+      capacity : length l.removed.members + length l.hosts.items ≤ l.removed.capacity;
+      list_capacity : l.initial.removed.capacity ≤ l.removed.capacity;
+      hosts_capacity : vec_capacity l.hosts ≡ vec_capacity l.initial.hosts;
+      marks_capacity : vec_capacity l.marks ≡ vec_capacity l.initial.marks;
+      spares_capacity : vec_capacity l.spares ≡ vec_capacity l.initial.spares;
       within : l.at ≤ length l.hosts.items;
     }
 

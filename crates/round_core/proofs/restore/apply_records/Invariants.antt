@@ -6,5 +6,5 @@ abbrev pub invariant-loop-i : goal.invariant-loop-i
 invariant-loop-i l =
     record {
       rest : after_records 0 l.fn.rounds.state (map record_of l.records) ≡ after_records l.i l.rounds.state (map record_of (drop l.i l.records));
-      room : l.rounds.room ≤ l.removed.room;
+      capacity : l.rounds.capacity ≤ l.removed.capacity;
     }

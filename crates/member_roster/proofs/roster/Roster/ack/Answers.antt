@@ -11,8 +11,8 @@ use Rattle.member_roster.proofs.roster.Roster.ack.Goals as goal
 pub returns-else-not-has_boot-clause-acked : goal.returns-else-not-has_boot-clause-acked
 returns-else-not-has_boot-clause-acked c = λ yes.
     let p : place_by host_node c.args.member.now.node c.self.inside.hosts.items ≡ Ok c.in-Ok.at = rw c.deref.ensures.value at (sym c.host_place.ensures.place ∙ c.in-Ok.is) in
-    let f : List Joined → RosterState = λ js. record { members = js; table = c.self.inside.table.items; room = c.self.inside.room } in
-    let g : Mark → Mark = λ k. record k { heard = c.args.now; left = false } in
+    let f : List Joined → RosterState = λ js. record { members = js; table = c.self.inside.table.items; capacity = c.self.inside.capacity } in
+    let g : Mark → Mark = λ k. record k { heard = c.args.now; pending = false } in
     rw (← c.self.view_is) (ap (λ (k : Mark). f (joined_all c.self.inside.hosts.items (set c.self.inside.marks.items c.in-Ok.at (g k)))) c.index_mut-mark.ensures.value ∙ ap f (sym (with_node-found c.args.member.now.node c.self.inside.hosts.items c.self.inside.marks.items c.in-Ok.at g (acked_at c.args.now) c.index_mut-mark.result.now (λ h k. refl) p)))
 
 pub returns-in-Err-clause-here : goal.returns-in-Err-clause-here
@@ -38,7 +38,7 @@ overflow_sub-self c =
     let ms = c.self.inside.marks.items in
     let d = c.index-in-Ok.result.now in
     let within : c.in-Ok.at < length c.self.inside.hosts.items = ok_within host_node c.args.member.now.node c.self.inside.hosts.items c.in-Ok.at (rw c.deref.ensures.value at (sym c.host_place.ensures.place ∙ c.in-Ok.is)) in
-    let e = count-set ms c.in-Ok.at (record { heard = c.args.now; target = c.index_mut-mark.result.now.target; left = false }) d (rw k.marked within) in
+    let e = count-set ms c.in-Ok.at (record { heard = c.args.now; target = c.index_mut-mark.result.now.target; pending = false }) d (rw k.marked within) in
     let w = ap mark_weight c.index-in-Ok.ensures in
     let x = c.weigh_mark-weight.ensures in
     let kc = k.counted in
@@ -50,9 +50,9 @@ invariant_of-self c =
     let ms = c.self.inside.marks.items in
     let d = c.index-in-Ok.result.now in
     let within : c.in-Ok.at < length c.self.inside.hosts.items = ok_within host_node c.args.member.now.node c.self.inside.hosts.items c.in-Ok.at (rw c.deref.ensures.value at (sym c.host_place.ensures.place ∙ c.in-Ok.is)) in
-    let e = count-set ms c.in-Ok.at (record { heard = c.args.now; target = c.index_mut-mark.result.now.target; left = false }) d (rw k.marked within) in
+    let e = count-set ms c.in-Ok.at (record { heard = c.args.now; target = c.index_mut-mark.result.now.target; pending = false }) d (rw k.marked within) in
     let w = ap mark_weight c.index-in-Ok.ensures in
     let x = c.weigh_mark-weight.ensures in
     let kc = k.counted in
     let r = c.self.invariant.1 in
-    (record { ascends = k.ascends; marked = rw length-set k.marked; spared = k.spared; backed = k.backed; few = k.few; within = k.within; ordered = k.ordered; counted = omega arith }, record { hosts_room = r.hosts_room; marks_room = r.marks_room; spares_room = r.spares_room; table_room = r.table_room })
+    (record { ascends = k.ascends; marked = rw length-set k.marked; spared = k.spared; backed = k.backed; few = k.few; within = k.within; ordered = k.ordered; counted = omega arith }, record { hosts_capacity = r.hosts_capacity; marks_capacity = r.marks_capacity; spares_capacity = r.spares_capacity; table_capacity = r.table_capacity })

@@ -11,7 +11,7 @@ use Rattle.member_roster.proofs.roster.Roster.hear.Goals as goal
 pub returns-else-not-has_boot-clause-heard : goal.returns-else-not-has_boot-clause-heard
 returns-else-not-has_boot-clause-heard c = λ yes.
     let p : place_by host_node c.args.member.now.node c.self.inside.hosts.items ≡ Ok c.in-Ok.at = rw c.deref.ensures.value at (sym c.host_place.ensures.place ∙ c.in-Ok.is) in
-    let f : List Joined → RosterState = λ js. record { members = js; table = c.self.inside.table.items; room = c.self.inside.room } in
+    let f : List Joined → RosterState = λ js. record { members = js; table = c.self.inside.table.items; capacity = c.self.inside.capacity } in
     let g : Mark → Mark = λ k. record k { heard = c.args.now } in
     rw (← c.self.view_is) (ap (λ (k : Mark). f (joined_all c.self.inside.hosts.items (set c.self.inside.marks.items c.in-Ok.at (g k)))) c.index_mut-mark.ensures.value ∙ ap f (sym (with_node-found c.args.member.now.node c.self.inside.hosts.items c.self.inside.marks.items c.in-Ok.at g (heard_at c.args.now) c.index_mut-mark.result.now (λ h k. refl) p)))
 
@@ -42,4 +42,4 @@ invariant_of-self c =
     let e = count-set ms c.in-Ok.at (record d { heard = c.args.now }) d (rw k.marked within) in
     let w = ap mark_weight c.index_mut-mark.ensures.value in
     let kc = k.counted in
-    (record { ascends = k.ascends; marked = rw length-set k.marked; spared = k.spared; backed = k.backed; few = k.few; within = k.within; ordered = k.ordered; counted = omega arith }, record { hosts_room = r.hosts_room; marks_room = r.marks_room; spares_room = r.spares_room; table_room = r.table_room })
+    (record { ascends = k.ascends; marked = rw length-set k.marked; spared = k.spared; backed = k.backed; few = k.few; within = k.within; ordered = k.ordered; counted = omega arith }, record { hosts_capacity = r.hosts_capacity; marks_capacity = r.marks_capacity; spares_capacity = r.spares_capacity; table_capacity = r.table_capacity })

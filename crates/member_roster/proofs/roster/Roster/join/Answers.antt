@@ -19,30 +19,30 @@ unreachable-requires c =
     let free : of_node (joined_all c.self.inside.hosts.items c.self.inside.marks.items) c.args.host.member.node ≡ None = rw (← c.self.view_is) at c.requires.free in
     absurd (cc)
 
-pub insert_in_room-requires-clause-room : goal.insert_in_room-requires-clause-room
-insert_in_room-requires-clause-room c =
+pub insert_reserved-requires-clause-capacity : goal.insert_reserved-requires-clause-capacity
+insert_reserved-requires-clause-capacity c =
     let l = length-joined_all c.self.inside.hosts.items c.self.inside.marks.items c.self.invariant.0.marked in
-    let r : length (joined_all c.self.inside.hosts.items c.self.inside.marks.items) < c.self.inside.room = rw (← c.self.view_is) at c.requires.room in
+    let r : length (joined_all c.self.inside.hosts.items c.self.inside.marks.items) < c.self.inside.capacity = rw (← c.self.view_is) at c.requires.capacity in
     let e = c.self.inside.hosts.ok.0 in
-    let h = c.self.invariant.1.hosts_room in
+    let h = c.self.invariant.1.hosts_capacity in
     omega arith
 
-pub insert_in_room-requires-in-Err-clause-room : goal.insert_in_room-requires-in-Err-clause-room
-insert_in_room-requires-in-Err-clause-room c =
+pub insert_reserved-requires-in-Err-clause-capacity : goal.insert_reserved-requires-in-Err-clause-capacity
+insert_reserved-requires-in-Err-clause-capacity c =
     let l = length-joined_all c.self.inside.hosts.items c.self.inside.marks.items c.self.invariant.0.marked in
-    let r : length (joined_all c.self.inside.hosts.items c.self.inside.marks.items) < c.self.inside.room = rw (← c.self.view_is) at c.requires.room in
+    let r : length (joined_all c.self.inside.hosts.items c.self.inside.marks.items) < c.self.inside.capacity = rw (← c.self.view_is) at c.requires.capacity in
     let e = c.self.inside.marks.ok.0 in
     let m = c.self.invariant.0.marked in
-    let h = c.self.invariant.1.marks_room in
+    let h = c.self.invariant.1.marks_capacity in
     omega arith
 
-pub insert_in_room-requires-in-Err-2-clause-room : goal.insert_in_room-requires-in-Err-2-clause-room
-insert_in_room-requires-in-Err-2-clause-room c =
+pub insert_reserved-requires-in-Err-2-clause-capacity : goal.insert_reserved-requires-in-Err-2-clause-capacity
+insert_reserved-requires-in-Err-2-clause-capacity c =
     let l = length-joined_all c.self.inside.hosts.items c.self.inside.marks.items c.self.invariant.0.marked in
-    let r : length (joined_all c.self.inside.hosts.items c.self.inside.marks.items) < c.self.inside.room = rw (← c.self.view_is) at c.requires.room in
+    let r : length (joined_all c.self.inside.hosts.items c.self.inside.marks.items) < c.self.inside.capacity = rw (← c.self.view_is) at c.requires.capacity in
     let e = c.self.inside.spares.ok.0 in
     let m = c.self.invariant.0.spared in
-    let h = c.self.invariant.1.spares_room in
+    let h = c.self.invariant.1.spares_capacity in
     omega arith
 
 pub invariant_of-self : goal.invariant_of-self
@@ -54,34 +54,34 @@ invariant_of-self c =
     let p : place_by host_node c.args.host.member.node c.self.inside.hosts.items ≡ Err c.in-Err.at = rw c.deref.ensures.value at (sym c.host_place.ensures.place ∙ c.in-Err.is) in
     let within : i ≤ length hs = err_within host_node c.args.host.member.node hs i p in
     let l = length-joined_all c.self.inside.hosts.items c.self.inside.marks.items k.marked in
-    let room : length (joined_all c.self.inside.hosts.items c.self.inside.marks.items) < c.self.inside.room = rw (← c.self.view_is) at c.requires.room in
+    let capacity : length (joined_all c.self.inside.hosts.items c.self.inside.marks.items) < c.self.inside.capacity = rw (← c.self.view_is) at c.requires.capacity in
     let few : length (joined_all c.self.inside.hosts.items c.self.inside.marks.items) < 256 = rw (← c.self.view_is) at c.requires.few in
     let a = length-insert hs i c.args.host within in
-    let b = length-insert c.self.inside.marks.items i (record { heard = c.args.now; target = false; left = false }) (rw k.marked within) in
+    let b = length-insert c.self.inside.marks.items i (record { heard = c.args.now; target = false; pending = false }) (rw k.marked within) in
     let d = length-insert c.self.inside.spares.items i (Some c.args.spare) (rw k.spared within) in
     let km = k.marked in
     let ks = k.spared in
-    let hr = r.hosts_room in
-    let mr = r.marks_room in
-    let sr = r.spares_room in
-    let h2 = c.insert_in_room.ensures.room in
-    let m2 = c.insert_in_room-in-Err.ensures.room in
-    let s2 = c.insert_in_room-in-Err-2.ensures.room in (
+    let hr = r.hosts_capacity in
+    let mr = r.marks_capacity in
+    let sr = r.spares_capacity in
+    let h2 = c.insert_reserved.ensures.capacity in
+    let m2 = c.insert_reserved-in-Err.ensures.capacity in
+    let s2 = c.insert_reserved-in-Err-2.ensures.capacity in (
       record {
-        ascends = rw c.insert_in_room.ensures.items (ascends_insert host_node c.args.host hs i p k.ascends);
-        marked = rw (c.insert_in_room.ensures.items, c.insert_in_room-in-Err.ensures.items) (omega arith);
-        spared = rw (c.insert_in_room.ensures.items, c.insert_in_room-in-Err-2.ensures.items) (omega arith);
-        backed = rw (c.insert_in_room.ensures.items, c.insert_in_room-in-Err-2.ensures.items) (backed_insert hs c.self.inside.spares.items c.self.inside.table.items i c.args.host c.args.spare c.requires.copy k.backed);
-        few = rw c.insert_in_room.ensures.items (omega arith);
-        within = rw c.insert_in_room.ensures.items (omega arith);
+        ascends = rw c.insert_reserved.ensures.items (ascends_insert host_node c.args.host hs i p k.ascends);
+        marked = rw (c.insert_reserved.ensures.items, c.insert_reserved-in-Err.ensures.items) (omega arith);
+        spared = rw (c.insert_reserved.ensures.items, c.insert_reserved-in-Err-2.ensures.items) (omega arith);
+        backed = rw (c.insert_reserved.ensures.items, c.insert_reserved-in-Err-2.ensures.items) (backed_insert hs c.self.inside.spares.items c.self.inside.table.items i c.args.host c.args.spare c.requires.copy k.backed);
+        few = rw c.insert_reserved.ensures.items (omega arith);
+        within = rw c.insert_reserved.ensures.items (omega arith);
         ordered = k.ordered;
-        counted = rw c.insert_in_room-in-Err.ensures.items (let n = count-insert c.self.inside.marks.items i (record { heard = c.args.now; target = false; left = false }) in let kc = k.counted in omega arith);
+        counted = rw c.insert_reserved-in-Err.ensures.items (let n = count-insert c.self.inside.marks.items i (record { heard = c.args.now; target = false; pending = false }) in let kc = k.counted in omega arith);
       },
-      record { hosts_room = omega arith; marks_room = omega arith; spares_room = omega arith; table_room = r.table_room },
+      record { hosts_capacity = omega arith; marks_capacity = omega arith; spares_capacity = omega arith; table_capacity = r.table_capacity },
     )
 
 pub returns : goal.returns
 returns c =
     let p : place_by host_node c.args.host.member.node c.self.inside.hosts.items ≡ Err c.in-Err.at = rw c.deref.ensures.value at (sym c.host_place.ensures.place ∙ c.in-Err.is) in
-    let f : List Joined → RosterState = λ js. record { members = js; table = c.self.inside.table.items; room = c.self.inside.room } in
-    rw (← c.self.view_is, c.insert_in_room.ensures.items, c.insert_in_room-in-Err.ensures.items) (ap f (sym (put_joined-at c.args.host (record { heard = c.args.now; target = false; left = false }) c.self.inside.hosts.items c.self.inside.marks.items c.in-Err.at c.self.invariant.0.marked p)))
+    let f : List Joined → RosterState = λ js. record { members = js; table = c.self.inside.table.items; capacity = c.self.inside.capacity } in
+    rw (← c.self.view_is, c.insert_reserved.ensures.items, c.insert_reserved-in-Err.ensures.items) (ap f (sym (put_joined-at c.args.host (record { heard = c.args.now; target = false; pending = false }) c.self.inside.hosts.items c.self.inside.marks.items c.in-Err.at c.self.invariant.0.marked p)))

@@ -34,13 +34,13 @@ invariant_of-self c =
         ordered = k.ordered;
         counted = rw c.remove-mark.ensures.items (let e = count-remove c.self.inside.marks.items i c.remove-mark.result (rw k.marked within) in let w = ap mark_weight c.remove-mark.ensures.value in let x = c.weigh_mark-weight.ensures in let kc = k.counted in omega arith);
       },
-      record { hosts_room = rw c.remove-host.ensures.capacity r.hosts_room; marks_room = rw c.remove-mark.ensures.capacity r.marks_room; spares_room = rw c.remove-spare.ensures.capacity r.spares_room; table_room = r.table_room },
+      record { hosts_capacity = rw c.remove-host.ensures.capacity r.hosts_capacity; marks_capacity = rw c.remove-mark.ensures.capacity r.marks_capacity; spares_capacity = rw c.remove-spare.ensures.capacity r.spares_capacity; table_capacity = r.table_capacity },
     )
 
 pub returns-else-not-has_boot-clause-removed : goal.returns-else-not-has_boot-clause-removed
 returns-else-not-has_boot-clause-removed c = λ yes.
     let p : place_by host_node c.args.member.now.node c.self.inside.hosts.items ≡ Ok c.in-Ok.at = rw c.deref.ensures.value at (sym c.host_place.ensures.place ∙ c.in-Ok.is) in
-    let f : List Joined → RosterState = λ js. record { members = js; table = c.self.inside.table.items; room = c.self.inside.room } in
+    let f : List Joined → RosterState = λ js. record { members = js; table = c.self.inside.table.items; capacity = c.self.inside.capacity } in
     rw (← c.self.view_is, c.remove-host.ensures.items, c.remove-mark.ensures.items) (ap f (sym (without_node-found c.args.member.now.node c.self.inside.hosts.items c.self.inside.marks.items c.in-Ok.at c.self.invariant.0.marked p)))
 
 pub returns-else-not-has_boot-clause-here : goal.returns-else-not-has_boot-clause-here

@@ -7,5 +7,5 @@ invariant-loop-i l =
     record {
       rest : removes_all l.fn.self.members l.members ≡ removes_all l.self.members (drop l.i l.members);
       table : l.self.table ≡ l.fn.self.table;
-      room : l.self.room ≡ l.fn.self.room;
+      capacity : l.self.capacity ≡ l.fn.self.capacity;
     }

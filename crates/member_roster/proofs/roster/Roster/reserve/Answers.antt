@@ -2,14 +2,14 @@ use Rattle.std.proofs.Common.{arith}
 use Rattle.member_roster.proofs.Rosters.{length-joined_all}
 use Rattle.member_roster.proofs.roster.Roster.reserve.Goals as goal
 
-pub returns-then-wanted-self-clause-room : goal.returns-then-wanted-self-clause-room
-returns-then-wanted-self-clause-room c =
+pub returns-then-wanted-self-clause-capacity : goal.returns-then-wanted-self-clause-capacity
+returns-then-wanted-self-clause-capacity c =
     let l = length-joined_all c.self.inside.hosts.items c.self.inside.marks.items c.self.invariant.0.marked in
     let e = c.self.inside.hosts.ok.0 in
     rw (← c.self.view_is) (omega arith)
 
-pub returns-clause-room : goal.returns-clause-room
-returns-clause-room c =
+pub returns-clause-capacity : goal.returns-clause-capacity
+returns-clause-capacity c =
     let l = length-joined_all c.self.inside.hosts.items c.self.inside.marks.items c.self.invariant.0.marked in
     let e = c.self.inside.hosts.ok.0 in
     rw (← c.self.view_is) (omega arith)

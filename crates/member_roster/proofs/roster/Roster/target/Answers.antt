@@ -9,11 +9,11 @@ use Rattle.member_roster.proofs.roster.Roster.target.Goals as goal
 
 pub returns : goal.returns
 returns c =
-    let f : List Joined → RosterState = λ js. record { members = js; table = c.self.inside.table.items; room = c.self.inside.room } in
+    let f : List Joined → RosterState = λ js. record { members = js; table = c.self.inside.table.items; capacity = c.self.inside.capacity } in
     rw (← c.self.view_is) (ap (λ (ms : List Mark). f (joined_all c.self.inside.hosts.items ms)) c.target_marks.ensures.items ∙ ap f (sym (joined_all-map targeted_mark targeted c.self.inside.hosts.items c.self.inside.marks.items (λ h k. refl))))
 
 pub invariant_of-self : goal.invariant_of-self
 invariant_of-self c =
     let k = c.self.invariant.0 in
     let r = c.self.invariant.1 in
-    (record { ascends = k.ascends; marked = rw (c.target_marks.ensures.items, length-map) k.marked; spared = k.spared; backed = k.backed; few = k.few; within = k.within; ordered = k.ordered; counted = rw c.target_marks.ensures.items (let a = count-targeted c.self.inside.marks.items in let b = simp length-map at (ap length c.target_marks.ensures.items) in let l = c.len-left.ensures in let n = c.target_marks.new.marks.ok.0 in omega arith) }, record { hosts_room = r.hosts_room; marks_room = rw c.target_marks.ensures.room r.marks_room; spares_room = r.spares_room; table_room = r.table_room })
+    (record { ascends = k.ascends; marked = rw (c.target_marks.ensures.items, length-map) k.marked; spared = k.spared; backed = k.backed; few = k.few; within = k.within; ordered = k.ordered; counted = rw c.target_marks.ensures.items (let a = count-targeted c.self.inside.marks.items in let b = simp length-map at (ap length c.target_marks.ensures.items) in let l = c.len-pending.ensures in let n = c.target_marks.new.marks.ok.0 in omega arith) }, record { hosts_capacity = r.hosts_capacity; marks_capacity = rw c.target_marks.ensures.capacity r.marks_capacity; spares_capacity = r.spares_capacity; table_capacity = r.table_capacity })

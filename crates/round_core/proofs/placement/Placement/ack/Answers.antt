@@ -4,7 +4,7 @@ use Rattle.round_core.specs.declared.event.PlaceEvent.TheVariants as events
 use Rattle.member_roster.specs.Members.{is_here, with_node}
 use Rattle.round_core.specs.Openings.{IsNewOrUsed}
 use Rattle.round_core.specs.Placement.{PlacementState, Tells, reply_for, ack_change, settle_round}
-use Rattle.round_core.specs.Rooms.{RoundState, PlacementView}
+use Rattle.round_core.specs.Views.{RoundState, PlacementView}
 use Rattle.round_core.proofs.Giving.{settled_gives}
 use Rattle.round_core.proofs.Openings.{told_kept}
 use Rattle.round_core.proofs.placement.Placement.ack.Goals as goal

@@ -5,7 +5,7 @@ use Rattle.round_core.specs.declared.event.PlaceEvent.TheVariants as events
 use Rattle.member_roster.specs.Members.{is_here, of_node, greatest_boot, with_node, heard_at}
 use Rattle.round_core.specs.Openings.{IsNewOrUsed}
 use Rattle.round_core.specs.Placement.{PlacementState, Tells, reply_for, settle_round, is_full, with_joined}
-use Rattle.round_core.specs.Rooms.{RoundState, PlacementView}
+use Rattle.round_core.specs.Views.{RoundState, PlacementView}
 use Rattle.round_core.proofs.Giving.{settled_gives, told_memory, had_memory, not_at_most, no_boot}
 use Rattle.round_core.proofs.Openings.{told_kept, joined_kept}
 use Rattle.round_core.proofs.placement.Placement.register.Goals as goal

@@ -5,21 +5,21 @@ use Rattle.round_core.specs.declared.event.PlaceReply.TheVariants as replies
 use Rattle.member_roster.specs.Members.{is_here, without_node}
 use Rattle.round_core.specs.Openings.{IsNewOrUsed}
 use Rattle.round_core.specs.Placement.{PlacementState, Says}
-use Rattle.round_core.specs.Rooms.{RoundState, PlacementView}
+use Rattle.round_core.specs.Views.{RoundState, PlacementView}
 use Rattle.round_core.proofs.Giving.{settled_gives, here_some}
 use Rattle.round_core.proofs.Openings.{told_kept}
 use Rattle.round_core.proofs.placement.Placement.remove.Goals as goal
 
-pub push_in_room-requires : goal.push_in_room-requires
-push_in_room-requires c =
+pub push_reserved-requires : goal.push_reserved-requires
+push_reserved-requires c =
     let h : c.remove.result ≡ true = search rules in
     let here : is_here c.self.inside.rounds.state.members c.args.member ≡ true = sym c.remove.ensures.here ∙ h in
     let some = here_some c.self.inside.rounds.state.members c.args.member here in
     let count = c.len-members.ensures.count in
-    let room = c.len-members.ensures.room in
+    let capacity = c.len-members.ensures.capacity in
     let kept = c.self.invariant.0 in
     let none = ap (λ (r : declared.PlacementRecord). length r.removed.members) c.clear_record.ensures in
-    let same = ap (λ (r : declared.PlacementRecord). r.removed.room) c.clear_record.ensures in
+    let same = ap (λ (r : declared.PlacementRecord). r.removed.capacity) c.clear_record.ensures in
     omega arith
 
 pub returns-clause-leave : goal.returns-clause-leave
@@ -28,13 +28,13 @@ returns-clause-leave c = λ now.
     let h : c.remove.result ≡ true = search rules in
     let here : is_here c.args.self.now.state.members c.args.member ≡ true = rw (← st) (sym c.remove.ensures.here ∙ h) in
     let g = λ (s : PlacementState). record s { members = without_node s.members c.args.member.node; dirty = true } in
-    let before : declared.PlacementRecord = record c.clear_record.new.record_ { removed = c.push_in_room.new.self } in
+    let before : declared.PlacementRecord = record c.clear_record.new.record_ { removed = c.push_reserved.new.self } in
     settled_gives c.args.self.now (events.Leave c.args.member) now c.remove.new.self c.go_on-self-inside.new.rounds (g c.args.self.now.state) before c.go_on-self-inside.new.record_ c.go_on-self-inside.result replies.Gone None (c.args.member ∷ []) (Says replies.Gone)
     (rw here refl) refl refl
     (ap (λ (r : RoundState). r.state) (c.remove.ensures.removed h) ∙ ap g st)
     c.go_on-self-inside.ensures.rounds
     (ap (λ (r : declared.PlacementRecord). r.joined) c.clear_record.ensures)
-    (c.push_in_room.ensures.members ∙ ap (λ (r : declared.PlacementRecord). r.removed.members ++ c.args.member ∷ []) c.clear_record.ensures)
+    (c.push_reserved.ensures.members ∙ ap (λ (r : declared.PlacementRecord). r.removed.members ++ c.args.member ∷ []) c.clear_record.ensures)
     c.go_on-self-inside.ensures.noted
     c.go_on-self-inside.ensures.changed
     refl
@@ -45,13 +45,13 @@ returns-clause-lost c = λ now.
     let h : c.remove.result ≡ true = search rules in
     let here : is_here c.args.self.now.state.members c.args.member ≡ true = rw (← st) (sym c.remove.ensures.here ∙ h) in
     let g = λ (s : PlacementState). record s { members = without_node s.members c.args.member.node; dirty = true } in
-    let before : declared.PlacementRecord = record c.clear_record.new.record_ { removed = c.push_in_room.new.self } in
+    let before : declared.PlacementRecord = record c.clear_record.new.record_ { removed = c.push_reserved.new.self } in
     settled_gives c.args.self.now (events.Lost c.args.member) now c.remove.new.self c.go_on-self-inside.new.rounds (g c.args.self.now.state) before c.go_on-self-inside.new.record_ c.go_on-self-inside.result replies.Gone None (c.args.member ∷ []) (Says replies.Gone)
     (rw here refl) refl refl
     (ap (λ (r : RoundState). r.state) (c.remove.ensures.removed h) ∙ ap g st)
     c.go_on-self-inside.ensures.rounds
     (ap (λ (r : declared.PlacementRecord). r.joined) c.clear_record.ensures)
-    (c.push_in_room.ensures.members ∙ ap (λ (r : declared.PlacementRecord). r.removed.members ++ c.args.member ∷ []) c.clear_record.ensures)
+    (c.push_reserved.ensures.members ∙ ap (λ (r : declared.PlacementRecord). r.removed.members ++ c.args.member ∷ []) c.clear_record.ensures)
     c.go_on-self-inside.ensures.noted
     c.go_on-self-inside.ensures.changed
     refl

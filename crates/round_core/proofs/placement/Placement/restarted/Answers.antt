@@ -3,7 +3,7 @@ use Rattle.round_core.specs.declared.record.PlacementRecord as declared
 use Rattle.round_core.specs.Openings.{IsNewOrUsed}
 use Rattle.round_core.specs.Placement.{PlacementState, placement_restarted}
 use Rattle.round_core.specs.Records.{restart_record}
-use Rattle.round_core.specs.Rooms.{RoundState, PlacementView}
+use Rattle.round_core.specs.Views.{RoundState, PlacementView}
 use Rattle.round_core.specs.Runs.{ForgetsNothing}
 use Rattle.round_core.proofs.Giving.{restarted_gives}
 use Rattle.round_core.proofs.Openings.{restart_kept}

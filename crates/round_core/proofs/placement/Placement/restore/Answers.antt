@@ -3,7 +3,7 @@ use Rattle.std.specs.declared.result.Result.TheVariants.{Ok}
 use Rattle.round_core.specs.Openings.{IsNewOrUsed}
 use Rattle.round_core.specs.Placement.{PlacementState, new_placement}
 use Rattle.round_core.specs.Records.{RecordOf, record_of, after_records, IsBadAt}
-use Rattle.round_core.specs.Rooms.{RoundState}
+use Rattle.round_core.specs.Views.{RoundState}
 use Rattle.round_core.proofs.Openings.{restart_kept}
 use Rattle.round_core.proofs.Replays.{run_restarts, run_is_good}
 use Rattle.round_core.proofs.placement.Placement.restore.Goals as goal

@@ -5,7 +5,7 @@ use Rattle.round_core.specs.declared.event.PlaceReply.TheVariants as replies
 use Rattle.member_roster.specs.Members.{late_of}
 use Rattle.round_core.specs.Openings.{IsNewOrUsed}
 use Rattle.round_core.specs.Placement.{PlacementState, Says, drop_late, settle_round}
-use Rattle.round_core.specs.Rooms.{RoundState, PlacementView}
+use Rattle.round_core.specs.Views.{RoundState, PlacementView}
 use Rattle.round_core.proofs.Giving.{settled_gives}
 use Rattle.round_core.proofs.Openings.{dropped_kept}
 use Rattle.round_core.proofs.placement.Placement.tick.Goals as goal

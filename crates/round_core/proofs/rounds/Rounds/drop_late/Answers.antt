@@ -1,7 +1,7 @@
 use Rattle.std.proofs.Common.{◌≡◌, ◌<◌, Bool, length, ap, arith}
 use Rattle.member_roster.specs.Members.{heard_of, late_of}
 use Rattle.member_roster.specs.Roster.{RosterState}
-use Rattle.round_core.specs.Rooms.{RoundState}
+use Rattle.round_core.specs.Views.{RoundState}
 use Rattle.round_core.proofs.Giving.{counted, dirty_more, dirty_same}
 use Rattle.round_core.proofs.rounds.Rounds.drop_late.Goals as goal
 
@@ -20,7 +20,7 @@ returns-then-dropped-gt0-clause-state c =
     let a = c.len.ensures.count in
     let b = c.len-before.ensures.count in
     let more : 0 < length (late_of c.self.inside.roster.members c.args.now) = omega arith in
-    let f : Bool → RoundState = λ d. record { state = record { next_version = c.self.inside.next_version; boots = c.self.inside.boots; members = heard_of c.self.inside.roster.members c.args.now; phase = c.self.inside.phase; dirty = d; table = c.self.inside.roster.table }; room = c.self.inside.roster.room } in
+    let f : Bool → RoundState = λ d. record { state = record { next_version = c.self.inside.next_version; boots = c.self.inside.boots; members = heard_of c.self.inside.roster.members c.args.now; phase = c.self.inside.phase; dirty = d; table = c.self.inside.roster.table }; capacity = c.self.inside.roster.capacity } in
     rw (← c.self.view_is, c.drop_late.ensures.members) (ap f (dirty_more c.self.inside.dirty (length (late_of c.self.inside.roster.members c.args.now)) more))
 
 pub returns-then-dropped-gt0-clause-count : goal.returns-then-dropped-gt0-clause-count
@@ -38,7 +38,7 @@ returns-else-dropped-gt0-clause-state c =
     let a = c.len.ensures.count in
     let b = c.len-before.ensures.count in
     let none : length (late_of c.self.inside.roster.members c.args.now) ≡ 0 = omega arith in
-    let f : Bool → RoundState = λ d. record { state = record { next_version = c.self.inside.next_version; boots = c.self.inside.boots; members = heard_of c.self.inside.roster.members c.args.now; phase = c.self.inside.phase; dirty = d; table = c.self.inside.roster.table }; room = c.self.inside.roster.room } in
+    let f : Bool → RoundState = λ d. record { state = record { next_version = c.self.inside.next_version; boots = c.self.inside.boots; members = heard_of c.self.inside.roster.members c.args.now; phase = c.self.inside.phase; dirty = d; table = c.self.inside.roster.table }; capacity = c.self.inside.roster.capacity } in
     rw (← c.self.view_is, c.drop_late.ensures.members) (ap f (dirty_same c.self.inside.dirty (length (late_of c.self.inside.roster.members c.args.now)) none))
 
 pub returns-else-dropped-gt0-clause-count : goal.returns-else-dropped-gt0-clause-count

@@ -10,20 +10,20 @@ use place_table::HostInfo;
 use std::alloc::Global;
 
 /// A host joins: its second copy, and the room to remove it and all others, are made first.
-pub(crate) fn seat(
+pub(crate) fn admit(
     alloc: Global,
     rounds: &mut Rounds,
     removed: &mut MemberList,
     host: HostInfo,
     now: u64,
 ) -> Result<(), OutOfMemory>
-    requires room { rounds.old.room ≤ removed.old.room }
+    requires capacity { rounds.old.capacity ≤ removed.old.capacity }
     requires places { is_full rounds.old.state host.member.node ≡ false }
     requires free { of_node rounds.old.state.members host.member.node ≡ None }
     ensures ok { OnOk result (rounds.new.state ≡ with_joined rounds.old.state host now) }
     ensures err { OnErr result (rounds.new.state ≡ rounds.old.state) }
     ensures removed { removed.new.members ≡ removed.old.members }
-    ensures room { rounds.new.room ≤ removed.new.room }
+    ensures capacity { rounds.new.capacity ≤ removed.new.capacity }
 {
     let spare = host.copy(alloc)?;
     let wanted = rounds.len() as usize + 1;

@@ -3,11 +3,11 @@ ghost use Rattle.std.specs.Prelude.{◌≡◌, ◌<◌, ◌≤◌, ◌∷◌, �
 ghost use Rattle.std.specs.List.{insert};
 
 /// Puts an element at a place of a vector with room for it.
-pub(crate) fn insert_in_room<T: Drop>(items: &mut Vec<T>, at: usize, item: T)
-    requires room { vec_len items.old < vec_capacity items.old }
+pub(crate) fn insert_reserved<T: Drop>(items: &mut Vec<T>, at: usize, item: T)
+    requires capacity { vec_len items.old < vec_capacity items.old }
     requires place { at ≤ vec_len items.old }
     ensures items { items.new.items ≡ insert items.old.items at item }
-    ensures room { vec_capacity items.old ≤ vec_capacity items.new }
+    ensures capacity { vec_capacity items.old ≤ vec_capacity items.new }
 {
     match items.insert(at, item) {
         Ok(()) => {}
@@ -16,10 +16,10 @@ pub(crate) fn insert_in_room<T: Drop>(items: &mut Vec<T>, at: usize, item: T)
 }
 
 /// Puts an element at the end of a vector with room for it.
-pub(crate) fn push_in_room<T: Drop>(items: &mut Vec<T>, item: T)
+pub(crate) fn push_reserved<T: Drop>(items: &mut Vec<T>, item: T)
     requires { vec_len items.old < vec_capacity items.old }
     ensures items { items.new.items ≡ items.old.items ++ item ∷ [] }
-    ensures room { vec_capacity items.old ≤ vec_capacity items.new }
+    ensures capacity { vec_capacity items.old ≤ vec_capacity items.new }
 {
     match items.push(item) {
         Ok(()) => {}

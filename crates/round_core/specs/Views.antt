@@ -10,7 +10,7 @@ use Rattle.round_core.specs.Records.{RecordOf, step_record}
 -- a state, and for how many members there is room
 pub record RoundState : Type 0 where
   pub state : PlacementState
-  pub room : ℕ
+  pub capacity : ℕ
 
 abbrev pub with_state : RoundState → PlacementState → RoundState
 with_state r s = record r { state = s }
