@@ -10,6 +10,6 @@ mod memory;
 mod port;
 mod real;
 
-pub use memory::{MemSink, MemSource};
-pub use port::{PortError, Sink, Source};
+pub use memory::{MemConn, MemSink, MemSource};
+pub use port::{Clock, Conn, Dial, Listen, PortError, Sink, Source};
 pub use real::{ReaderSource, WriterSink};

@@ -1,6 +1,7 @@
 // The traits of the outside, and their one error.
-ghost use Rattle.std.specs.Prelude.{◌≡◌, ◌<◌, ◌≤◌, ℕ, List, Option, IfOk, OnErr};
+ghost use Rattle.std.specs.Prelude.{◌≡◌, ◌<◌, ◌≤◌, ℕ, ◌+◌, List, Option, None, option_map, IfOk, IfErr, OnErr};
 ghost use Rattle.actor_ports.specs.Port.{HasCause, Appends, TakesFront, WritesAll};
+ghost use Rattle.actor_ports.specs.Traffic.{Place, Traffic, Dialled, Receives, Sends, Dials, TakesRoom, TakesBack, Counts, StartsAnew};
 
 use thiserror::Error;
 
@@ -23,6 +24,9 @@ pub trait Source {
     /// How often the source has failed so far.
     ghost read_faults: { Self → ℕ };
 
+    /// Of a connection that tells its bytes, what went over it so far; of any other source nothing.
+    ghost read_traffic: { Self → Option Traffic } = { λ _. None };
+
     /// Appends up to `most` bytes to `into` and answers how many; 0 only at the end of what is left.
     /// After an error nothing was appended. After `Failed` a front of what was left may be lost, after `OutOfMemory`
     /// nothing is.
@@ -31,7 +35,8 @@ pub trait Source {
         ensures most { IfOk result (λ n. n ≤ most) }
         ensures appends { Appends into.old.items into.new.items result }
         ensures front { TakesFront (remaining self.old) (remaining self.new) into.old.items into.new.items result }
-        ensures cause { HasCause (read_faults self.old) (read_faults self.new) result };
+        ensures cause { HasCause (read_faults self.old) (read_faults self.new) result }
+        ensures receives { Receives (read_traffic self.old) (read_traffic self.new) result };
 }
 
 /// Where bytes go: a file, a stream or a list in memory.
@@ -42,8 +47,94 @@ pub trait Sink {
     /// How often the sink has failed so far.
     ghost write_faults: { Self → ℕ };
 
+    /// Of a connection that tells its bytes, what went over it so far; of any other sink nothing.
+    ghost write_traffic: { Self → Option Traffic } = { λ _. None };
+
     /// Writes all of the bytes. After `Failed` a front of them was written, after `OutOfMemory` none.
     fn write(&mut self, bytes: &[u8]) -> Result<(), PortError>
         ensures written { WritesAll (contents self.old) (contents self.new) bytes.now result }
-        ensures cause { HasCause (write_faults self.old) (write_faults self.new) result };
+        ensures cause { HasCause (write_faults self.old) (write_faults self.new) result }
+        ensures sends { Sends (write_traffic self.old) (write_traffic self.new) bytes.now result };
+}
+
+/// One end of a connection: a source and a sink in one, with one count of faults and one traffic for both.
+/// A read leaves what was written, and a write leaves what is left to read; a read that fails loses nothing of it.
+pub trait Conn: Source + Sink + Drop + Send {
+    ghost one_count: { (c : Self) → Self.read_faults c ≡ Self.write_faults c };
+
+    ghost one_traffic: { (c : Self) → Self.read_traffic c ≡ Self.write_traffic c };
+
+    ghost left_told: { (c : Self) → Self.remaining c ≡ option_map (λ (t : Traffic). t.left) (Self.read_traffic c) };
+}
+
+/// Who makes connections.
+pub trait Dial: Drop + Send {
+    type Link: Conn;
+
+    /// How often the dialler has failed so far, in dials and in links given back.
+    ghost dial_faults: { Self → ℕ };
+
+    /// What was dialled and given back, where the dialler tells it.
+    ghost dialled: { Self → Option Dialled };
+
+    /// How many more links can be given back: at least those that it has dialled and not yet taken back.
+    ghost room: { Self → ℕ };
+
+    /// Connects to a port of an IPv4 address, whose first byte is the highest. The link has no fault yet.
+    fn dial(&mut self, ip: u32, port: u16) -> Result<Self::Link, PortError>
+        ensures fresh { IfOk result (λ link. Self.Link.read_faults link ≡ 0) }
+        ensures dials { Dials Self.Link.read_traffic (dialled self.old) (dialled self.new) (record { ip = ip; port = port }) result }
+        ensures room { TakesRoom (room self.old) (room self.new) result }
+        ensures cause { HasCause (dial_faults self.old) (dial_faults self.new) result };
+
+    /// Takes a link back. It takes no memory and can't fail; a link that failed counts as a fault of the dialler.
+    fn done(&mut self, link: Self::Link)
+        requires { 0 < room self.old }
+        ensures takes_back { TakesBack (dialled self.old) (dialled self.new) (Self.Link.read_traffic link) }
+        ensures room { room self.old ≤ room self.new + 1 }
+        ensures cause { Counts (dial_faults self.old) (dial_faults self.new) (Self.Link.read_faults link) };
+
+    /// Another dialler of the same kind, with a count of its own. Want of memory is its one error.
+    fn another(&self) -> Result<Self, PortError>
+    where
+        Self: Sized,
+        ensures fresh { IfOk result (λ other. dial_faults other ≡ 0) }
+        ensures anew { IfOk result (λ other. StartsAnew (dialled self.now) (dialled other)) }
+        ensures memory { IfErr result (λ e. e ≡ PortError.OutOfMemory) };
+}
+
+/// Who waits for connections.
+pub trait Listen: Drop + Send {
+    type Link: Conn;
+
+    /// How often the listener has failed so far.
+    ghost listen_faults: { Self → ℕ };
+
+    /// The next connection, which has no fault yet.
+    fn accept(&mut self) -> Result<Self::Link, PortError>
+        ensures fresh { IfOk result (λ link. Self.Link.read_faults link ≡ 0) }
+        ensures cause { HasCause (listen_faults self.old) (listen_faults self.new) result };
+}
+
+/// What tells the time, in milliseconds since 1970-01-01T00:00:00Z.
+pub trait Clock: Drop + Send {
+    /// The moment before which it will show none: that shown last.
+    ghost shown: { Self → ℕ };
+
+    /// The present moment, never before one that this clock has shown, and before 9999-01-01T00:00:00Z.
+    fn now_ms(&mut self) -> u64
+        ensures bound { result < 253370764800000 }
+        ensures never_falls { shown self.old ≤ result }
+        ensures shows { shown self.new ≡ result };
+
+    /// Lets so many milliseconds pass, as far as this clock can. What it shows afterwards isn't promised.
+    fn pause(&mut self, ms: u64)
+        ensures never_falls { shown self.old ≤ shown self.new };
+
+    /// Another clock of the same kind, which shows nothing before what this one has shown. Want of memory is its one error.
+    fn another(&self) -> Result<Self, PortError>
+    where
+        Self: Sized,
+        ensures never_falls { IfOk result (λ other. shown self.now ≤ shown other) }
+        ensures memory { IfErr result (λ e. e ≡ PortError.OutOfMemory) };
 }
