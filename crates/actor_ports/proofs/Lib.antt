@@ -1,3 +1,4 @@
 mod Examples
 mod Known
+mod Moments
 mod Taken

@@ -1,5 +1,5 @@
 -- What is taken in two pieces, and what is left of a list behind its front.
-use Rattle.std.proofs.Common.{sym, refl, ◌∙◌, ◌≡◌, ◌≤◌, ℕ, ◌+◌, ◌-◌, List, ◌++◌, take, drop, length, arith}
+use Rattle.std.proofs.Common.{sym, refl, ◌≡◌, ℕ, ◌+◌, List, ◌++◌, take, drop}
 use Rattle.std.proofs.Math.Seq.{take-add}
 use Rattle.std.proofs.lemmas.List.{drop-drop}
 use Rattle.actor_ports.specs.Traffic.{Place, Traffic, took}

@@ -82,6 +82,10 @@ pub record DialMemory : Type 0 where
   pub faults : ℕ
   pub failing : List ℕ
 
+-- a place as a dialler keeps it
+abbrev pub place_of : ℕ × ℕ → Place
+place_of p = record { ip = p.0; port = p.1 }
+
 abbrev pub returned_of : ConnMemory → Returned
 returned_of c = returned c.traffic
 

@@ -9,7 +9,9 @@
 mod memory;
 mod port;
 mod real;
+mod session;
 
-pub use memory::{MemConn, MemSink, MemSource};
+pub use memory::{MemClock, MemConn, MemDial, MemListen, MemSink, MemSource};
 pub use port::{Clock, Conn, Dial, Listen, PortError, Sink, Source};
-pub use real::{ReaderSource, WriterSink};
+pub use real::{ReaderSource, StreamConn, SystemClock, TcpDial, TcpListen, WriterSink};
+pub use session::SessionEnd;

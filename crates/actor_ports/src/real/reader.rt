@@ -1,5 +1,5 @@
 // A source over a reader of the library.
-ghost use Rattle.std.specs.Prelude.{◌≡◌, ◌<◌, ◌≤◌, None, IfOk, IfErr, IfSome, IfNone, length, take};
+ghost use Rattle.std.specs.Prelude.{◌≡◌, ◌<◌, ◌≤◌, None, IfOk, IfErr, IfSome, IfNone, length, take, vec_len};
 ghost use Rattle.std.specs.Io.KnownBytes.{Consumes, IsAtEnd, Keeps};
 ghost use Rattle.actor_ports.specs.Port.{HasCause, Appends, faults_after};
 ghost use Rattle.actor_ports.specs.Real.{Counted, ReadsThrough};
@@ -41,9 +41,7 @@ impl<R: Read + Drop> ReaderSource<R> {
         ensures holds { IfOk result (λ s. s ≡ record { inner = reader; faults = 0 }) }
         ensures memory { IfErr result (λ e. e ≡ PortError.OutOfMemory) }
     {
-        let Ok(piece) = vec![in alloc; 0u8; PIECE] else {
-            return Err(PortError::OutOfMemory);
-        };
+        let piece = make_piece(alloc)?;
         Ok(ReaderSource {
             reader,
             piece,
@@ -68,18 +66,53 @@ impl<R: Read + Drop> Source for ReaderSource<R> {
         ensures counted { self.new.faults ≡ faults_after self.old.faults result }
         ensures through { ReadsThrough (R.remaining self.old.inner) (R.remaining self.new.inner) into.old.items into.new.items result }
     {
-        let room = most.min(PIECE);
-        if self.faults == u64::MAX || into.reserve(room).is_err() {
-            return Err(PortError::OutOfMemory);
-        }
-        let Some(count) = read_piece(&mut self.reader, self.piece.as_mut_slice(), room) else {
-            self.faults += 1;
-            return Err(PortError::Failed);
-        };
-        into.extend_from_slice(&self.piece.as_slice()[..count])
-            .unwrap();
-        Ok(count)
+        read_counted(
+            &mut self.reader,
+            &mut self.piece,
+            &mut self.faults,
+            into,
+            most,
+        )
     }
+}
+
+// The room for one piece.
+pub(super) fn make_piece(alloc: Global) -> Result<Vec<u8>, PortError>
+    ensures length { IfOk result (λ piece. vec_len piece ≡ 65536) }
+    ensures memory { IfErr result (λ e. e ≡ PortError.OutOfMemory) }
+{
+    match vec![in alloc; 0u8; PIECE] {
+        Ok(piece) => Ok(piece),
+        Err(_) => Err(PortError::OutOfMemory),
+    }
+}
+
+// One read of the library, at most a piece, appended to `into`. A failure is counted while the count can rise.
+pub(super) fn read_counted<R: Read>(
+    reader: &mut R,
+    piece: &mut Vec<u8>,
+    faults: &mut u64,
+    into: &mut Vec<u8>,
+    most: usize,
+) -> Result<usize, PortError>
+    requires some { 0 < most }
+    requires piece { vec_len piece.old ≡ 65536 }
+    ensures piece { vec_len piece.new ≡ 65536 }
+    ensures most { IfOk result (λ n. n ≤ most) }
+    ensures appends { Appends into.old.items into.new.items result }
+    ensures counted { faults.new ≡ faults_after faults.old result }
+    ensures through { ReadsThrough (R.remaining reader.old) (R.remaining reader.new) into.old.items into.new.items result }
+{
+    let room = most.min(PIECE);
+    if *faults == u64::MAX || into.reserve(room).is_err() {
+        return Err(PortError::OutOfMemory);
+    }
+    let Some(count) = read_piece(reader, piece.as_mut_slice(), room) else {
+        *faults += 1;
+        return Err(PortError::Failed);
+    };
+    into.extend_from_slice(&piece.as_slice()[..count]).unwrap();
+    Ok(count)
 }
 
 // One read of the library into the front of `piece`, again after each interruption.

@@ -49,15 +49,28 @@ impl<W: Write + Drop> Sink for WriterSink<W> {
         ensures spent { IsErrOf result PortError.OutOfMemory ↔ (self.old.faults ≡ u64.MAX) }
         ensures through { WritesThrough (W.contents self.old.inner) (W.contents self.new.inner) bytes.now result }
     {
-        if self.faults == u64::MAX {
-            return Err(PortError::OutOfMemory);
-        }
-        if !write_whole(&mut self.writer, bytes) {
-            self.faults += 1;
-            return Err(PortError::Failed);
-        }
-        Ok(())
+        write_counted(&mut self.writer, &mut self.faults, bytes)
     }
+}
+
+// Writes all of the bytes and flushes. A failure is counted while the count can rise.
+pub(super) fn write_counted<W: Write>(
+    writer: &mut W,
+    faults: &mut u64,
+    bytes: &[u8],
+) -> Result<(), PortError>
+    ensures counted { faults.new ≡ faults_after faults.old result }
+    ensures spent { IsErrOf result PortError.OutOfMemory ↔ (faults.old ≡ u64.MAX) }
+    ensures through { WritesThrough (W.contents writer.old) (W.contents writer.new) bytes.now result }
+{
+    if *faults == u64::MAX {
+        return Err(PortError::OutOfMemory);
+    }
+    if !write_whole(writer, bytes) {
+        *faults += 1;
+        return Err(PortError::Failed);
+    }
+    Ok(())
 }
 
 // Writes all of the bytes and flushes, or answers false after a front of them.

@@ -1,6 +1,6 @@
 -- What was read so far and what is left meet at the new place.
-use Rattle.std.proofs.Common.{◌+◌, rules, ap, ◌∙◌, Some, Ok}
-use Rattle.actor_ports.specs.Traffic.{Place, took}
+use Rattle.std.proofs.Common.{◌+◌, ap, ◌∙◌, Some, Ok}
+use Rattle.actor_ports.specs.Traffic.{took}
 use Rattle.actor_ports.specs.Memory.{ConnMemory, conn_read}
 use Rattle.actor_ports.proofs.Taken.{took_more}
 use Rattle.actor_ports.proofs.memory.conn.MemConnSource.read.Goals as goal

@@ -1,0 +1,138 @@
+// A clock over the system's.
+ghost use Rattle.std.specs.Prelude.{◌≡◌, ◌<◌, ◌≤◌, ℕ, IfOk, IfErr};
+
+use crate::port::{Clock, PortError};
+use std::marker::Model;
+use std::time::{Duration, SystemTime, UNIX_EPOCH};
+use std::{thread, time};
+
+// The last moment before 9999-01-01T00:00:00Z.
+const LAST: u64 = 253_370_764_799_999;
+
+/// The system's clock. Where the system's falls back or can't be read, it shows its last moment again.
+///
+/// In `main(rt: HostRuntime)`: `let clock = SystemClock::new(rt);`
+#[derive(Drop)]
+pub struct SystemClock<C: time::Clock + Copy + Send> {
+    clock: C,
+    shown: u64,
+}
+
+impl<C: time::Clock + Copy + Send> Model for SystemClock<C> {
+    ghost use Rattle.std.specs.Prelude.{ℕ, ◌<◌};
+
+    ghost Value = { ℕ };
+
+    ghost view = { λ s. s.shown };
+
+    ghost invariant = { λ s. s.shown < 253370764800000 };
+}
+
+impl<C: time::Clock + Copy + Send> SystemClock<C> {
+    /// A clock that has shown nothing yet.
+    pub fn new(clock: C) -> SystemClock<C>
+        ensures { result ≡ 0 }
+    {
+        SystemClock { clock, shown: 0 }
+    }
+}
+
+impl<C: time::Clock + Copy + Send> Clock for SystemClock<C> {
+    ghost shown = { λ s. s };
+
+    /// Reads the system's clock.
+    fn now_ms(&mut self) -> u64
+        ensures bound { result < 253370764800000 }
+        ensures never_falls { self.old ≤ result }
+        ensures shows { self.new ≡ result }
+    {
+        let now = read_ms(&self.clock).min(LAST);
+        self.shown = self.shown.max(now);
+        self.shown
+    }
+
+    /// Sleeps.
+    fn pause(&mut self, ms: u64)
+        ensures never_falls { self.old ≤ self.new }
+
+        ensures same { self.new ≡ self.old }
+    {
+        thread::sleep(&self.clock, Duration::from_millis(ms));
+    }
+
+    /// Takes no memory.
+    fn another(&self) -> Result<SystemClock<C>, PortError>
+        ensures never_falls { IfOk result (λ other. self.now ≤ other) }
+        ensures memory { IfErr result (λ e. e ≡ PortError.OutOfMemory) }
+
+        ensures equal { IfOk result (λ other. other ≡ self.now) }
+    {
+        Ok(SystemClock {
+            clock: self.clock,
+            shown: self.shown,
+        })
+    }
+}
+
+// The milliseconds since 1970 that the system's clock reads, 0 where it can't be read.
+fn read_ms(clock: &impl time::Clock) -> u64 {
+    let Ok(moment) = SystemTime::now(clock) else {
+        return 0;
+    };
+    match moment.duration_since(UNIX_EPOCH) {
+        Ok(since) => u64::try_from(since.as_millis()).unwrap_or(u64::MAX),
+        Err(_) => 0,
+    }
+}
+
+#[cfg(test)]
+mod tests {
+    use super::*;
+    use std::io;
+    use std::sync::atomic::{AtomicUsize, Ordering};
+    use std::test::Fail;
+
+    // A clock that reads given moments, and can't be read where none is left.
+    #[derive(Drop)]
+    struct Told<'a> {
+        moments: &'a [u64],
+        place: AtomicUsize,
+    }
+
+    impl time::Clock for Told<'_> {
+        fn monotonic(&self) -> io::Result<Duration> {
+            Ok(Duration::ZERO)
+        }
+
+        fn since_1970(&self) -> io::Result<Duration> {
+            let place = self.place.fetch_add(1, Ordering::SeqCst);
+            let Some(moment) = self.moments.get(place) else {
+                return Err(io::Error::from(io::ErrorKind::InvalidData));
+            };
+            Ok(Duration::from_millis(*moment))
+        }
+    }
+
+    #[test]
+    fn shown_moments_never_fall(rt: HostRuntime) {
+        let told = Told {
+            moments: &[7, 5, 9, u64::MAX, 8],
+            place: AtomicUsize::new(0),
+        };
+        let mut clock = SystemClock::new(&told);
+        for moment in [7, 7, 9, 253_370_764_799_999, 253_370_764_799_999] {
+            assert_eq!(rt; clock.now_ms(), moment);
+        }
+        assert_eq!(rt; clock.now_ms(), 253_370_764_799_999);
+    }
+
+    #[test]
+    fn pause_lets_time_pass(rt: HostRuntime) -> Result<(), Fail> {
+        let mut clock = SystemClock::new(rt);
+        let before = clock.now_ms();
+        assert!(rt; before > 1_700_000_000_000);
+        clock.pause(20);
+        assert!(rt; clock.another()?.now_ms() >= before.wrapping_add(10));
+        Ok(())
+    }
+}

@@ -1,0 +1,136 @@
+// A dialler over TCP.
+ghost use Rattle.std.specs.Prelude.{◌≡◌, ◌<◌, ◌≤◌, ◌+◌, ◌-◌, None, nat_lt, if◌then◌else◌, IfOk, IfErr};
+ghost use Rattle.actor_ports.specs.Port.{HasCause, faults_after};
+ghost use Rattle.actor_ports.specs.Traffic.{TakesRoom, Counts};
+ghost use Rattle.actor_ports.specs.Real.{DialCount};
+
+use super::stream::StreamConn;
+use super::timed::set_wait;
+use crate::port::{Dial, PortError};
+use std::alloc::Global;
+use std::io;
+use std::marker::Model;
+use std::net::{IpAddr, Ipv4Addr, Net, SocketAddr, TcpStream};
+use std::time::Duration;
+
+/// A dialler over TCP. It tells nothing of what was dialled.
+///
+/// In `main(rt: HostRuntime)`, to connect within 5 seconds, and to wait 10 for each byte:
+/// `let dialler = TcpDial::new(rt.alloc(), rt, Some(5_000), Some(10_000));`
+#[derive(Drop)]
+pub struct TcpDial<N: Net<Stream = TcpStream> + Copy + Send> {
+    alloc: Global,
+    net: N,
+    connect_ms: Option<u64>,
+    wait_ms: Option<u64>,
+    room: u64,
+    faults: u64,
+}
+
+impl<N: Net<Stream = TcpStream> + Copy + Send> Model for TcpDial<N> {
+    ghost use Rattle.std.specs.Prelude.{◌<◌, ◌+◌, ◌^◌};
+    ghost use Rattle.actor_ports.specs.Real.{DialCount};
+
+    ghost Value = { DialCount };
+
+    ghost view = { λ s. record { room = s.room; faults = s.faults } };
+
+    ghost invariant = { λ s. s.faults + s.room < 2 ^ 64 };
+}
+
+impl<N: Net<Stream = TcpStream> + Copy + Send> TcpDial<N> {
+    /// A dialler whose dials end after `connect_ms` milliseconds without an answer, and whose links fail after
+    /// `wait_ms` milliseconds in which no byte comes or goes. `None` waits for as long as the system does, and 0 is
+    /// taken for 1.
+    pub fn new(alloc: Global, net: N, connect_ms: Option<u64>, wait_ms: Option<u64>) -> TcpDial<N>
+        ensures { result ≡ record { room = 0; faults = 0 } }
+    {
+        TcpDial {
+            alloc,
+            net,
+            connect_ms,
+            wait_ms,
+            room: 0,
+            faults: 0,
+        }
+    }
+}
+
+impl<N: Net<Stream = TcpStream> + Copy + Send> Dial for TcpDial<N> {
+    type Link = StreamConn<TcpStream>;
+
+    ghost dial_faults = { λ s. s.faults };
+
+    ghost dialled = { λ _. None };
+
+    ghost room = { λ s. s.room };
+
+    /// Connects, and counts a failure. Where the faults and the links that are out reach 2^64 - 1 together no further
+    /// one can be counted: it answers `OutOfMemory` and connects to nothing.
+    fn dial(&mut self, ip: u32, port: u16) -> Result<StreamConn<TcpStream>, PortError>
+        ensures fresh { IfOk result (λ link. link.faults ≡ 0) }
+        ensures room { TakesRoom self.old.room self.new.room result }
+        ensures cause { HasCause self.old.faults self.new.faults result }
+
+        ensures counted { self.new.faults ≡ faults_after self.old.faults result }
+    {
+        if self.faults >= u64::MAX - self.room {
+            return Err(PortError::OutOfMemory);
+        }
+        let Ok(stream) = connect(&self.net, ip, port, self.connect_ms, self.wait_ms) else {
+            self.faults += 1;
+            return Err(PortError::Failed);
+        };
+        let link = StreamConn::new(self.alloc, stream)?;
+        self.room += 1;
+        Ok(link)
+    }
+
+    /// Closes the link.
+    fn done(&mut self, link: StreamConn<TcpStream>)
+        requires { 0 < self.old.room }
+        ensures room { self.old.room ≤ self.new.room + 1 }
+        ensures cause { Counts self.old.faults self.new.faults link.faults }
+
+        ensures counted { self.new.faults ≡ self.old.faults + (if nat_lt 0 link.faults then 1 else 0) }
+    {
+        self.room -= 1;
+        if link.faults() > 0 {
+            self.faults += 1;
+        }
+    }
+
+    /// A dialler with the same time-outs. It takes no memory.
+    fn another(&self) -> Result<TcpDial<N>, PortError>
+        ensures fresh { IfOk result (λ other. other.faults ≡ 0) }
+        ensures memory { IfErr result (λ e. e ≡ PortError.OutOfMemory) }
+
+        ensures counts { IfOk result (λ other. other ≡ record { room = 0; faults = 0 }) }
+    {
+        Ok(TcpDial {
+            alloc: self.alloc,
+            net: self.net,
+            connect_ms: self.connect_ms,
+            wait_ms: self.wait_ms,
+            room: 0,
+            faults: 0,
+        })
+    }
+}
+
+// A stream to the address, on which reads and writes wait so long.
+fn connect<N: Net<Stream = TcpStream>>(
+    net: &N,
+    ip: u32,
+    port: u16,
+    connect_ms: Option<u64>,
+    wait_ms: Option<u64>,
+) -> io::Result<TcpStream> {
+    let address = SocketAddr::new(IpAddr::V4(Ipv4Addr::from_bits(ip)), port);
+    let stream = match connect_ms {
+        Some(ms) => net.connect_timeout(address, Duration::from_millis(ms.max(1)))?,
+        None => net.connect(address)?,
+    };
+    set_wait(&stream, wait_ms)?;
+    Ok(stream)
+}

@@ -1,0 +1,107 @@
+// A connection over a stream of the library.
+ghost use Rattle.std.specs.Prelude.{◌≡◌, ◌<◌, ◌≤◌, ◌↔◌, None, IfOk, IfErr, IsErrOf, refl};
+ghost use Rattle.actor_ports.specs.Port.{HasCause, Appends, faults_after};
+ghost use Rattle.actor_ports.specs.Real.{Counted, ReadsThrough, WritesThrough};
+
+use super::reader::{make_piece, read_counted};
+use super::writer::write_counted;
+use crate::port::{Conn, PortError, Sink, Source};
+use std::alloc::Global;
+use std::io::{Read, Write};
+use std::marker::Model;
+
+/// A connection over one of the library's streams. It tells nothing of the bytes that go over it.
+///
+/// A stream that has a time-out fails where it passes, which counts as any failure does.
+#[derive(Drop)]
+pub struct StreamConn<S: Read + Write + Drop + Send> {
+    stream: S,
+    piece: Vec<u8>,
+    faults: u64,
+}
+
+impl<S: Read + Write + Drop + Send> Model for StreamConn<S> {
+    ghost use Rattle.std.specs.Prelude.{◌≡◌, vec_len};
+    ghost use Rattle.actor_ports.specs.Real.{Counted};
+
+    ghost Value = { Counted S };
+
+    ghost view = { λ s. record { inner = s.stream; faults = s.faults } };
+
+    ghost invariant = { λ s. vec_len s.piece ≡ 65536 };
+}
+
+impl<S: Read + Write + Drop + Send> StreamConn<S> {
+    /// A connection over this stream, with the room for one piece of 65,536 bytes.
+    /// Want of memory is its one error, and drops the stream.
+    pub fn new(alloc: Global, stream: S) -> Result<StreamConn<S>, PortError>
+        ensures holds { IfOk result (λ s. s ≡ record { inner = stream; faults = 0 }) }
+        ensures memory { IfErr result (λ e. e ≡ PortError.OutOfMemory) }
+    {
+        let piece = make_piece(alloc)?;
+        Ok(StreamConn {
+            stream,
+            piece,
+            faults: 0,
+        })
+    }
+
+    // How often it has failed.
+    pub(super) fn faults(&self) -> u64
+        ensures { result ≡ self.now.faults }
+    {
+        self.faults
+    }
+}
+
+impl<S: Read + Write + Drop + Send> Source for StreamConn<S> {
+    ghost remaining = { λ _. None };
+
+    ghost read_faults = { λ s. s.faults };
+
+    /// Reads once, at most 65,536 bytes, and again after each interruption. Each failure is counted.
+    /// After 2^64 - 1 failures no further one can be counted: it answers `OutOfMemory` and reads nothing.
+    fn read(&mut self, into: &mut Vec<u8>, most: usize) -> Result<usize, PortError>
+        requires { 0 < most }
+        ensures most { IfOk result (λ n. n ≤ most) }
+        ensures appends { Appends into.old.items into.new.items result }
+        ensures cause { HasCause self.old.faults self.new.faults result }
+
+        ensures counted { self.new.faults ≡ faults_after self.old.faults result }
+        ensures through { ReadsThrough (S.Read.remaining self.old.inner) (S.Read.remaining self.new.inner) into.old.items into.new.items result }
+    {
+        read_counted(
+            &mut self.stream,
+            &mut self.piece,
+            &mut self.faults,
+            into,
+            most,
+        )
+    }
+}
+
+impl<S: Read + Write + Drop + Send> Sink for StreamConn<S> {
+    ghost contents = { λ _. None };
+
+    ghost write_faults = { λ s. s.faults };
+
+    /// Writes until all is written, again after each interruption, and flushes. Each failure is counted.
+    /// After 2^64 - 1 failures no further one can be counted: only then it answers `OutOfMemory`, and writes nothing.
+    fn write(&mut self, bytes: &[u8]) -> Result<(), PortError>
+        ensures cause { HasCause self.old.faults self.new.faults result }
+
+        ensures counted { self.new.faults ≡ faults_after self.old.faults result }
+        ensures spent { IsErrOf result PortError.OutOfMemory ↔ (self.old.faults ≡ u64.MAX) }
+        ensures through { WritesThrough (S.Write.contents self.old.inner) (S.Write.contents self.new.inner) bytes.now result }
+    {
+        write_counted(&mut self.stream, &mut self.faults, bytes)
+    }
+}
+
+impl<S: Read + Write + Drop + Send> Conn for StreamConn<S> {
+    ghost one_count = { λ _. refl };
+
+    ghost one_traffic = { λ _. refl };
+
+    ghost left_told = { λ _. refl };
+}
