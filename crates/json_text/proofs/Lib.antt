@@ -1,0 +1,4 @@
+mod Examples
+pub mod Found
+pub mod Texts
+pub mod Written

@@ -1,0 +1,18 @@
+// JSON: the value of a text, and the text of a value.
+//
+// Promise: a text is read exactly where it has a value (`specs/Reading`), each look-up is that of the value
+// (`specs/Values`), and what is written is the text of the value (`specs/Texts`), which reads back as it. Stands on
+// serde_json.
+#![tactic(auto)]
+
+mod error;
+mod other_number;
+mod value;
+mod writing;
+
+pub use error::JsonError;
+pub use value::{Json, JsonRef};
+pub use writing::{Member, Piece, array_text, object_text, quoted_text};
+
+#[cfg(test)]
+mod tests;

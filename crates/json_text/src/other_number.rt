@@ -1,0 +1,45 @@
+// The walk over a whole value that looks for a number of no 64-bit integer, which `serde_json` keeps as a float.
+ghost use Rattle.std.specs.Prelude.{◌≡◌};
+ghost use Rattle.serde_json.specs.View.{view, items_view, members_view};
+ghost use Rattle.serde_json.specs.Written.{has_float, items_have_float, members_have_float};
+
+use serde_json::{Map, Value};
+
+/// Whether there is one in the value.
+#[cycle(any_float)]
+pub(crate) fn any_float(value: &Value) -> bool
+    ensures { result ≡ has_float (view value.now) }
+{
+    match value {
+        Value::Null => false,
+        Value::Bool(_) => false,
+        Value::Number(number) => number.is_f64(),
+        Value::String(_) => false,
+        Value::Array(items) => any_float_of_items(items),
+        Value::Object(members) => any_float_of_members(members),
+    }
+}
+
+#[cycle(any_float)]
+fn any_float_of_items(items: &Vec<Value>) -> bool
+    ensures { result ≡ items_have_float (items_view items.now.items) }
+{
+    for item in items {
+        if any_float(item) {
+            return true;
+        }
+    }
+    false
+}
+
+#[cycle(any_float)]
+fn any_float_of_members(members: &Map<String, Value>) -> bool
+    ensures { result ≡ members_have_float (members_view members.now.entries) }
+{
+    for (_, member) in members.iter() {
+        if any_float(member) {
+            return true;
+        }
+    }
+    false
+}
