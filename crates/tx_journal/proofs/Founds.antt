@@ -345,6 +345,24 @@ module _ (a b : Seen) (create : Bool) (t t_new u u_new : Option DiskState) where
       let second = tells_on (Ready b) u u_new both.1 two both.3 in
       subst (RefusesFiles create x) (sym both.4) (first_refuses a b create older both.0 first.0 both.1 second.0 first.2 second.2 x (refuses first.0 first.1))
 
+-- what was made has the second format
+module _ (a b : Seen) (create : Bool) (format : Format) (t t_new u u_new : Option DiskState) where
+  pub told_second_made : is_second_seen a b ≡ true → Tells (Ready a) t t_new → Tells (Ready b) u u_new → (files : Files) → tell_both t u ≡ Some files → is_making create files.first files.second ≡ true → format ≡ Two
+  told_second_made newer one two files is making =
+      let both = both_of t u files is in
+      let first = tells_on (Ready a) t t_new both.0 one both.2 in
+      let second = tells_on (Ready b) u u_new both.1 two both.3 in
+      let not_making = making_made create (is_made both.0.bytes) (is_made both.1.bytes) (made_first a b create newer both.0 first.0 both.1 second.0 first.2 second.2) in
+      absurd (let e : true ≡ false = sym making ∙ ap (λ (f : Files). is_making create f.first f.second) both.4 ∙ not_making in cc)
+
+  pub told_first_made : is_second_seen a b ≡ false → Tells (Ready a) t t_new → Tells (Ready b) u u_new → ((d : DiskState) → t_new ≡ Some d → is_to_make create d.bytes ≡ true → format ≡ Two) → (files : Files) → tell_both t u ≡ Some files → is_making create files.first files.second ≡ true → format ≡ Two
+  told_first_made older one two made files is making =
+      let both = both_of t u files is in
+      let first = tells_on (Ready a) t t_new both.0 one both.2 in
+      let second = tells_on (Ready b) u u_new both.1 two both.3 in
+      made first.0 first.1
+      (ap (is_to_make create) first.2.synced.1 ∙ sym (making_is a b create older both.0 first.0 both.1 second.0 first.2 second.2) ∙ ap (λ (f : Files). is_making create f.first f.second) (sym both.4) ∙ making)
+
 pub readies : (seen : Seen) (t t_new : Option DiskState) → Tells Synced t t_new → Tells IsSynced t t_new → ((e : DiskState) → t_new ≡ Some e → Sees e seen) → Tells (Ready seen) t t_new
 readies seen t t_new synced durable sees =
     tells_map (λ d e. Both Synced IsSynced d e × Sees e seen) (Ready seen) t t_new (λ d e x. record { synced = x.0.0; durable = x.0.1; sees = x.1 })

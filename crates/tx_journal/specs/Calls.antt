@@ -8,7 +8,7 @@ use Rattle.tx_journal.specs.declared.format.Format.{Format}
 use Rattle.tx_journal.specs.declared.format.Format.TheVariants.{One, Two}
 use Rattle.tx_journal.specs.File.{longest, most_bytes, is_made, opened, file_payloads, IsEmptyOrUnmade}
 use Rattle.tx_journal.specs.Journal.{Rises}
-use Rattle.tx_journal.specs.Pair.{Files, generation_row, generation_in, without_generation, number, live_file, read_payloads, SinceOpened, Holds, IsJust, IsEither}
+use Rattle.tx_journal.specs.Pair.{Files, generation_row, generation_in, without_generation, file_generation, number, live_file, read_payloads, SinceOpened, Holds, IsJust, IsEither}
 
 -- a disk of a journal: its state, where it tells it, and how often it failed
 pub record Side : Type 0 where
@@ -303,6 +303,14 @@ RefusesFiles create NotStarted files = ⊥
 RefusesFiles create OneDisk files = ⊥
 RefusesFiles create (Spent count) files = ⊥
 RefusesFiles create OutOfMemory files = Unit {0}
+
+-- the Generation of a pair's journal is the one that stands in its live file
+abbrev pub IsNumbered : JournalState → Type 0
+IsNumbered j = j.is_broken ≡ false → is_alone j.other ≡ false → (d : DiskState) → j.live.told ≡ Some d → j.generation ≡ file_generation d.bytes
+
+-- an opening that makes a file makes it in this format
+abbrev pub MakesFormat : Format → Bool → Option Files → JournalState → Type 0
+MakesFormat format create before j = (files : Files) → before ≡ Some files → is_making create files.first files.second ≡ true → j.format ≡ format
 
 -- a journal as it is opened
 abbrev pub IsOpened : JournalState → Type 0

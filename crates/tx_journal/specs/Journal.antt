@@ -187,6 +187,12 @@ IsKind newest front Unmade = is_made front ≡ false
 IsKind newest front Other = FileMade front × (is_known newest (drop 1 front) ≡ false)
 IsKind newest front (Journal_ format) = (front ≡ head format) × (is_known newest (name format) ≡ true)
 
+-- a file is read only in a format that the journal knows
+abbrev pub IsKnownKind : Format → FileKind → Type 0
+IsKnownKind newest Unmade = Unit {0}
+IsKnownKind newest Other = Unit {0}
+IsKnownKind newest (Journal_ format) = is_known newest (name format) ≡ true
+
 -- the same of a disk whose first bytes were read
 abbrev pub LooksLike : Format → DiskState → FileKind → Type 0
 LooksLike newest d Unmade = is_made d.bytes ≡ false

@@ -61,6 +61,7 @@ impl<D: Disk> Journal<D> {
     pub fn open(alloc: Global, disk: D, create: bool) -> Result<Journal<D>, (JournalError, D)>
         ensures opened { IfOk result (λ j. Tells (OpensFiles create) (tell_one (D.told disk)) (told j)) }
         ensures state { IfOk result (λ j. IsOpened j × (j.other ≡ None)) }
+        ensures format { IfOk result (λ j. j.format ≡ Format.One) }
         ensures refused { IfErr result (λ r. IsOpenError r.0 × ((files : Files) → tell_one (D.told disk) ≡ Some files → RefusesFiles create r.0 files)) }
         ensures crash { IfOk result (λ j. Tells (KeepsFiles create) (tell_one (D.told disk)) (told j)) }
         ensures crash_refused { IfErr result (λ r. Tells (KeepsFiles create) (tell_one (D.told disk)) (tell_one (D.told r.1))) }

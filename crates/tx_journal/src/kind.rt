@@ -1,7 +1,7 @@
 // What the first bytes of a file say of it.
 ghost use Rattle.std.specs.Prelude.{◌≡◌, ◌≤◌, ℕ, length, take, drop, IfOk, IfErr, Some};
 ghost use Rattle.disk_model.specs.Disk.{DiskState};
-ghost use Rattle.tx_journal.specs.Journal.{Costs, IsKind, LooksLike, IsPortFault};
+ghost use Rattle.tx_journal.specs.Journal.{Costs, IsKind, IsKnownKind, LooksLike, IsPortFault};
 
 use crate::error::JournalError;
 use crate::format::Format;
@@ -42,6 +42,7 @@ pub(crate) fn look_at<D: Disk>(
     newest: Format,
 ) -> Result<FileKind, JournalError>
     ensures looks { (d : DiskState) → D.told disk.old ≡ Some d → IfOk result (LooksLike newest d) }
+    ensures known { IfOk result (IsKnownKind newest) }
     ensures errors { IfErr result IsPortFault }
     ensures same { D.told disk.new ≡ D.told disk.old }
     ensures cause { Costs (D.disk_faults disk.old) (D.disk_faults disk.new) result }

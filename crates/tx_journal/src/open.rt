@@ -1,11 +1,11 @@
 // Opening a file: made where it is bidden to, or read from gate to gate.
-ghost use Rattle.std.specs.Prelude.{◌≡◌, ◌<◌, ◌≤◌, ℕ, false, List, length, OnOk, IfOk, IfErr, Some, IsErrOf};
+ghost use Rattle.std.specs.Prelude.{◌≡◌, ◌<◌, ◌≤◌, ℕ, true, false, List, length, OnOk, IfOk, IfErr, Some, IsErrOf};
 ghost use Rattle.actor_ports.specs.Port.{HasCause};
 ghost use Rattle.disk_model.specs.Disk.{DiskState, Tells, IsSpent};
 ghost use Rattle.disk_model.specs.Crash.{IsDurable};
-ghost use Rattle.tx_journal.specs.File.{most_bytes, is_made};
+ghost use Rattle.tx_journal.specs.File.{name, most_bytes, is_made, is_known};
 ghost use Rattle.tx_journal.specs.declared.format.Format.TheVariants.{One};
-ghost use Rattle.tx_journal.specs.Journal.{Costs, KeepsFile, Opens, Refuses, IsOpenError, Creates, IsCreated};
+ghost use Rattle.tx_journal.specs.Journal.{Costs, is_to_make, KeepsFile, Opens, Refuses, IsOpenError, Creates, IsCreated};
 
 use crate::error::JournalError;
 use crate::format::Format;
@@ -58,6 +58,8 @@ pub(crate) fn settle_synced<D: Disk>(
     ensures opened { IfOk result (λ found. Tells (Opens newest create found) (D.told disk.old) (D.told disk.new)) }
     ensures crash { Tells (KeepsFile newest create) (D.told disk.old) (D.told disk.new) }
     ensures refused { IfErr result (λ e. (d : DiskState) → D.told disk.old ≡ Some d → Refuses newest create e d) }
+    ensures known { IfOk result (λ found. is_known newest (name found.1) ≡ true) }
+    ensures made { IfOk result (λ found. (d : DiskState) → D.told disk.old ≡ Some d → is_to_make create d.bytes ≡ true → found.1 ≡ newest) }
     ensures end { IfOk result (λ found. (9 ≤ found.0) × (found.0 ≤ most_bytes)) }
     ensures errors { IfErr result IsOpenError }
     ensures cause { Costs (D.disk_faults disk.old) (D.disk_faults disk.new) result }
@@ -97,6 +99,7 @@ pub(crate) fn settle<D: Disk>(
     ensures opened { IfOk result (λ found. Tells (Opens One create found) (D.told disk.old) (D.told disk.new)) }
     ensures crash { Tells (KeepsFile One create) (D.told disk.old) (D.told disk.new) }
     ensures refused { IfErr result (λ e. (d : DiskState) → D.told disk.old ≡ Some d → Refuses One create e d) }
+    ensures format { IfOk result (λ found. found.1 ≡ One) }
     ensures end { IfOk result (λ found. (9 ≤ found.0) × (found.0 ≤ most_bytes)) }
     ensures errors { IfErr result IsOpenError }
     ensures cause { Costs (D.disk_faults disk.old) (D.disk_faults disk.new) result }

@@ -1,10 +1,11 @@
 // Opening two files: both synced, the live one found, and read or made.
-ghost use Rattle.std.specs.Prelude.{◌≡◌, ◌<◌, ◌≤◌, ℕ, length, OnOk, IfOk, IfErr, Some};
+ghost use Rattle.std.specs.Prelude.{◌≡◌, ◌<◌, ◌≤◌, ℕ, true, length, OnOk, IfOk, IfErr, Some};
 ghost use Rattle.disk_model.specs.Disk.{DiskState, Tells};
+ghost use Rattle.tx_journal.specs.declared.format.Format.TheVariants.{Two};
 ghost use Rattle.tx_journal.specs.File.{most_bytes};
 ghost use Rattle.tx_journal.specs.Pair.{Files};
 ghost use Rattle.tx_journal.specs.Journal.{Costs, IsOpenError, IsPortFault};
-ghost use Rattle.tx_journal.specs.Calls.{tell_both, OpensFiles, RefusesFiles, KeepsFiles};
+ghost use Rattle.tx_journal.specs.Calls.{tell_both, is_making, OpensFiles, RefusesFiles, KeepsFiles};
 ghost use Rattle.tx_journal.specs.Seen.{Sees, is_second_seen};
 ghost use Rattle.tx_journal.specs.Found.{Synced, IsSynced, IsFound, CostsBoth, is_closed_seen};
 
@@ -79,6 +80,7 @@ pub(crate) fn settle_pair<D: Disk>(
     ensures opened { IfOk result (λ found. Tells (OpensFiles create) (tell_both (D.told first.old) (D.told second.old)) (tell_both (D.told first.new) (D.told second.new))) }
     ensures crash { Tells (KeepsFiles create) (tell_both (D.told first.old) (D.told second.old)) (tell_both (D.told first.new) (D.told second.new)) }
     ensures refused { IfErr result (λ e. (files : Files) → tell_both (D.told first.old) (D.told second.old) ≡ Some files → RefusesFiles create e files) }
+    ensures made { IfOk result (λ found. (files : Files) → tell_both (D.told first.old) (D.told second.old) ≡ Some files → is_making create files.first files.second ≡ true → found.format ≡ Two) }
     ensures found { IfOk result (λ found. IsFound found (D.told first.new) (D.told second.new)) }
     ensures end { IfOk result (λ found. (9 ≤ found.end) × (found.end ≤ most_bytes)) }
     ensures errors { IfErr result IsOpenError }

@@ -3,7 +3,8 @@ ghost use Rattle.std.specs.Prelude.{◌≡◌, ◌⊎◌, false, Some, IfOk, IfE
 ghost use Rattle.disk_model.specs.Disk.{Tells};
 ghost use Rattle.tx_journal.specs.Pair.{Files};
 ghost use Rattle.tx_journal.specs.Journal.{IsOpenError, Rises};
-ghost use Rattle.tx_journal.specs.Calls.{told, tell_both, is_alone, IsOpened, OpensFiles, RefusesFiles, KeepsFiles};
+ghost use Rattle.tx_journal.specs.declared.format.Format.TheVariants.{Two};
+ghost use Rattle.tx_journal.specs.Calls.{told, tell_both, is_alone, IsOpened, IsNumbered, MakesFormat, OpensFiles, RefusesFiles, KeepsFiles};
 
 use super::{Journal, ROOM, zeros};
 use crate::error::JournalError;
@@ -23,6 +24,8 @@ impl<D: Disk> Journal<D> {
     ) -> Result<Journal<D>, (JournalError, D, D)>
         ensures opened { IfOk result (λ j. Tells (OpensFiles create) (tell_both (D.told first) (D.told second)) (told j)) }
         ensures state { IfOk result (λ j. IsOpened j × (is_alone j.other ≡ false)) }
+        ensures numbered { IfOk result IsNumbered }
+        ensures made { IfOk result (MakesFormat Two create (tell_both (D.told first) (D.told second))) }
         ensures refused { IfErr result (λ r. IsOpenError r.0 × ((files : Files) → tell_both (D.told first) (D.told second) ≡ Some files → RefusesFiles create r.0 files)) }
         ensures crash { IfOk result (λ j. Tells (KeepsFiles create) (tell_both (D.told first) (D.told second)) (told j)) }
         ensures crash_refused { IfErr result (λ r. Tells (KeepsFiles create) (tell_both (D.told first) (D.told second)) (tell_both (D.told r.1) (D.told r.2))) }

@@ -3,7 +3,7 @@ use Rattle.disk_model.specs.Disk.{Tells}
 use Rattle.disk_model.proofs.Stages.{tells_then}
 use Rattle.tx_journal.specs.Found.{Synced}
 use Rattle.tx_journal.specs.Sound.{Waits}
-use Rattle.tx_journal.proofs.Founds.{Ready, readies, ready_after, opened_live, second_waits, first_waits, synced_keeps_both, told_second_keeps, told_second_opens, told_first_keeps, told_first_opens, told_second_refuses, told_first_refuses}
+use Rattle.tx_journal.proofs.Founds.{Ready, readies, ready_after, opened_live, second_waits, first_waits, synced_keeps_both, told_second_keeps, told_second_opens, told_first_keeps, told_first_opens, told_second_refuses, told_first_refuses, told_second_made, told_first_made}
 use Rattle.tx_journal.proofs.pair.settle_pair.Goals as goal
 
 pub returns-in_err-sync_both-clause-crash : goal.returns-in_err-sync_both-clause-crash
@@ -99,3 +99,19 @@ returns-in-Err-settle_synced-clause-refused g c =
     let first_on = subst (Tells (Ready c.in_ok-a.a) (g.D.Disk.told c.args.first.now)) (sym c.survey_both.ensures.same_first) first in
     let second_on = subst (Tells (Ready c.in_ok-a.b) (g.D.Disk.told c.args.second.now)) (sym c.survey_both.ensures.same_second) second in
     told_first_refuses c.in_ok-a.a c.in_ok-a.b c.args.create _ _ _ _ c.in-Err-settle_synced.error (sym c.is_second_newer.ensures ∙ c.if-is_second_newer.false) first_on second_on c.in-Err-settle_synced.ensures.refused
+
+pub returns-in-Ok-clause-made : goal.returns-in-Ok-clause-made
+returns-in-Ok-clause-made g c =
+    let first = readies c.in_ok-a.a _ _ c.sync_both.ensures.first c.in_ok-sync_both.ensures.first_done (λ e tells. c.in_ok-a.ensures.first e tells) in
+    let second = readies c.in_ok-a.b _ _ c.sync_both.ensures.second c.in_ok-sync_both.ensures.second_done (λ e tells. c.in_ok-a.ensures.second e tells) in
+    let first_on = subst (Tells (Ready c.in_ok-a.a) (g.D.Disk.told c.args.first.now)) (sym c.survey_both.ensures.same_first) first in
+    let second_on = subst (Tells (Ready c.in_ok-a.b) (g.D.Disk.told c.args.second.now)) (sym c.survey_both.ensures.same_second) second in
+    told_second_made c.in_ok-a.a c.in_ok-a.b c.args.create c.in-Ok.format _ _ _ _ (sym c.is_second_newer.ensures ∙ c.if-is_second_newer.true) first_on second_on
+
+pub returns-in-Ok-settle_synced-clause-made : goal.returns-in-Ok-settle_synced-clause-made
+returns-in-Ok-settle_synced-clause-made g c =
+    let first = readies c.in_ok-a.a _ _ c.sync_both.ensures.first c.in_ok-sync_both.ensures.first_done (λ e tells. c.in_ok-a.ensures.first e tells) in
+    let second = readies c.in_ok-a.b _ _ c.sync_both.ensures.second c.in_ok-sync_both.ensures.second_done (λ e tells. c.in_ok-a.ensures.second e tells) in
+    let first_on = subst (Tells (Ready c.in_ok-a.a) (g.D.Disk.told c.args.first.now)) (sym c.survey_both.ensures.same_first) first in
+    let second_on = subst (Tells (Ready c.in_ok-a.b) (g.D.Disk.told c.args.second.now)) (sym c.survey_both.ensures.same_second) second in
+    told_first_made c.in_ok-a.a c.in_ok-a.b c.args.create c.in-Ok-settle_synced.format _ _ _ _ (sym c.is_second_newer.ensures ∙ c.if-is_second_newer.false) first_on second_on c.in-Ok-settle_synced.ensures.made
