@@ -7,6 +7,7 @@ ghost use Rattle.tx_journal.specs.declared.format.Format.{Format};
 
 use crate::error::JournalError;
 use crate::scan::{next_gate, payload_at};
+use crate::window::closed;
 use disk_model::Disk;
 use std::alloc::Global;
 
@@ -16,6 +17,9 @@ pub(crate) struct Cursor {
     pub(crate) index: u64,
     pub(crate) gate: u64,
 }
+
+// How many bytes a search looks at.
+const WIDTH: usize = 5;
 
 // The gate of the first record.
 pub(crate) const FIRST: Cursor = Cursor { index: 0, gate: 8 };
@@ -59,15 +63,15 @@ pub(crate) fn find<D: Disk>(
     if len < from.gate {
         return Err(JournalError::Damaged { offset: from.gate });
     }
-    let mut front = Vec::new(alloc);
+    let mut window = closed(alloc);
     let mut gate = from.gate;
     for step in from.index..index {
-        match next_gate(disk, gate, len, &mut front)? {
+        match next_gate(disk, gate, len, WIDTH, &mut window)? {
             Some(next) => gate = next,
             None => return Ok(None),
         }
     }
-    match next_gate(disk, gate, len, &mut front)? {
+    match next_gate(disk, gate, len, WIDTH, &mut window)? {
         Some(next) => {
             let payload = payload_at(alloc, disk, gate, next)?;
             Ok(Some((payload, next)))

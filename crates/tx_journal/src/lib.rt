@@ -14,6 +14,7 @@ mod pair;
 mod record;
 mod scan;
 mod survey;
+mod window;
 
 pub use error::JournalError;
 pub use format::Format;

@@ -1,16 +1,21 @@
 // Reading a file from gate to gate.
-ghost use Rattle.std.specs.Prelude.{◌≡◌, ◌<◌, ◌≤◌, ℕ, ◌+◌, ◌-◌, ◌^◌, true, length, take, drop, OnOk, IfOk, IfErr, Some, IfSome};
+ghost use Rattle.std.specs.Prelude.{◌≡◌, ◌<◌, ◌≤◌, ℕ, ◌+◌, ◌-◌, ◌^◌, true, [], length, take, drop, OnOk, IfOk, IfErr, Some, IfSome};
 ghost use Rattle.std.specs.Int.{w32, to_be_bytes};
 ghost use Rattle.disk_model.specs.Disk.{DiskState};
 ghost use Rattle.tx_journal.specs.Journal.{Costs, StandsAt, Scans, IsPortFault, IsOpenError};
 ghost use Rattle.tx_journal.specs.File.{name, head, is_known};
+ghost use Rattle.tx_journal.specs.Window.{IsShown};
 ghost use Rattle.tx_journal.specs.declared.format.Format.{Format};
 
 use crate::error::JournalError;
+use crate::window::{Window, closed, front_at, show};
 use disk_model::Disk;
 use std::alloc::Global;
 
 pub(crate) const LONGEST: u64 = 5_242_880;
+
+// How many bytes a scan reads at once.
+const WIDTH: usize = 65_536;
 
 // The bytes from a place on, at most so many.
 pub(crate) fn read_at<D: Disk>(
@@ -21,6 +26,7 @@ pub(crate) fn read_at<D: Disk>(
 ) -> Result<(), JournalError>
     ensures read { (d : DiskState) → D.told disk.old ≡ Some d → OnOk result (front.new.items ≡ take most (drop at d.bytes)) }
     ensures most { OnOk result (length front.new.items ≤ most) }
+    ensures failed { IfErr result (λ e. front.new.items ≡ []) }
     ensures same { D.told disk.new ≡ D.told disk.old }
     ensures cause { Costs (D.disk_faults disk.old) (D.disk_faults disk.new) result }
     ensures errors { IfErr result IsPortFault }
@@ -46,12 +52,16 @@ pub(crate) fn next_gate<D: Disk>(
     disk: &mut D,
     at: u64,
     len: u64,
-    front: &mut Vec<u8>,
+    width: usize,
+    window: &mut Window,
 ) -> Result<Option<u64>, JournalError>
+    requires wide { 5 ≤ width }
+    requires shown { IsShown (D.told disk.old) window.old.at window.old.bytes.items }
     requires len { (d : DiskState) → D.told disk.old ≡ Some d → len ≡ length d.bytes }
     requires within { at ≤ len }
     ensures errors { IfErr result IsOpenError }
     ensures stands { (d : DiskState) → D.told disk.old ≡ Some d → StandsAt at result d }
+    ensures shown { IsShown (D.told disk.new) window.new.at window.new.bytes.items }
     ensures next { IfOk result (λ next. (at < len) × IfSome next (λ n. (at + 5 ≤ n) × (n ≤ len))) }
     ensures same { D.told disk.new ≡ D.told disk.old }
     ensures cause { Costs (D.disk_faults disk.old) (D.disk_faults disk.new) result }
@@ -59,8 +69,8 @@ pub(crate) fn next_gate<D: Disk>(
     if at == len {
         return Err(JournalError::Damaged { offset: at });
     }
-    read_at(disk, at, 5, front)?;
-    let front = front.as_slice();
+    show(disk, at, width, window)?;
+    let front = front_at(window, at);
     if front.is_empty() {
         return Err(JournalError::Damaged { offset: at });
     }
@@ -87,9 +97,9 @@ pub(crate) fn scan<D: Disk>(alloc: Global, disk: &mut D, len: u64) -> Result<u64
     ensures same { D.told disk.new ≡ D.told disk.old }
     ensures cause { Costs (D.disk_faults disk.old) (D.disk_faults disk.new) result }
 {
-    let mut front = Vec::new(alloc);
+    let mut window = closed(alloc);
     let mut gate = 8;
-    while let Some(next) = next_gate(disk, gate, len, &mut front)? {
+    while let Some(next) = next_gate(disk, gate, len, WIDTH, &mut window)? {
         gate = next;
     }
     Ok(gate + 1)

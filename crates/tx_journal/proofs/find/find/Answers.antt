@@ -30,6 +30,7 @@ pub loop-step-preserved : goal.loop-step-preserved
 loop-step-preserved g c = record {
   within = (subst (λ o. IfSome o (λ n. (c.loop-step.gate + 5 ≤ n) × (n ≤ c.in-Ok.len))) c.in-Some.is c.in_ok-next.ensures.next.1).1;
   same = c.next_gate.ensures.same ∙ c.loop-step.invariant.same;
+  shown = c.next_gate.ensures.shown;
   cost = omega (arith, c.loop-step.invariant.cost, c.in_ok-next.ensures.cause);
   gated = λ d tells newest format payloads end at_rest gated. gate_next payloads end c.loop-step.step c.loop-step.gate c.in-Some.next d at_rest (c.loop-step.invariant.gated d tells newest format payloads end at_rest gated)
       (subst (λ o. StandsAt c.loop-step.gate (Ok o) d) c.in-Some.is (c.in_ok-next.ensures.stands d (c.loop-step.invariant.same ∙ tells)));
