@@ -16,3 +16,6 @@ mod tree;
 pub use element::{Change, Element, Probe};
 pub use law::order_law;
 pub use tree::{Node, Tree, leaf};
+
+#[cfg(test)]
+mod tests;
