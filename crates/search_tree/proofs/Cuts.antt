@@ -1,16 +1,26 @@
 -- Elements that a probe cuts, cut at one of them: what is looked for or changed stands on one side of it.
-use Rattle.std.proofs.Common.{◌≡◌, ◌⊎◌, inl, inr, Bool, true, false, if◌then◌else◌, List, [], ◌∷◌, ◌++◌, Some, None, refl, ap}
+use Rattle.std.proofs.Common.{◌≡◌, ◌⊎◌, inl, inr, Bool, true, false, if◌then◌else◌, List, [], ◌∷◌, ◌++◌, Option, Some, None, refl, ap}
 use Rattle.std.specs.declared.cmp.Ordering.{Ordering}
 use Rattle.std.specs.declared.cmp.Ordering.TheVariants.{Less, Equal, Greater}
-use Rattle.std.specs.Ordering.{is_eq}
+use Rattle.std.specs.Ordering.{is_eq, is_gt}
 use Rattle.search_tree.specs.Cuts.{AreBehind, IsCut}
-use Rattle.search_tree.specs.Lists.{found, without, with_changed, put_by, with_put}
+use Rattle.search_tree.specs.Lists.{found, first_behind, without, with_changed, put_by, with_put}
 
 pub less-greater : {o : Ordering} → o ≡ Less → o ≡ Greater → ⊥
 less-greater l g = cc
 
 pub equal-greater : {o : Ordering} → o ≡ Equal → o ≡ Greater → ⊥
 equal-greater e g = cc
+
+not_behind : (o : Ordering) → (o ≡ Greater → ⊥) → is_gt o ≡ false
+not_behind Less n = refl
+not_behind Equal n = refl
+not_behind Greater n = absurd (n refl)
+
+-- the first of two, or the second where there is no first
+abbrev pub or_else : {E : Type 0} → Option E → Option E → Option E
+or_else None b = b
+or_else (Some a) b = Some a
 
 module _ {E : Type 0} (at : E → Ordering) where
   pub behind_front : (l m : List E) → AreBehind at (l ++ m) → AreBehind at l
@@ -79,6 +89,22 @@ module _ {E : Type 0} (at : E → Ordering) where
     pub found_left : (l : List E) → IsCut at (l ++ x ∷ r) → at x ≡ Greater → found at (l ++ x ∷ r) ≡ found at l
     found_left [] c h = let other : is_eq (at x) ≡ false = ap is_eq h in rw other (found_behind r (rest_behind x r c.0 h))
     found_left (y ∷ l) c h = rw (found_left l c.1 h) refl
+
+    -- ---- what is behind
+
+    pub next_right : (l : List E) → IsCut at (l ++ x ∷ r) → (at x ≡ Greater → ⊥) → first_behind at (l ++ x ∷ r) ≡ first_behind at r
+    next_right [] c n = rw (not_behind (at x) n) refl
+    next_right (y ∷ l) c n =
+        let other : is_gt (at y) ≡ false = ap is_gt (before y l x r c.0 n) in
+        rw other (next_right l c.1 n)
+
+    pub next_left : (l : List E) → at x ≡ Greater → first_behind at (l ++ x ∷ r) ≡ or_else (first_behind at l) (Some x)
+    next_left [] h = let here : is_gt (at x) ≡ true = ap is_gt h in rw here refl
+    next_left (y ∷ l) h = go (is_gt (at y)) (next_left l h)
+      where
+        go : (b : Bool) → first_behind at (l ++ x ∷ r) ≡ or_else (first_behind at l) (Some x) → (if b then Some y else first_behind at (l ++ x ∷ r)) ≡ or_else (if b then Some y else first_behind at l) (Some x)
+        go true ih = refl
+        go false ih = ih
 
     -- ---- without one
 

@@ -2,13 +2,18 @@
 use Rattle.std.specs.Prelude.{◌≡◌, ℕ, suc, not, if◌then◌else◌, List, [], ◌∷◌, ◌++◌, filter, Option, None, Some}
 use Rattle.std.specs.declared.cmp.Ordering.{Ordering}
 use Rattle.std.specs.declared.cmp.Ordering.TheVariants.{Less, Equal, Greater}
-use Rattle.std.specs.Ordering.{is_eq}
+use Rattle.std.specs.Ordering.{is_eq, is_gt}
 
 module _ {E : Type 0} where
   -- the element in which a probe finds what it looks for
   abbrev pub found : (E → Ordering) → List E → Option E
   found at [] = None
   found at (x ∷ xs) = if is_eq (at x) then Some x else found at xs
+
+  -- the first element behind what a probe looks for
+  abbrev pub first_behind : (E → Ordering) → List E → Option E
+  first_behind at [] = None
+  first_behind at (x ∷ xs) = if is_gt (at x) then Some x else first_behind at xs
 
   -- how many these are
   abbrev pub count_at : (E → Ordering) → List E → ℕ

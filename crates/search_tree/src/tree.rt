@@ -1,7 +1,7 @@
 // The tree itself. Own; the balance is that of AVL trees.
 ghost use Rattle.std.specs.Prelude.{◌≡◌, ◌≤◌, ◌^◌, [], ◌++◌, ◌∷◌, length, option_copied, IfOk};
 ghost use Rattle.search_tree.specs.Cuts.{IsCut, IsRun};
-ghost use Rattle.search_tree.specs.Lists.{found, count_at};
+ghost use Rattle.search_tree.specs.Lists.{found, first_behind, count_at};
 ghost use Rattle.search_tree.specs.Trees.{node_items, root_items};
 
 use crate::element::{Element, Probe};
@@ -100,6 +100,24 @@ impl<E: Element> Tree<E> {
                 Ordering::Less => node.right.get(probe),
                 Ordering::Equal => Some(&node.element),
                 Ordering::Greater => node.left.get(probe),
+            },
+        }
+    }
+
+    /// The first element behind what the probe looks for.
+    pub fn next<P: Probe<E>>(&self, probe: &P) -> Option<&E>
+        requires { IsCut (P.at probe.now) self.now }
+        ensures { option_copied result ≡ first_behind (P.at probe.now) self.now }
+    {
+        match &self.root {
+            Root::Empty => None,
+            Root::Full(node) => match probe.compare(&node.element) {
+                Ordering::Less => node.right.next(probe),
+                Ordering::Equal => node.right.next(probe),
+                Ordering::Greater => match node.left.next(probe) {
+                    None => Some(&node.element),
+                    Some(element) => Some(element),
+                },
             },
         }
     }
