@@ -1,0 +1,32 @@
+// Why a transaction is refused.
+use actor_names::OutOfMemory;
+use thiserror::Error;
+
+/// Why a transaction is refused: its length first, then its first operation at fault, of which the key comes first.
+/// `op` counts from 0.
+#[derive(Clone, Copy, Debug, PartialEq, Eq, Error)]
+pub enum StateError {
+    /// There are `n` operations, more than 1,000.
+    #[error("{n} operations")]
+    TooManyOps { n: u64 },
+    /// The key has `n` bytes: none, or more than 256.
+    #[error("a key of {n} bytes in operation {op}")]
+    KeyTooLong { op: u64, n: u64 },
+    /// The value has `n` bytes, more than 4,194,304.
+    #[error("a value of {n} bytes in operation {op}")]
+    ValueTooLong { op: u64, n: u64 },
+    /// There was no memory for the transaction.
+    #[error("out of memory")]
+    OutOfMemory,
+}
+
+impl From<OutOfMemory> for StateError {
+    ghost use Rattle.state_rows.specs.declared.error.StateError.TheVariants.{OutOfMemory};
+    ghost use Rattle.std.specs.Prelude.{◌≡◌};
+
+    ghost from_gives = { λ _ e. e ≡ OutOfMemory };
+
+    fn from(_: OutOfMemory) -> StateError {
+        StateError::OutOfMemory
+    }
+}

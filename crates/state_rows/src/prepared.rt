@@ -1,0 +1,112 @@
+// A transaction with all its memory taken.
+ghost use Rattle.std.specs.Prelude.{◌≡◌, ◌<◌, List, IfOk};
+ghost use Rattle.search_tree.specs.Orders.{Ascends};
+ghost use Rattle.state_rows.specs.declared.entry.StateEntry.{StateEntry};
+ghost use Rattle.state_rows.specs.Entries.{row_cmp, absent_from, after_op, after_ops};
+ghost use Rattle.state_rows.specs.Prepared.{after_step, after_tx};
+
+use crate::entry::StateEntry;
+use crate::op::StateOp;
+use crate::standing::RowPlace;
+use crate::text::StateKey;
+use actor_names::{ActorKey, OutOfMemory};
+use search_tree::{Node, Tree, leaf};
+use std::alloc::Global;
+
+// One change, for which no memory is wanting any more.
+#[derive(Drop)]
+pub(crate) enum Step {
+    // The entry in this node is put in its place.
+    Put(Box<Node<StateEntry>>),
+    // The actor's entry of this key goes.
+    Remove(StateKey),
+}
+
+/// A transaction that was checked and has its memory. `after_tx` says to which entries it leads.
+#[derive(Drop)]
+pub struct PreparedTx {
+    actor: ActorKey,
+    steps: Vec<Step>,
+}
+
+// The moment from which an entry is absent that is set now.
+fn absent_from(now: u64, ttl: Option<u32>) -> Option<u64>
+    requires { now < 253370764800000 }
+    ensures { result ≡ absent_from now ttl }
+{
+    match ttl {
+        None => None,
+        Some(seconds) => Some(now + u64::from(seconds) * 1000),
+    }
+}
+
+// The change that an operation makes.
+fn step_of(alloc: Global, actor: &ActorKey, op: StateOp, now: u64) -> Result<Step, OutOfMemory>
+    requires { now < 253370764800000 }
+    ensures { IfOk result (λ step. (rows : List StateEntry) → after_step actor.now step rows ≡ after_op actor.now now op rows) }
+{
+    match op {
+        StateOp::Upsert { key, value, ttl } => {
+            let actor = actor.copy(alloc)?;
+            let node = leaf(
+                alloc,
+                StateEntry {
+                    actor,
+                    key,
+                    value,
+                    absent: absent_from(now, ttl),
+                },
+            )?;
+            Ok(Step::Put(node))
+        }
+        StateOp::Delete { key } => Ok(Step::Remove(key)),
+    }
+}
+
+/// The transaction of these operations, whatever the entries are.
+pub(crate) fn prepared(
+    alloc: Global,
+    actor: &ActorKey,
+    ops: Vec<StateOp>,
+    now: u64,
+) -> Result<PreparedTx, OutOfMemory>
+    requires { now < 253370764800000 }
+    ensures { IfOk result (λ tx. (rows : List StateEntry) → after_tx tx rows ≡ after_ops actor.now now ops.items rows) }
+{
+    let mut steps = Vec::new(alloc);
+    for op in ops {
+        let step = step_of(alloc, actor, op, now)?;
+        steps.push(step)?;
+    }
+    let actor = actor.copy(alloc)?;
+    Ok(PreparedTx { actor, steps })
+}
+
+// Makes one change; takes no memory.
+fn make_step(tree: &mut Tree<StateEntry>, actor: &ActorKey, step: Step)
+    requires { Ascends row_cmp tree.old }
+    ensures rows { tree.new ≡ after_step actor.now step tree.old }
+    ensures order { Ascends row_cmp tree.new }
+{
+    match step {
+        Step::Put(node) => tree.put(node),
+        Step::Remove(key) => {
+            let _there = tree.remove(&RowPlace {
+                actor,
+                key: key.as_str(),
+            });
+        }
+    }
+}
+
+/// Makes the changes one after another; takes no memory.
+pub(crate) fn make(tree: &mut Tree<StateEntry>, tx: PreparedTx)
+    requires { Ascends row_cmp tree.old }
+    ensures rows { tree.new ≡ after_tx tx tree.old }
+    ensures order { Ascends row_cmp tree.new }
+{
+    let PreparedTx { actor, steps } = tx;
+    for step in steps {
+        make_step(tree, &actor, step);
+    }
+}

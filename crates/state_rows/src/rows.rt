@@ -1,0 +1,112 @@
+// The state of actors.
+ghost use Rattle.std.specs.Prelude.{◌≡◌, ◌<◌, [], List, IfOk, IfErr, IfSome, option_copied};
+ghost use Rattle.search_tree.specs.Orders.{Ascends};
+ghost use Rattle.state_rows.specs.declared.entry.StateEntry.{StateEntry};
+ghost use Rattle.state_rows.specs.Checks.{ops_fault, or_memory};
+ghost use Rattle.state_rows.specs.Entries.{row_cmp, value_at, after_ops};
+ghost use Rattle.state_rows.specs.Prepared.{after_tx};
+
+use crate::check::ops_fault;
+use crate::entry::StateEntry;
+use crate::error::StateError;
+use crate::op::StateOp;
+use crate::prepared::{PreparedTx, make, prepared};
+use crate::standing::RowPlace;
+use actor_names::ActorKey;
+use search_tree::Tree;
+use std::alloc::Global;
+use std::marker::Model;
+
+/// The values of actors, each under a key of its actor; contracts see the entries in order of actor, then key.
+#[derive(Drop)]
+pub struct StateRows {
+    tree: Tree<StateEntry>,
+    alloc: Global,
+}
+
+impl Model for StateRows {
+    ghost use Rattle.std.specs.Prelude.{List};
+    ghost use Rattle.search_tree.specs.Orders.{Ascends};
+    ghost use Rattle.state_rows.specs.declared.entry.StateEntry.{StateEntry};
+    ghost use Rattle.state_rows.specs.Entries.{row_cmp};
+
+    ghost Value = { List StateEntry };
+
+    ghost view = { λ a. a.tree };
+
+    ghost invariant = { λ a. Ascends row_cmp a.tree };
+}
+
+impl StateRows {
+    /// No entry; takes no memory.
+    pub fn new(alloc: Global) -> StateRows
+        ensures { result ≡ [] }
+    {
+        StateRows {
+            tree: Tree::new(),
+            alloc,
+        }
+    }
+
+    // The entries are in order, each actor and key once.
+    pub(crate) fn in_order(&self)
+        ensures { Ascends row_cmp self.now }
+    {
+        let _tree = &self.tree;
+    }
+
+    /// Why a transaction of these operations is refused, want of memory aside: above 1,000 operations `TooManyOps`;
+    /// then the first operation at fault, `KeyTooLong` for a key of no byte or more than 256, or `ValueTooLong` for a
+    /// value of more than 4,194,304. Takes no memory.
+    pub fn check(ops: &[StateOp]) -> Result<(), StateError>
+        ensures ok { IfOk result (λ _. ops_fault ops.now ≡ None) }
+        ensures refused { IfErr result (λ e. ops_fault ops.now ≡ Some e) }
+    {
+        match ops_fault(ops) {
+            None => Ok(()),
+            Some(fault) => Err(fault),
+        }
+    }
+
+    /// Takes all the memory that a transaction at `now`, milliseconds since 1970, needs, and leaves the entries as
+    /// they are. It is refused as `check` says, and then `OutOfMemory`.
+    pub fn prepare(
+        &mut self,
+        actor: &ActorKey,
+        ops: Vec<StateOp>,
+        now: u64,
+    ) -> Result<PreparedTx, StateError>
+        requires { now < 253370764800000 }
+        ensures leads { IfOk result (λ tx. (rows : List StateEntry) → after_tx tx rows ≡ after_ops actor.now now ops.items rows) }
+        ensures refused { IfSome (ops_fault ops.items) (λ e. result ≡ Err e) }
+        ensures cause { IfErr result (λ e. e ≡ or_memory (ops_fault ops.items)) }
+        ensures same { self.new ≡ self.old }
+    {
+        if let Some(fault) = ops_fault(ops.as_slice()) {
+            return Err(fault);
+        }
+        let tx = prepared(self.alloc, actor, ops, now)?;
+        Ok(tx)
+    }
+
+    /// Makes the changes of a prepared transaction, all of them in their order. Takes no memory and can't fail.
+    pub fn apply(&mut self, tx: PreparedTx)
+        ensures { self.new ≡ after_tx tx self.old }
+    {
+        make(&mut self.tree, tx);
+    }
+
+    /// The value of the actor's key at `now`, milliseconds since 1970. None exactly where there is no entry, or `now`
+    /// is at or past the moment from which it is absent. Takes no memory.
+    pub fn get(&self, actor: &ActorKey, key: &str, now: u64) -> Option<&[u8]>
+        ensures { option_copied result ≡ value_at actor.now key.now now self.now }
+    {
+        let entry = self.tree.get(&RowPlace { actor, key })?;
+        if let Some(absent) = entry.absent {
+            if absent <= now {
+                return None;
+            }
+        }
+        Some(entry.value.as_slice())
+    }
+}
