@@ -1,0 +1,66 @@
+-- Worked examples of what fields say, and of one request.
+use Rattle.std.proofs.Common.{refl, ◌≡◌, ℕ, true, false, List, [], ◌∷◌, ◌++◌, Some, None, Ok, Err, codes}
+use Rattle.httparse.specs.Grammar.{RequestHead, Field, crlf, print_request, trim_ows}
+use Rattle.http_edge.specs.declared.error.EdgeError.TheVariants.{Chunked, BadLength, BodyTooLong}
+use Rattle.http_edge.specs.Fields.{length_of, values_of, body_told, says_close}
+use Rattle.http_edge.specs.Requests.{pairs_of, closes}
+
+zeros_may_lead : length_of (codes "003") ≡ Some 3
+zeros_may_lead = refl
+
+no_sign : length_of (codes "+3") ≡ None
+no_sign = refl
+
+some_digit : length_of [] ≡ None
+some_digit = refl
+
+no_19th_digit : length_of (codes "0000000000000000003") ≡ None
+no_19th_digit = refl
+
+case_is_no_matter : values_of (codes "Content-Length") ((codes "content-LENGTH", codes "3") ∷ (codes "Host", codes "a") ∷ []) ≡ codes "3" ∷ []
+case_is_no_matter = refl
+
+no_field_no_body : body_told [] ≡ Ok 0
+no_field_no_body = refl
+
+two_lengths : body_told ((codes "Content-Length", codes "3") ∷ (codes "Content-Length", codes "3") ∷ []) ≡ Err BadLength
+two_lengths = refl
+
+coding_first : body_told ((codes "Content-Length", codes "x") ∷ (codes "Transfer-Encoding", codes "chunked") ∷ []) ≡ Err Chunked
+coding_first = refl
+
+longest : body_told ((codes "Content-Length", codes "4194304") ∷ []) ≡ Ok 4194304
+longest = refl
+
+too_long : body_told ((codes "Content-Length", codes "4194305") ∷ []) ≡ Err (BodyTooLong 4194305)
+too_long = refl
+
+close_in_any_case : says_close ((codes "connection", codes "Close") ∷ []) ≡ true
+close_in_any_case = refl
+
+close_in_a_list : says_close ((codes "Connection", codes "te, close") ∷ []) ≡ false
+close_in_a_list = refl
+
+-- a request with a body of three bytes
+abbrev example : RequestHead
+example = record {
+  blank = [];
+  method = codes "PUT";
+  target = codes "/a";
+  minor = 1;
+  line_end = crlf;
+  fields = record { name = codes "Content-Length"; raw = codes " 3"; end = crlf } ∷ [];
+  last = crlf;
+}
+
+is_spelled : print_request example ++ codes "abc" ≡ codes "PUT /a HTTP/1.1\r\nContent-Length: 3\r\n\r\nabc"
+unfolding print_request
+is_spelled = refl
+
+tells_three : body_told (pairs_of example) ≡ Ok 3
+unfolding trim_ows
+tells_three = refl
+
+stays_open : closes example ≡ false
+unfolding trim_ows
+stays_open = refl

@@ -1,0 +1,6 @@
+pub mod Carried
+pub mod Values
+pub mod Looked
+pub mod Received
+pub mod Bodies
+mod Examples

@@ -1,0 +1,4 @@
+pub mod Carry
+pub mod Fields
+pub mod Requests
+pub mod Steps

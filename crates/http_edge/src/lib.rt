@@ -1,0 +1,18 @@
+// HTTP/1.1 messages over connections: requests that are read, responses that are written, one exchange.
+//
+// Promise: however the bytes are cut, what is read is what the grammar says of them, and each refusal comes by its
+// cause. Heads are read by httparse. Stands on actor_ports.
+#![tactic(auto)]
+
+mod bytes;
+mod carry;
+mod error;
+mod fields;
+mod head;
+mod message;
+mod reader;
+
+pub use bytes::Bytes;
+pub use error::EdgeError;
+pub use message::{HttpField, HttpFields, HttpRequest, HttpResponse};
+pub use reader::RequestReader;

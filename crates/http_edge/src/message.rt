@@ -1,0 +1,69 @@
+// Messages and their fields.
+ghost use Rattle.std.specs.Prelude.{◌≡◌};
+
+use crate::bytes::Bytes;
+use std::marker::Model;
+
+/// A field of a head: its name as it was written, and its value without the white space around it.
+#[derive(Debug, Drop)]
+pub struct HttpField {
+    pub name: Bytes,
+    pub value: Bytes,
+}
+
+/// The fields of a head in their order, which contracts see as their list.
+#[derive(Debug, Drop)]
+pub struct HttpFields {
+    fields: Vec<HttpField>,
+}
+
+impl Model for HttpFields {
+    ghost use Rattle.std.specs.Prelude.{List};
+    ghost use Rattle.http_edge.specs.declared.message.HttpField.{HttpField};
+
+    ghost Value = { List HttpField };
+
+    ghost view = { λ a. a.fields.items };
+}
+
+impl HttpFields {
+    /// The fields of a vector.
+    pub fn from_vec(fields: Vec<HttpField>) -> HttpFields
+        ensures { result ≡ fields.items }
+    {
+        HttpFields { fields }
+    }
+
+    /// The fields.
+    pub fn as_slice(&self) -> &[HttpField]
+        ensures { result.now ≡ self.now }
+    {
+        self.fields.as_slice()
+    }
+
+    /// The vector; takes no memory.
+    pub fn into_vec(self) -> Vec<HttpField>
+        ensures { result.items ≡ self }
+    {
+        let HttpFields { fields } = self;
+        fields
+    }
+}
+
+/// A request. `close` says that no further one follows on its connection.
+#[derive(Debug, Drop)]
+pub struct HttpRequest {
+    pub method: Bytes,
+    pub target: Bytes,
+    pub fields: HttpFields,
+    pub body: Bytes,
+    pub close: bool,
+}
+
+/// A response or reply.
+#[derive(Debug, Drop)]
+pub struct HttpResponse {
+    pub status: u16,
+    pub fields: HttpFields,
+    pub body: Bytes,
+}
