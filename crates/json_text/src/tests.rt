@@ -107,24 +107,22 @@ fn look_ups_find_what_is_there(rt: HostRuntime) -> Result<(), Fail> {
     let whole = json.as_ref();
     assert!(rt; whole.is_object() && !whole.is_array() && !whole.is_null());
     assert!(rt; whole.member("x").is_none() && whole.item(0).is_none());
-    let mut found = 0;
     for key in ["n", "m", "t", "y", "z", "l"] {
+        assert!(rt; whole.member(key).is_some(), "{key}");
         if let Some(value) = whole.member(key) {
-            found += 1;
             assert!(rt; (value.as_u64() == Some(7)) == (key == "n"), "{key}");
             assert!(rt; (value.as_i64() == Some(-7)) == (key == "m"), "{key}");
             assert!(rt; (value.as_str() == Some("a\nb")) == (key == "t"), "{key}");
             assert!(rt; (value.as_bool() == Some(false)) == (key == "y"), "{key}");
             assert!(rt; value.is_null() == (key == "z"), "{key}");
             assert!(rt; (value.item_count() == Some(2)) == (key == "l"), "{key}");
+            assert!(rt; value.item(0).is_some() == (key == "l"), "{key}");
             if let Some(first) = value.item(0) {
-                found += 1;
                 assert!(rt; first.as_u64() == Some(u64::MAX) && first.as_i64().is_none());
             }
             assert!(rt; value.item(2).is_none());
         }
     }
-    assert!(rt; found == 7);
     Ok(())
 }
 
