@@ -16,3 +16,6 @@ pub use bytes::Bytes;
 pub use error::EdgeError;
 pub use message::{HttpField, HttpFields, HttpRequest, HttpResponse};
 pub use reader::RequestReader;
+
+#[cfg(test)]
+mod tests;

@@ -1,0 +1,333 @@
+// Requests by table, each whole and cut at every byte; limits; faults.
+use super::*;
+use actor_ports::MemConn;
+use std::alloc::Global;
+use std::test::Fail;
+
+fn add_request(request: &HttpRequest, text: &mut Vec<u8>) -> Result<(), Fail> {
+    text.extend_from_slice(request.method.as_slice())?;
+    text.extend_from_slice(b" ")?;
+    text.extend_from_slice(request.target.as_slice())?;
+    text.extend_from_slice(b" [")?;
+    for field in request.fields.as_slice() {
+        text.extend_from_slice(field.name.as_slice())?;
+        text.extend_from_slice(b"=")?;
+        text.extend_from_slice(field.value.as_slice())?;
+        text.extend_from_slice(b";")?;
+    }
+    text.extend_from_slice(b"] ")?;
+    text.extend_from_slice(request.body.as_slice())?;
+    if request.close {
+        text.extend_from_slice(b" close")?;
+    }
+    Ok(())
+}
+
+// An answer as a text: `METHOD TARGET [NAME=VALUE;..] BODY`, with ` close` where no request follows.
+fn told(alloc: Global, answer: &Result<Option<HttpRequest>, EdgeError>) -> Result<Vec<u8>, Fail> {
+    let mut text = Vec::new(alloc);
+    match answer {
+        Ok(None) => text.extend_from_slice(b"none")?,
+        Ok(Some(request)) => add_request(request, &mut text)?,
+        Err(error) => {
+            let words = format!(in alloc; "{error}")?;
+            text.extend_from_slice(words.as_bytes())?;
+        }
+    }
+    Ok(text)
+}
+
+// What the first read of these bytes answers.
+fn first(alloc: Global, input: &[u8]) -> Result<Vec<u8>, Fail> {
+    let mut conn = MemConn::new(alloc, input, &[])?;
+    let mut reader = RequestReader::new(alloc);
+    let answer = reader.read(&mut conn);
+    told(alloc, &answer)
+}
+
+// Whether this input, cut after so many bytes, gives that answer or is told to be cut there.
+fn is_cut(alloc: Global, input: &[u8], n: usize, wanted: &[u8]) -> Result<bool, Fail> {
+    let cut = first(alloc, &input[..n.min(input.len())])?;
+    let short = if n == 0 {
+        format!(in alloc; "none")?
+    } else {
+        format!(in alloc; "cut short after {n} bytes")?
+    };
+    Ok(cut.as_slice() == wanted || cut.as_slice() == short.as_bytes())
+}
+
+// The first row whose input doesn't give its answer, whole or cut at some byte.
+fn first_wrong(alloc: Global, rows: &[(&[u8], &[u8])]) -> Result<Option<usize>, Fail> {
+    for (row, (input, wanted)) in rows.iter().enumerate() {
+        let whole = first(alloc, input)?;
+        if whole.as_slice() != *wanted {
+            return Ok(Some(row));
+        }
+        for n in 0..input.len() {
+            if !is_cut(alloc, input, n, wanted)? {
+                return Ok(Some(row));
+            }
+        }
+    }
+    Ok(None)
+}
+
+#[test]
+fn request_lines_are_read(rt: HostRuntime) -> Result<(), Fail> {
+    let rows: [(&[u8], &[u8]); 20] = [
+        (b"GET / HTTP/1.1\r\n\r\n", b"GET / [] "),
+        (b"GET / HTTP/1.0\r\n\r\n", b"GET / []  close"),
+        (b"GET / HTTP/1.1\n\n", b"GET / [] "),
+        (b"\r\nGET / HTTP/1.1\r\n\r\n", b"GET / [] "),
+        (b"\n\nGET / HTTP/1.1\r\n\r\n", b"GET / [] "),
+        (b"GET / HTTP/1.1\r\n\r\nGET /next", b"GET / [] "),
+        (b"get /a?b=c HTTP/1.1\r\n\r\n", b"get /a?b=c [] "),
+        (b"M-SEARCH * HTTP/1.1\r\n\r\n", b"M-SEARCH * [] "),
+        (b"CONNECT a:80 HTTP/1.1\r\n\r\n", b"CONNECT a:80 [] "),
+        (b"GET http://a/b HTTP/1.1\r\n\r\n", b"GET http://a/b [] "),
+        (b"GET /a#b HTTP/1.1\r\n\r\n", b"GET /a#b [] "),
+        (b"GET /%zz HTTP/1.1\r\n\r\n", b"GET /%zz [] "),
+        (b"GET /\xC3\xA9 HTTP/1.1\r\n\r\n", b"GET /\xC3\xA9 [] "),
+        (b"GET / HTTP/1.2\r\n\r\n", b"malformed head"),
+        (b"GET / HTTP/2.0\r\n\r\n", b"malformed head"),
+        (b"GET / http/1.1\r\n\r\n", b"malformed head"),
+        (b"GET /  HTTP/1.1\r\n\r\n", b"malformed head"),
+        (b" GET / HTTP/1.1\r\n\r\n", b"malformed head"),
+        (b"GET HTTP/1.1\r\n\r\n", b"malformed head"),
+        (b"G@T / HTTP/1.1\r\n\r\n", b"malformed head"),
+    ];
+    assert_eq!(rt; first_wrong(rt.alloc(), rows.as_slice())?, None);
+    Ok(())
+}
+
+#[test]
+fn fields_are_read(rt: HostRuntime) -> Result<(), Fail> {
+    let rows: [(&[u8], &[u8]); 22] = [
+        (b"GET / HTTP/1.1\r\nHost: a\r\n\r\n", b"GET / [Host=a;] "),
+        (
+            b"GET / HTTP/1.1\nHost:a\nHost:b\n\n",
+            b"GET / [Host=a;Host=b;] ",
+        ),
+        (
+            b"GET / HTTP/1.1\r\nA: \t b c \t\r\n\r\n",
+            b"GET / [A=b c;] ",
+        ),
+        (b"GET / HTTP/1.1\r\nA:\r\n\r\n", b"GET / [A=;] "),
+        (
+            b"GET / HTTP/1.1\r\nX-!~: \xFF\r\n\r\n",
+            b"GET / [X-!~=\xFF;] ",
+        ),
+        (
+            b"GET / HTTP/1.1\r\nConnection: close\r\n\r\n",
+            b"GET / [Connection=close;]  close",
+        ),
+        (
+            b"GET / HTTP/1.1\r\nconnection:CLOSE\r\n\r\n",
+            b"GET / [connection=CLOSE;]  close",
+        ),
+        (
+            b"GET / HTTP/1.1\r\nConnection: te, close\r\n\r\n",
+            b"GET / [Connection=te, close;] ",
+        ),
+        (
+            b"GET / HTTP/1.0\r\nConnection: keep-alive\r\n\r\n",
+            b"GET / [Connection=keep-alive;]  close",
+        ),
+        (
+            b"GET / HTTP/1.1\r\nConnection: te\r\nConnection: close\r\n\r\n",
+            b"GET / [Connection=te;Connection=close;]  close",
+        ),
+        (b"GET / HTTP/1.1\r\nHost : a\r\n\r\n", b"malformed head"),
+        (b"GET / HTTP/1.1\r\nA: b\r\n c\r\n\r\n", b"malformed head"),
+        (b"GET / HTTP/1.1\r\n A: b\r\n\r\n", b"malformed head"),
+        (b"GET / HTTP/1.1\r\nA: b\rc\r\n\r\n", b"malformed head"),
+        (b"GET / HTTP/1.1\r\nA: b\x00c\r\n\r\n", b"malformed head"),
+        (b"GET / HTTP/1.1\r\nA: b\x7Fc\r\n\r\n", b"malformed head"),
+        (b"GET / HTTP/1.1\r\nA\r\n\r\n", b"malformed head"),
+        (b"GET / HTTP/1.1\r\n: a\r\n\r\n", b"malformed head"),
+        (b"GET / HTTP/1.1\r\nA(: b\r\n\r\n", b"malformed head"),
+        (b"GET / HTTP/1.1 \r\nA: b\r\n\r\n", b"malformed head"),
+        (b"GET /\x7F HTTP/1.1\r\n\r\n", b"malformed head"),
+        (b"GET /\xFF HTTP/1.1\r\n\r\n", b"malformed head"),
+    ];
+    assert_eq!(rt; first_wrong(rt.alloc(), rows.as_slice())?, None);
+    Ok(())
+}
+
+#[test]
+fn bodies_are_read_by_length(rt: HostRuntime) -> Result<(), Fail> {
+    let rows: [(&[u8], &[u8]); 24] = [
+        (
+            b"PUT /a HTTP/1.1\r\nContent-Length: 3\r\n\r\nabc",
+            b"PUT /a [Content-Length=3;] abc",
+        ),
+        (
+            b"PUT /a HTTP/1.1\ncontent-length:3\n\na\r\nGET",
+            b"PUT /a [content-length=3;] a\r\n",
+        ),
+        (
+            b"PUT /a HTTP/1.1\r\nCONTENT-LENGTH: \t0 \r\n\r\n",
+            b"PUT /a [CONTENT-LENGTH=0;] ",
+        ),
+        (
+            b"PUT /a HTTP/1.1\r\nContent-Length: 000000000000000003\r\n\r\nabc",
+            b"PUT /a [Content-Length=000000000000000003;] abc",
+        ),
+        (
+            b"PUT /a HTTP/1.0\r\nContent-Length: 1\r\n\r\n\x00",
+            b"PUT /a [Content-Length=1;] \x00 close",
+        ),
+        (
+            b"PUT /a HTTP/1.1\r\nContent-Length: 3\r\n\r\nab",
+            b"cut short after 40 bytes",
+        ),
+        (
+            b"PUT /a HTTP/1.1\r\nTransfer-Encoding: chunked\r\n\r\n0\r\n\r\n",
+            b"chunked body",
+        ),
+        (
+            b"PUT /a HTTP/1.1\r\ntransfer-encoding: identity\r\n\r\n",
+            b"chunked body",
+        ),
+        (
+            b"PUT /a HTTP/1.1\r\nTransfer-Encoding:\r\n\r\n",
+            b"chunked body",
+        ),
+        (
+            b"PUT /a HTTP/1.1\r\nContent-Length: 3\r\nTransfer-Encoding: chunked\r\n\r\n",
+            b"chunked body",
+        ),
+        (
+            b"PUT /a HTTP/1.1\r\nContent-Length: x\r\nTransfer-Encoding: chunked\r\n\r\n",
+            b"chunked body",
+        ),
+        (
+            b"PUT /a HTTP/1.1\r\nContent-Length: 3\r\nContent-Length: 3\r\n\r\nabc",
+            b"malformed length",
+        ),
+        (
+            b"PUT /a HTTP/1.1\r\nContent-Length: 3\r\ncontent-length: 4\r\n\r\nabc",
+            b"malformed length",
+        ),
+        (
+            b"PUT /a HTTP/1.1\r\nContent-Length: 3, 3\r\n\r\nabc",
+            b"malformed length",
+        ),
+        (
+            b"PUT /a HTTP/1.1\r\nContent-Length: +3\r\n\r\nabc",
+            b"malformed length",
+        ),
+        (
+            b"PUT /a HTTP/1.1\r\nContent-Length: -1\r\n\r\n",
+            b"malformed length",
+        ),
+        (
+            b"PUT /a HTTP/1.1\r\nContent-Length: 3 3\r\n\r\nabc",
+            b"malformed length",
+        ),
+        (
+            b"PUT /a HTTP/1.1\r\nContent-Length: 0x3\r\n\r\nabc",
+            b"malformed length",
+        ),
+        (
+            b"PUT /a HTTP/1.1\r\nContent-Length:\r\n\r\n",
+            b"malformed length",
+        ),
+        (
+            b"PUT /a HTTP/1.1\r\nContent-Length: 0000000000000000003\r\n\r\nabc",
+            b"malformed length",
+        ),
+        (
+            b"PUT /a HTTP/1.1\r\nContent-Length: 3/\r\n\r\nabc",
+            b"malformed length",
+        ),
+        (
+            b"PUT /a HTTP/1.1\r\nContent-Length: 3:\r\n\r\nabc",
+            b"malformed length",
+        ),
+        (
+            b"PUT /a HTTP/1.1\r\nContent-Length: 4194305\r\n\r\n",
+            b"body of 4194305 bytes",
+        ),
+        (
+            b"PUT /a HTTP/1.1\r\nContent-Length: 999999999999999999\r\n\r\n",
+            b"body of 999999999999999999 bytes",
+        ),
+    ];
+    assert_eq!(rt; first_wrong(rt.alloc(), rows.as_slice())?, None);
+    Ok(())
+}
+
+#[test]
+fn cut_head_tells_its_length(rt: HostRuntime) -> Result<(), Fail> {
+    let head =
+        b"PUT /v1.0/actors/order/42/method/add HTTP/1.1\r\nHost: 127.0.0.1:3500\r\nContent-Length: 1\r\n\r\n";
+    for n in 1..head.len() {
+        let mut conn = MemConn::new(rt.alloc(), &head[..n], &[])?;
+        let mut reader = RequestReader::new(rt.alloc());
+        let answer = reader.read(&mut conn);
+        assert_eq!(rt; answer.err(), Some(EdgeError::CutShort { n: n as u64 }));
+    }
+    Ok(())
+}
+
+#[test]
+fn long_head_is_refused(rt: HostRuntime) -> Result<(), Fail> {
+    let mut bytes = Vec::new(rt.alloc());
+    for _ in 0..16_383 {
+        bytes.push(b'a')?;
+    }
+    let short = first(rt.alloc(), bytes.as_slice())?;
+    assert_eq!(rt; short.as_slice(), b"cut short after 16383 bytes".as_slice());
+    bytes.push(b'a')?;
+    let long = first(rt.alloc(), bytes.as_slice())?;
+    assert_eq!(rt; long.as_slice(), b"head above 16384 bytes".as_slice());
+    Ok(())
+}
+
+#[test]
+fn a_65th_field_is_refused(rt: HostRuntime) -> Result<(), Fail> {
+    for (count, refused) in [(64, false), (65, true)] {
+        let mut bytes = Vec::from_slice(rt.alloc(), b"GET / HTTP/1.1\r\n")?;
+        for _ in 0..count {
+            bytes.extend_from_slice(b"A:\r\n")?;
+        }
+        bytes.extend_from_slice(b"\r\n")?;
+        let answer = first(rt.alloc(), bytes.as_slice())?;
+        let told_many = answer.as_slice() == b"more than 64 fields".as_slice();
+        assert_eq!(rt; told_many, refused);
+    }
+    Ok(())
+}
+
+#[test]
+fn requests_follow_one_another_until_an_error(rt: HostRuntime) -> Result<(), Fail> {
+    let input =
+        b"PUT /a HTTP/1.1\r\nContent-Length: 3\r\n\r\nabcGET /b HTTP/1.1\r\n\r\nGET / HTTP/3\r\n\r\nGET / HTTP/1.1\r\n\r\n";
+    let mut conn = MemConn::new(rt.alloc(), input, &[])?;
+    let mut reader = RequestReader::new(rt.alloc());
+    let wanted: [&[u8]; 4] = [
+        b"PUT /a [Content-Length=3;] abc",
+        b"GET /b [] ",
+        b"malformed head",
+        b"malformed head",
+    ];
+    for text in wanted {
+        let answer = reader.read(&mut conn);
+        let is = told(rt.alloc(), &answer)?;
+        assert_eq!(rt; is.as_slice(), text);
+    }
+    Ok(())
+}
+
+#[test]
+fn fault_is_answered_again(rt: HostRuntime) -> Result<(), Fail> {
+    let input = b"PUT /a HTTP/1.1\r\nContent-Length: 3\r\n\r\nabc";
+    let mut conn = MemConn::new(rt.alloc(), input, &[1])?;
+    let mut reader = RequestReader::new(rt.alloc());
+    for _ in 0..3 {
+        let answer = reader.read(&mut conn);
+        assert_eq!(rt; answer.err(), Some(EdgeError::ConnFault));
+    }
+    Ok(())
+}
