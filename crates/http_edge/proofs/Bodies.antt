@@ -1,5 +1,5 @@
 -- The body behind a head.
-use Rattle.std.proofs.Common.{refl, sym, ap, subst, ◌∙◌, ◌≡◌, ◌<◌, ◌≤◌, ◌+◌, ◌-◌, ℕ, List, [], ◌∷◌, ◌++◌, length, map, take, drop, Option, Some, None, Result, Ok, Err, ◌⊎◌, inl, inr, append_assoc, length-append, ⊎_elim, min, arith}
+use Rattle.std.proofs.Common.{refl, sym, ap, ◌∙◌, ◌≡◌, ◌<◌, ◌≤◌, ◌+◌, ℕ, List, [], ◌∷◌, ◌++◌, length, map, take, drop, Option, Some, Ok, Err, ◌⊎◌, inl, inr, append_assoc, length-append, ⊎_elim, min, arith}
 use Rattle.std.proofs.lemmas.List.{append-nil, take-append-drop, length-take-le, length-take, drop_all}
 use Rattle.std.proofs.lemmas.Bool.{cases_lt as order}
 use Rattle.httparse.specs.Grammar.{RequestHead, IsRequestHead, print_request, print_blank}
@@ -9,8 +9,8 @@ use Rattle.http_edge.specs.declared.head.Head.{Head}
 use Rattle.http_edge.specs.declared.message.HttpRequest.{HttpRequest}
 use Rattle.http_edge.specs.declared.error.EdgeError.{EdgeError}
 use Rattle.http_edge.specs.declared.error.EdgeError.TheVariants.{BadHead, HeadTooLong, TooManyFields, Chunked, BadLength, BodyTooLong, CutShort, ConnFault, OutOfMemory}
-use Rattle.http_edge.specs.Carry.{Over, AtEnd}
-use Rattle.http_edge.specs.Requests.{StartsWithHead, Refuses, Gives, ReadsNext, IsRequestText, pairs_of, pair_of}
+use Rattle.http_edge.specs.Carry.{AtEnd}
+use Rattle.http_edge.specs.Requests.{Refuses, ReadsNext, pair_of}
 use Rattle.http_edge.specs.Steps.{IsHeadOf, Fills, FillsOver}
 
 -- a head has a byte

@@ -1,12 +1,11 @@
 -- What goes over a connection adds up.
-use Rattle.std.proofs.Common.{sym, refl, ap, subst, ◌∙◌, ◌≡◌, ◌≤◌, ℕ, List, [], ◌++◌, length, take, drop, Option, Some, None, option_map, Result, Ok, Err, IfOk, IfErr, ◌≢◌, append_assoc, arith}
+use Rattle.std.proofs.Common.{sym, refl, ap, subst, ◌∙◌, ◌≡◌, ℕ, List, [], ◌++◌, take, drop, Option, Some, None, option_map, Result, Ok, Err, append_assoc}
 use Rattle.std.proofs.lemmas.List.{append-nil, take-append-drop, length-take-le}
 use Rattle.actor_ports.specs.declared.port.PortError.{PortError}
 use Rattle.actor_ports.specs.declared.port.PortError.TheVariants.{Failed, OutOfMemory}
 use Rattle.actor_ports.specs.Port.{Appends, TakesFront}
 use Rattle.actor_ports.specs.Traffic.{Traffic, Receives, Sends, took, sent}
-use Rattle.std.proofs.Math.Seq.{take-length}
-use Rattle.http_edge.specs.Carry.{Carried, nothing, then_carried, Over, AtEnd, IsFront, Writes, Reads}
+use Rattle.http_edge.specs.Carry.{Carried, nothing, then_carried, Over, AtEnd, Writes, Reads}
 
 -- the traffic after these bytes
 abbrev pub after : Traffic → Carried → List ℕ → Traffic

@@ -1,6 +1,6 @@
 -- Worked examples of what fields say, and of one request.
-use Rattle.std.proofs.Common.{refl, ◌≡◌, ℕ, true, false, List, [], ◌∷◌, ◌++◌, Some, None, Ok, Err, codes}
-use Rattle.httparse.specs.Grammar.{RequestHead, Field, crlf, print_request, trim_ows}
+use Rattle.std.proofs.Common.{refl, ◌≡◌, true, false, [], ◌∷◌, ◌++◌, Some, None, Ok, Err, codes}
+use Rattle.httparse.specs.Grammar.{RequestHead, crlf, print_request, trim_ows}
 use Rattle.http_edge.specs.declared.error.EdgeError.TheVariants.{Chunked, BadLength, BodyTooLong}
 use Rattle.http_edge.specs.Fields.{length_of, values_of, body_told, says_close}
 use Rattle.http_edge.specs.Requests.{pairs_of, closes}

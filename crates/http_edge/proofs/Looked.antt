@@ -1,14 +1,13 @@
 -- A look at the head of a request.
-use Rattle.std.proofs.Common.{refl, sym, ap, ◌∙◌, ◌≡◌, ◌<◌, ◌≤◌, ◌+◌, ◌==◌, ◌||◌, ℕ, List, [], ◌++◌, length, map, take, drop, Result, Ok, Err, arith}
+use Rattle.std.proofs.Common.{sym, ap, ◌∙◌, ◌≡◌, ◌≤◌, ◌==◌, ◌||◌, ℕ, List, length, map, take, drop, Ok, arith}
 use Rattle.std.proofs.lemmas.List.{length-map, length-take}
 use Rattle.httparse.specs.declared.spans.HeaderSpan.{HeaderSpan}
 use Rattle.httparse.specs.declared.spans.RequestSpans.{RequestSpans}
-use Rattle.httparse.specs.Grammar.{Field, RequestHead, print_request}
+use Rattle.httparse.specs.Grammar.{Field, RequestHead}
 use Rattle.httparse.specs.Spans.{name_and_value, header_bytes, span_bytes, IsRequestAt, IsRequestWithin}
 use Rattle.http_edge.specs.declared.head.Head.{Head}
-use Rattle.http_edge.specs.declared.error.EdgeError.{EdgeError}
-use Rattle.http_edge.specs.Fields.{most_head, most_fields, body_told, says_close}
-use Rattle.http_edge.specs.Requests.{StartsWithHead, RefusesBody, pairs_of, pair_of, closes}
+use Rattle.http_edge.specs.Fields.{most_head, body_told, says_close}
+use Rattle.http_edge.specs.Requests.{StartsWithHead, pair_of}
 use Rattle.http_edge.specs.Steps.{IsHeadOf}
 
 few_fields : (bytes : List ℕ) (spans : List HeaderSpan) (n : ℕ) (fields : List Field) → n ≤ 64 → map (header_bytes bytes) (take n spans) ≡ map name_and_value fields → length fields ≤ 64

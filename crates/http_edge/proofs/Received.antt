@@ -1,16 +1,16 @@
 -- What a reader has received, and what it gives.
-use Rattle.std.proofs.Common.{refl, sym, ap, subst, ◌∙◌, ◌≡◌, ◌<◌, ◌≤◌, ◌+◌, ◌-◌, ℕ, List, [], ◌∷◌, ◌++◌, length, take, drop, Option, Some, None, Result, Ok, Err, ◌⊎◌, inl, inr, append_assoc, length-append, arith}
+use Rattle.std.proofs.Common.{refl, sym, ap, subst, ◌∙◌, ◌≡◌, ◌<◌, ℕ, List, [], ◌∷◌, ◌++◌, length, Option, Some, None, Result, Ok, Err, inl, append_assoc, arith}
 use Rattle.std.proofs.lemmas.List.{append-nil}
-use Rattle.httparse.specs.Grammar.{RequestHead, ReadsRequest, HasNoRequest, MayBecomeRequest, print_request, print_blank}
+use Rattle.httparse.specs.Grammar.{HasNoRequest, MayBecomeRequest}
 use Rattle.actor_ports.specs.Traffic.{Traffic}
 use Rattle.http_edge.specs.declared.head.Head.{Head}
 use Rattle.http_edge.specs.declared.message.HttpRequest.{HttpRequest}
 use Rattle.http_edge.specs.declared.error.EdgeError.{EdgeError}
 use Rattle.http_edge.specs.declared.error.EdgeError.TheVariants.{BadHead, HeadTooLong, TooManyFields, Chunked, BadLength, BodyTooLong, CutShort, ConnFault, OutOfMemory}
-use Rattle.http_edge.specs.Carry.{Over, AtEnd, Reads, nothing}
-use Rattle.http_edge.specs.Fields.{most_head, body_told}
-use Rattle.http_edge.specs.Requests.{StartsWithHead, RefusesBody, Refuses, Gives, ReadsNext, IsRequestText, pairs_of, pair_of}
-use Rattle.http_edge.specs.Steps.{IsHeadOf, Looks, HeadGives, AwaitsHead, Fills, FillsOver, EndsAt}
+use Rattle.http_edge.specs.Carry.{Over, AtEnd, Reads}
+use Rattle.http_edge.specs.Fields.{most_head}
+use Rattle.http_edge.specs.Requests.{Refuses, Gives, ReadsNext}
+use Rattle.http_edge.specs.Steps.{HeadGives, AwaitsHead, EndsAt}
 use Rattle.http_edge.proofs.Carried.{over_nothing, over_then, end_told, told_along}
 
 -- these bytes came over the connection, behind the old ones

@@ -1,15 +1,9 @@
 -- The fields of a head, one after the other.
-use Rattle.std.proofs.Common.{refl, sym, ap, subst, ◌∙◌, ◌≡◌, ◌<◌, ◌≤◌, ◌+◌, ℕ, suc, Bool, true, false, ◌||◌, if◌then◌else◌, codes, get_or, add-one, List, [], ◌∷◌, ◌++◌, length, map, take, drop, Option, Some, None, arith}
-use Rattle.std.proofs.lemmas.List.{append-nil, take_more, map-append}
+use Rattle.std.proofs.Common.{refl, sym, ap, ◌∙◌, ◌≡◌, ◌<◌, ◌+◌, ℕ, true, false, if◌then◌else◌, get_or, add-one, List, ◌∷◌, length, map, drop}
 use Rattle.std.proofs.Math.Seq.{drop-cons}
-use Rattle.std.specs.List.{list_any}
 use Rattle.httparse.specs.declared.spans.HeaderSpan.{HeaderSpan}
-use Rattle.httparse.specs.declared.spans.Span.{Span}
 use Rattle.httparse.specs.Spans.{header_bytes, span_bytes}
-use Rattle.http_edge.specs.declared.message.HttpField.{HttpField}
-use Rattle.http_edge.specs.Fields.{is_same_word, values_of, says_close}
-use Rattle.http_edge.specs.Requests.{pair_of}
-use Rattle.http_edge.specs.Steps.{option_span}
+use Rattle.http_edge.specs.Fields.{is_same_word, values_of}
 
 -- the values from the span at i on
 pub values_at : (name bytes : List ℕ) (spans : List HeaderSpan) (i : ℕ) (d : HeaderSpan) → i < length spans

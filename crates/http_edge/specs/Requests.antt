@@ -1,5 +1,5 @@
 -- A request on a connection: heads as `httparse` states them, and a body of the length that the head tells (RFC 9112).
-use Rattle.std.specs.Prelude.{◌≡◌, ◌<◌, ◌≤◌, ◌⊎◌, ◌+◌, ◌==◌, ◌||◌, ℕ, Bool, List, [], ◌++◌, length, map, Option, Some, None, Result, Ok, Err}
+use Rattle.std.specs.Prelude.{◌≡◌, ◌<◌, ◌≤◌, ◌⊎◌, ◌==◌, ◌||◌, ℕ, Bool, List, [], ◌++◌, length, map, Option, Some, None, Result, Ok, Err}
 use Rattle.actor_ports.specs.declared.port.PortError.{PortError}
 use Rattle.actor_ports.specs.declared.port.PortError.TheVariants as ports
 use Rattle.actor_ports.specs.Traffic.{Traffic}

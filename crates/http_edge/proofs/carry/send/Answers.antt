@@ -1,4 +1,4 @@
-use Rattle.std.proofs.Common.{◌≡◌, subst, sym}
+use Rattle.std.proofs.Common.{subst, sym}
 use Rattle.actor_ports.specs.Traffic.{Sends}
 use Rattle.http_edge.proofs.Carried.{writes_from}
 use Rattle.http_edge.proofs.carry.send.Goals as goal

@@ -1,4 +1,4 @@
-use Rattle.std.proofs.Common.{◌≡◌, ◌≤◌, length, drop}
+use Rattle.std.proofs.Common.{◌≡◌, ◌≤◌, drop}
 use Rattle.http_edge.specs.Fields.{length_of, number_from}
 use Rattle.http_edge.proofs.fields.read_length.Given as goal
 

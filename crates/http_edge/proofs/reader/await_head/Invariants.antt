@@ -1,4 +1,4 @@
-use Rattle.std.proofs.Common.{◌≡◌, ◌≤◌, ◌+◌, ◌-◌, ◌++◌, List, ℕ, [], vec_len}
+use Rattle.std.proofs.Common.{◌≡◌, ◌≤◌, ◌-◌, ◌++◌, List, ℕ, [], vec_len}
 use Rattle.http_edge.specs.Carry.{Over}
 use Rattle.http_edge.specs.Fields.{most_head}
 use Rattle.http_edge.proofs.reader.await_head.Given as goal
