@@ -1,5 +1,5 @@
 // JSON texts by table, with values from RFC 8259 and from counting.
-use crate::{Json, JsonError, Member, Piece, array_text, object_text, quoted_text};
+use crate::{Json, JsonError, JsonRef, Member, Piece, array_text, object_text, quoted_text};
 use std::alloc::Global;
 use std::process::Abort;
 use std::test::Fail;
@@ -99,6 +99,32 @@ fn arrays_nest_to_127(rt: HostRuntime) -> Result<(), Fail> {
     Ok(())
 }
 
+/// The word of what a member is.
+fn word_of(whole: &JsonRef<'_>, key: &str) -> &'static str {
+    let Some(value) = whole.member(key) else {
+        return "none";
+    };
+    if value.is_null() {
+        return "null";
+    }
+    if value.as_u64() == Some(7) {
+        return "seven";
+    }
+    if value.as_i64() == Some(-7) {
+        return "minus seven";
+    }
+    if value.as_bool() == Some(false) {
+        return "false";
+    }
+    if value.as_str() == Some("a\nb") {
+        return "text";
+    }
+    if value.item_count() == Some(2) {
+        return "two items";
+    }
+    "other"
+}
+
 #[test]
 fn look_ups_find_what_is_there(rt: HostRuntime) -> Result<(), Fail> {
     let body =
@@ -106,22 +132,33 @@ fn look_ups_find_what_is_there(rt: HostRuntime) -> Result<(), Fail> {
     let json = Json::read(rt.alloc(), body.as_slice())?;
     let whole = json.as_ref();
     assert!(rt; whole.is_object() && !whole.is_array() && !whole.is_null());
-    assert!(rt; whole.member("x").is_none() && whole.item(0).is_none());
-    for key in ["n", "m", "t", "y", "z", "l"] {
-        assert!(rt; whole.member(key).is_some(), "{key}");
-        if let Some(value) = whole.member(key) {
-            assert!(rt; (value.as_u64() == Some(7)) == (key == "n"), "{key}");
-            assert!(rt; (value.as_i64() == Some(-7)) == (key == "m"), "{key}");
-            assert!(rt; (value.as_str() == Some("a\nb")) == (key == "t"), "{key}");
-            assert!(rt; (value.as_bool() == Some(false)) == (key == "y"), "{key}");
-            assert!(rt; value.is_null() == (key == "z"), "{key}");
-            assert!(rt; (value.item_count() == Some(2)) == (key == "l"), "{key}");
-            assert!(rt; value.item(0).is_some() == (key == "l"), "{key}");
-            if let Some(first) = value.item(0) {
-                assert!(rt; first.as_u64() == Some(u64::MAX) && first.as_i64().is_none());
-            }
-            assert!(rt; value.item(2).is_none());
+    assert!(rt; whole.item(0).is_none());
+    assert!(rt; word_of(&whole, "n") == "seven");
+    assert!(rt; word_of(&whole, "m") == "minus seven");
+    assert!(rt; word_of(&whole, "t") == "text");
+    assert!(rt; word_of(&whole, "y") == "false");
+    assert!(rt; word_of(&whole, "z") == "null");
+    assert!(rt; word_of(&whole, "l") == "two items");
+    assert!(rt; word_of(&whole, "x") == "none");
+    Ok(())
+}
+
+#[test]
+fn items_are_found_by_place(rt: HostRuntime) -> Result<(), Fail> {
+    let json = Json::read(rt.alloc(), b"[18446744073709551615,[]]".as_slice())?;
+    let whole = json.as_ref();
+    assert!(rt; whole.item(2).is_none() && whole.member("0").is_none());
+    match whole.item(0) {
+        Some(first) => {
+            assert!(rt; first.as_u64() == Some(u64::MAX) && first.as_i64().is_none());
         }
+        None => assert!(rt; false),
+    }
+    match whole.item(1) {
+        Some(second) => {
+            assert!(rt; second.is_array() && second.item_count() == Some(0));
+        }
+        None => assert!(rt; false),
     }
     Ok(())
 }
