@@ -40,11 +40,12 @@ wrote_over t d bytes e = (t.left, refl, e ∙ ap Some (wrote t bytes))
 
 pub writes_from : {T : Type 0} (a d : Option Traffic) (bytes : List ℕ) (result : Result T PortError) → Sends a d bytes result → Writes a d bytes result
 writes_from None d bytes (Ok x) s = tt
-writes_from None d bytes (Err e) s = ([], record { count = 0; is = refl }, tt)
+writes_from None d bytes (Err Failed) s = ([], record { count = 0; is = refl }, tt)
+writes_from None d bytes (Err OutOfMemory) s = tt
 writes_from (Some t) d bytes (Ok x) s = wrote_over t d bytes s
 writes_from (Some t) d bytes (Err Failed) s = (take s.0 bytes, record { count = s.0; is = refl }, wrote_over t d (take s.0 bytes) s.2)
 writes_from (Some t) d bytes (Err OutOfMemory) s =
-    ([], record { count = 0; is = refl }, subst (λ m. Over (Some t) m nothing) (sym s) (over_nothing (Some t)))
+    subst (λ m. Over (Some t) m nothing) (sym s) (over_nothing (Some t))
 
 -- ---- a read
 

@@ -1,9 +1,13 @@
--- Worked examples of what fields say, and of one request.
-use Rattle.std.proofs.Common.{refl, ◌≡◌, true, false, [], ◌∷◌, ◌++◌, Some, None, Ok, Err, codes}
+-- Worked examples of what fields say, of one request, and of texts that are written.
+use Rattle.std.proofs.Common.{refl, ℕ, ◌≡◌, true, false, [], ◌∷◌, ◌++◌, Some, None, Ok, Err, codes}
+use Rattle.std.specs.Fmt.{digits}
 use Rattle.httparse.specs.Grammar.{RequestHead, crlf, print_request, trim_ows}
 use Rattle.http_edge.specs.declared.error.EdgeError.TheVariants.{Chunked, BadLength, BodyTooLong}
 use Rattle.http_edge.specs.Fields.{length_of, values_of, body_told, says_close}
 use Rattle.http_edge.specs.Requests.{pairs_of, closes}
+use Rattle.http_edge.specs.declared.message.HttpField.{HttpField}
+use Rattle.http_edge.specs.declared.message.HttpResponse.{HttpResponse}
+use Rattle.http_edge.specs.Texts.{response_text}
 
 zeros_may_lead : length_of (codes "003") ≡ Some 3
 zeros_may_lead = refl
@@ -64,3 +68,26 @@ tells_three = refl
 stays_open : closes example ≡ false
 unfolding trim_ows
 stays_open = refl
+
+-- ---- texts that are written
+
+abbrev json : HttpField
+json = record { name = codes "Content-Type"; value = codes "application/json" }
+
+abbrev chunked_field : HttpField
+chunked_field = record { name = codes "transfer-encoding"; value = codes "chunked" }
+
+abbrev answer : ℕ → HttpResponse
+answer status = record { status = status; fields = json ∷ chunked_field ∷ []; body = codes "{}" }
+
+length_is_last : response_text (answer 200) ≡ codes "HTTP/1.1 200 OK\r\nContent-Type: application/json\r\nContent-Length: 2\r\n\r\n{}"
+unfolding response_text digits
+length_is_last = refl
+
+no_content_no_length : response_text (answer 204) ≡ codes "HTTP/1.1 204 No Content\r\nContent-Type: application/json\r\n\r\n"
+unfolding response_text digits
+no_content_no_length = refl
+
+no_phrase_keeps_the_space : response_text (answer 299) ≡ codes "HTTP/1.1 299 \r\nContent-Type: application/json\r\nContent-Length: 2\r\n\r\n{}"
+unfolding response_text digits
+no_phrase_keeps_the_space = refl

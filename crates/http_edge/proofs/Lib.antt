@@ -3,4 +3,5 @@ pub mod Values
 pub mod Looked
 pub mod Received
 pub mod Bodies
+pub mod Appended
 mod Examples

@@ -1,6 +1,7 @@
 -- What went over a connection: own definitions. The bytes are there whether or not the connection tells them.
 use Rattle.std.specs.Prelude.{◌≡◌, ℕ, List, [], ◌++◌, length, take, Option, Some, None, Result, Ok, Err}
 use Rattle.actor_ports.specs.declared.port.PortError.{PortError}
+use Rattle.actor_ports.specs.declared.port.PortError.TheVariants.{Failed, OutOfMemory}
 use Rattle.actor_ports.specs.Traffic.{Traffic}
 
 -- bytes read and bytes written
@@ -31,10 +32,11 @@ pub record IsFront (front bytes : List ℕ) : Type 0 where
   pub count : ℕ
   pub is : front ≡ take count bytes
 
--- all of the bytes were written, and after an error a front of them
+-- all of the bytes were written; after Failed a front of them, and for want of memory none
 abbrev pub Writes : {T : Type 0} → Option Traffic → Option Traffic → List ℕ → Result T PortError → Type 0
 Writes before after bytes (Ok x) = Over before after (record { read = []; written = bytes })
-Writes before after bytes (Err e) = (front : List ℕ) × IsFront front bytes × Over before after (record { read = []; written = front })
+Writes before after bytes (Err Failed) = (front : List ℕ) × IsFront front bytes × Over before after (record { read = []; written = front })
+Writes before after bytes (Err OutOfMemory) = Over before after nothing
 
 -- what was appended was read; nothing exactly at the end, and after an error nothing
 abbrev pub Reads : Option Traffic → Option Traffic → List ℕ → List ℕ → Result ℕ PortError → Type 0

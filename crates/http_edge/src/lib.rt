@@ -11,11 +11,13 @@ mod fields;
 mod head;
 mod message;
 mod reader;
+mod writing;
 
 pub use bytes::Bytes;
 pub use error::EdgeError;
 pub use message::{HttpField, HttpFields, HttpRequest, HttpResponse};
 pub use reader::RequestReader;
+pub use writing::write_response;
 
 #[cfg(test)]
 mod tests;

@@ -1,0 +1,53 @@
+-- The texts of messages that are written (RFC 9112, sections 3, 4 and 6).
+use Rattle.std.specs.Prelude.{ℕ, ◌==◌, ◌||◌, ◌&&◌, nat_le, nat_lt, Bool, if◌then◌else◌, List, [], ◌∷◌, ◌++◌, length, codes, decimal, Option, Result, Ok, Err}
+use Rattle.std.specs.Option.{unwrap_or}
+use Rattle.http.specs.StatusCode.{reason_phrase}
+use Rattle.http_edge.specs.declared.message.HttpField.{HttpField}
+use Rattle.http_edge.specs.declared.message.HttpResponse.{HttpResponse}
+use Rattle.actor_ports.specs.Traffic.{Traffic}
+use Rattle.http_edge.specs.declared.error.EdgeError.{EdgeError}
+use Rattle.http_edge.specs.declared.error.EdgeError.TheVariants.{ConnFault, OutOfMemory}
+use Rattle.http_edge.specs.Carry.{Over, IsFront, nothing}
+use Rattle.http_edge.specs.Fields.{is_same_word}
+
+-- a field that tells where a message ends, which the writer makes by itself
+abbrev pub is_framing : List ℕ → Bool
+is_framing name = is_same_word name (codes "Content-Length") || is_same_word name (codes "Transfer-Encoding")
+
+abbrev pub field_line : HttpField → List ℕ
+field_line f = f.name ++ codes ": " ++ f.value ++ codes "\r\n"
+
+-- the lines of the fields in their order, but for those that tell where the message ends
+abbrev pub field_lines : List HttpField → List ℕ
+field_lines [] = []
+field_lines (f ∷ fs) = if is_framing f.name then field_lines fs else field_line f ++ field_lines fs
+
+-- the length of the body, the empty line and the body
+abbrev pub sized : List ℕ → List ℕ
+sized body = codes "Content-Length: " ++ decimal (length body) ++ codes "\r\n\r\n" ++ body
+
+-- what ends a response: of 204 and 304 the empty line alone
+abbrev pub ending : ℕ → List ℕ → List ℕ
+ending status body = if status == 204 || status == 304 then codes "\r\n" else sized body
+
+-- the phrase that `http` gives to a status of three digits; any other number has none
+abbrev pub phrase_of : ℕ → List ℕ
+phrase_of status = if nat_le 100 status && nat_lt status 1000 then unwrap_or (reason_phrase status) [] else []
+
+-- what stands in front of the phrase
+abbrev pub status_start : ℕ → List ℕ
+status_start status = codes "HTTP/1.1 " ++ decimal status ++ codes " "
+
+-- a status line; without a phrase the space in front of it stands all the same
+abbrev pub status_line : ℕ → List ℕ
+status_line status = status_start status ++ phrase_of status ++ codes "\r\n"
+
+unfoldable pub response_text : HttpResponse → List ℕ
+response_text r = status_line r.status ++ field_lines r.fields ++ ending r.status r.body
+
+-- a text was written; where the connection failed a front of it, and for want of memory nothing
+abbrev pub WritesText : {T : Type 0} → Option Traffic → Option Traffic → List ℕ → Result T EdgeError → Type 0
+WritesText before after text (Ok x) = Over before after (record { read = []; written = text })
+WritesText before after text (Err ConnFault) = (front : List ℕ) × IsFront front text × Over before after (record { read = []; written = front })
+WritesText before after text (Err OutOfMemory) = Over before after nothing
+WritesText before after text (Err e) = ⊥

@@ -1,0 +1,128 @@
+// Responses written to a connection.
+ghost use Rattle.std.specs.Prelude.{◌≡◌, ◌++◌, IfErr, OnOk};
+ghost use Rattle.http_edge.specs.Requests.{EdgeCause};
+ghost use Rattle.http_edge.specs.Texts.{field_line, field_lines, sized, ending, phrase_of, status_start, status_line, is_framing, response_text, WritesText};
+
+use crate::carry::send;
+use crate::error::{EdgeError, edge_error};
+use crate::fields::is_same_word;
+use crate::message::{HttpField, HttpResponse};
+use actor_ports::Conn;
+use http::StatusCode;
+use itoa::Buffer;
+use lists_and_limits::OutOfMemory;
+use std::alloc::Global;
+
+fn add(bytes: &[u8], into: &mut Vec<u8>) -> Result<(), OutOfMemory>
+    ensures { OnOk result (into.new.items ≡ into.old.items ++ bytes.now) }
+{
+    match into.extend_from_slice(bytes) {
+        Ok(()) => Ok(()),
+        Err(_) => Err(OutOfMemory),
+    }
+}
+
+fn is_framing(name: &[u8]) -> bool
+    ensures { result ≡ is_framing name.now }
+{
+    is_same_word(name, b"Content-Length") || is_same_word(name, b"Transfer-Encoding")
+}
+
+fn add_field(field: &HttpField, into: &mut Vec<u8>) -> Result<(), OutOfMemory>
+    ensures { OnOk result (into.new.items ≡ into.old.items ++ field_line field.now) }
+{
+    add(field.name.as_slice(), into)?;
+    add(b": ", into)?;
+    add(field.value.as_slice(), into)?;
+    add(b"\r\n", into)
+}
+
+fn add_fields(fields: &[HttpField], into: &mut Vec<u8>) -> Result<(), OutOfMemory>
+    ensures { OnOk result (into.new.items ≡ into.old.items ++ field_lines fields.now) }
+{
+    for field in fields {
+        if !is_framing(field.name.as_slice()) {
+            add_field(field, into)?;
+        }
+    }
+    Ok(())
+}
+
+fn add_sized(body: &[u8], into: &mut Vec<u8>) -> Result<(), OutOfMemory>
+    ensures { OnOk result (into.new.items ≡ into.old.items ++ sized body.now) }
+{
+    let mut buffer = Buffer::new();
+    add(b"Content-Length: ", into)?;
+    add(buffer.format(body.len()).as_bytes(), into)?;
+    add(b"\r\n\r\n", into)?;
+    add(body, into)
+}
+
+fn add_phrase(status: u16, into: &mut Vec<u8>) -> Result<(), OutOfMemory>
+    ensures { OnOk result (into.new.items ≡ into.old.items ++ phrase_of status) }
+{
+    let Ok(code) = StatusCode::from_u16(status) else {
+        return Ok(());
+    };
+    match code.canonical_reason() {
+        Some(phrase) => add(phrase.as_bytes(), into),
+        None => Ok(()),
+    }
+}
+
+// What stands in front of a status line's phrase.
+fn add_start(status: u16, into: &mut Vec<u8>) -> Result<(), OutOfMemory>
+    ensures { OnOk result (into.new.items ≡ into.old.items ++ status_start status) }
+{
+    let mut buffer = Buffer::new();
+    add(b"HTTP/1.1 ", into)?;
+    add(buffer.format(status).as_bytes(), into)?;
+    add(b" ", into)
+}
+
+fn add_status(status: u16, into: &mut Vec<u8>) -> Result<(), OutOfMemory>
+    ensures { OnOk result (into.new.items ≡ into.old.items ++ status_line status) }
+{
+    add_start(status, into)?;
+    add_phrase(status, into)?;
+    add(b"\r\n", into)
+}
+
+fn add_ending(status: u16, body: &[u8], into: &mut Vec<u8>) -> Result<(), OutOfMemory>
+    ensures { OnOk result (into.new.items ≡ into.old.items ++ ending status body.now) }
+{
+    if status == 204 || status == 304 {
+        return add(b"\r\n", into);
+    }
+    add_sized(body, into)
+}
+
+#[tactic(auto, unfolding(crate::specs::Texts::response_text))]
+fn add_response(response: &HttpResponse, into: &mut Vec<u8>) -> Result<(), OutOfMemory>
+    ensures { OnOk result (into.new.items ≡ into.old.items ++ response_text response.now) }
+{
+    add_status(response.status, into)?;
+    add_fields(response.fields.as_slice(), into)?;
+    add_ending(response.status, response.body.as_slice(), into)
+}
+
+/// Writes a response: its status line, its fields in their order but for Content-Length and Transfer-Encoding, and
+/// then, but for 204 and 304, the length of the body and the body. After `ConnFault` a front of its text was written,
+/// after `OutOfMemory` nothing.
+pub fn write_response<C: Conn>(
+    alloc: Global,
+    response: &HttpResponse,
+    conn: &mut C,
+) -> Result<(), EdgeError>
+    ensures writes { WritesText (C.read_traffic conn.old) (C.read_traffic conn.new) (response_text response.now) result }
+    ensures cause { EdgeCause (C.read_faults conn.old) (C.read_faults conn.new) result }
+{
+    let mut text = Vec::new(alloc);
+    if add_response(response, &mut text).is_err() {
+        return Err(EdgeError::OutOfMemory);
+    }
+    match send(conn, text.as_slice()) {
+        Ok(()) => Ok(()),
+        Err(error) => Err(edge_error(error)),
+    }
+}
