@@ -4,4 +4,9 @@ pub mod Looked
 pub mod Received
 pub mod Bodies
 pub mod Appended
+pub mod Extended
+pub mod Filled
+pub mod Chunked
+pub mod Replied
+pub mod Exchanged
 mod Examples

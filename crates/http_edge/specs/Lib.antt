@@ -3,3 +3,7 @@ pub mod Fields
 pub mod Requests
 pub mod Steps
 pub mod Texts
+pub mod Replies
+pub mod Arrivals
+pub mod Content
+pub mod Exchanges

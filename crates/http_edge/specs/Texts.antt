@@ -3,6 +3,7 @@ use Rattle.std.specs.Prelude.{ℕ, ◌==◌, ◌||◌, ◌&&◌, nat_le, nat_lt,
 use Rattle.std.specs.Option.{unwrap_or}
 use Rattle.http.specs.StatusCode.{reason_phrase}
 use Rattle.http_edge.specs.declared.message.HttpField.{HttpField}
+use Rattle.http_edge.specs.declared.message.HttpRequest.{HttpRequest}
 use Rattle.http_edge.specs.declared.message.HttpResponse.{HttpResponse}
 use Rattle.actor_ports.specs.Traffic.{Traffic}
 use Rattle.http_edge.specs.declared.error.EdgeError.{EdgeError}
@@ -44,6 +45,14 @@ status_line status = status_start status ++ phrase_of status ++ codes "\r\n"
 
 unfoldable pub response_text : HttpResponse → List ℕ
 response_text r = status_line r.status ++ field_lines r.fields ++ ending r.status r.body
+
+-- a request line
+abbrev pub request_line : List ℕ → List ℕ → List ℕ
+request_line method target = method ++ codes " " ++ target ++ codes " HTTP/1.1\r\n"
+
+-- a request: its fields in their order, and then the length of its body, which may be 0
+unfoldable pub request_text : HttpRequest → List ℕ
+request_text q = request_line q.method q.target ++ field_lines q.fields ++ sized q.body
 
 -- a text was written; where the connection failed a front of it, and for want of memory nothing
 abbrev pub WritesText : {T : Type 0} → Option Traffic → Option Traffic → List ℕ → Result T EdgeError → Type 0

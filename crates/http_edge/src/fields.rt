@@ -1,7 +1,7 @@
 // What the fields of a head say: its body's length, and whether the message is the last.
 ghost use Rattle.std.specs.Prelude.{◌≡◌, ◌≤◌, length, map, take, All, IfOk};
 ghost use Rattle.httparse.specs.Spans.{header_bytes, IsHeaderWithin};
-ghost use Rattle.http_edge.specs.Fields.{is_same_word, values_of, length_of, at_most_body, body_told, says_close};
+ghost use Rattle.http_edge.specs.Fields.{is_same_word, values_of, length_of, at_most_body, most_body, body_told, says_close};
 ghost use Rattle.http_edge.specs.Steps.{IsTold, option_span};
 ghost use Rattle.http_edge.specs.Requests.{pair_of};
 
@@ -50,7 +50,7 @@ pub(crate) fn find_value(bytes: &[u8], spans: &[HeaderSpan], name: &[u8]) -> Tol
 }
 
 // The number that 1 to 18 decimal digits write.
-fn read_length(text: &[u8]) -> Option<u64>
+pub(crate) fn read_length(text: &[u8]) -> Option<u64>
     ensures { result ≡ length_of text.now }
 {
     if text.is_empty() || text.len() > 18 {
@@ -67,8 +67,9 @@ fn read_length(text: &[u8]) -> Option<u64>
 }
 
 // The length, where a body may have it.
-fn check_length(length: Option<u64>) -> Result<usize, EdgeError>
-    ensures { result ≡ at_most_body length }
+pub(crate) fn check_length(length: Option<u64>) -> Result<usize, EdgeError>
+    ensures is { result ≡ at_most_body length }
+    ensures small { IfOk result (λ n. n ≤ most_body) }
 {
     match length {
         None => Err(EdgeError::BadLength),

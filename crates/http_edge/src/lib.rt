@@ -4,17 +4,24 @@
 // cause. Heads are read by httparse. Stands on actor_ports.
 #![tactic(auto)]
 
+mod arrivals;
 mod bytes;
 mod carry;
+mod content;
 mod error;
+mod exchanging;
 mod fields;
+mod form;
 mod head;
 mod message;
+mod parts;
 mod reader;
+mod replies;
 mod writing;
 
 pub use bytes::Bytes;
 pub use error::EdgeError;
+pub use exchanging::exchange;
 pub use message::{HttpField, HttpFields, HttpRequest, HttpResponse};
 pub use reader::RequestReader;
 pub use writing::write_response;

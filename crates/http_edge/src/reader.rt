@@ -1,5 +1,5 @@
 // Requests read from a connection, one after the other.
-ghost use Rattle.std.specs.Prelude.{◌≡◌, ◌≤◌, ◌+◌, ◌++◌, Ok, Err, Some, None, [], length, take, drop, IfOk, IfSome, OnOk, vec_len};
+ghost use Rattle.std.specs.Prelude.{◌≡◌, ◌≤◌, ◌<◌, ◌+◌, ◌++◌, Ok, Err, Some, None, [], length, take, drop, IfOk, IfSome, OnOk, vec_len};
 ghost use Rattle.std.specs.Result.{result_err};
 ghost use Rattle.http_edge.specs.Fields.{most_head};
 ghost use Rattle.http_edge.specs.Requests.{ReadsNext, EdgeCause, ReaderState, new_reader, pair_of};
@@ -120,15 +120,15 @@ fn await_head<C: Conn>(
     }
 }
 
-// Reads the rest of a body of so many bytes, behind a head of so many.
-fn read_rest<C: Conn>(
+// Reads the rest of a body of so many bytes, beside so many bytes of its message that are none of it.
+pub(crate) fn read_rest<C: Conn>(
     conn: &mut C,
     body: &mut Vec<u8>,
     len: usize,
     size: usize,
 ) -> Result<(), EdgeError>
     requires within { vec_len body.old ≤ size }
-    requires small { len + size ≤ 4210688 }
+    requires small { len + size < 18446744073709551616 }
     ensures fills { FillsOver len size body.old.items body.new.items (C.read_traffic conn.old) (C.read_traffic conn.new) result }
     ensures cause { EdgeCause (C.read_faults conn.old) (C.read_faults conn.new) result }
 {

@@ -1,21 +1,26 @@
-// Requests by table, each whole and cut at every byte; limits; faults.
+// Requests and replies by table, each whole and cut at every byte; texts that are written; limits; faults.
 use super::*;
 use actor_ports::MemConn;
 use std::alloc::Global;
 use std::test::Fail;
 
-fn add_request(request: &HttpRequest, text: &mut Vec<u8>) -> Result<(), Fail> {
-    text.extend_from_slice(request.method.as_slice())?;
-    text.extend_from_slice(b" ")?;
-    text.extend_from_slice(request.target.as_slice())?;
+fn add_fields(fields: &[HttpField], text: &mut Vec<u8>) -> Result<(), Fail> {
     text.extend_from_slice(b" [")?;
-    for field in request.fields.as_slice() {
+    for field in fields {
         text.extend_from_slice(field.name.as_slice())?;
         text.extend_from_slice(b"=")?;
         text.extend_from_slice(field.value.as_slice())?;
         text.extend_from_slice(b";")?;
     }
     text.extend_from_slice(b"] ")?;
+    Ok(())
+}
+
+fn add_request(request: &HttpRequest, text: &mut Vec<u8>) -> Result<(), Fail> {
+    text.extend_from_slice(request.method.as_slice())?;
+    text.extend_from_slice(b" ")?;
+    text.extend_from_slice(request.target.as_slice())?;
+    add_fields(request.fields.as_slice(), text)?;
     text.extend_from_slice(request.body.as_slice())?;
     if request.close {
         text.extend_from_slice(b" close")?;
@@ -327,6 +332,291 @@ fn fault_is_answered_again(rt: HostRuntime) -> Result<(), Fail> {
     let mut reader = RequestReader::new(rt.alloc());
     for _ in 0..3 {
         let answer = reader.read(&mut conn);
+        assert_eq!(rt; answer.err(), Some(EdgeError::ConnFault));
+    }
+    Ok(())
+}
+
+fn field(alloc: Global, name: &[u8], value: &[u8]) -> Result<HttpField, Fail> {
+    Ok(HttpField {
+        name: Bytes::from_vec(Vec::from_slice(alloc, name)?),
+        value: Bytes::from_vec(Vec::from_slice(alloc, value)?),
+    })
+}
+
+// What is written of a response with this field, where it has a name.
+fn written(
+    alloc: Global,
+    status: u16,
+    name: &[u8],
+    value: &[u8],
+    body: &[u8],
+) -> Result<Vec<u8>, Fail> {
+    let mut fields = Vec::new(alloc);
+    if !name.is_empty() {
+        fields.push(field(alloc, name, value)?)?;
+    }
+    let response = HttpResponse {
+        status,
+        fields: HttpFields::from_vec(fields),
+        body: Bytes::from_vec(Vec::from_slice(alloc, body)?),
+    };
+    let mut conn = MemConn::new(alloc, b"", &[])?;
+    write_response(alloc, &response, &mut conn)?;
+    Ok(Vec::from_slice(alloc, conn.written())?)
+}
+
+#[test]
+fn responses_are_written(rt: HostRuntime) -> Result<(), Fail> {
+    let rows: [(u16, &[u8], &[u8], &[u8], &[u8]); 6] = [
+        (
+            200,
+            b"",
+            b"",
+            b"ab",
+            b"HTTP/1.1 200 OK\r\nContent-Length: 2\r\n\r\nab",
+        ),
+        (
+            404,
+            b"Content-Type",
+            b"application/json",
+            b"{}",
+            b"HTTP/1.1 404 Not Found\r\nContent-Type: application/json\r\nContent-Length: 2\r\n\r\n{}",
+        ),
+        (
+            204,
+            b"Connection",
+            b"close",
+            b"",
+            b"HTTP/1.1 204 No Content\r\nConnection: close\r\n\r\n",
+        ),
+        (304, b"", b"", b"x", b"HTTP/1.1 304 Not Modified\r\n\r\n"),
+        (
+            200,
+            b"content-length",
+            b"9",
+            b"",
+            b"HTTP/1.1 200 OK\r\nContent-Length: 0\r\n\r\n",
+        ),
+        (
+            599,
+            b"",
+            b"",
+            b"",
+            b"HTTP/1.1 599 \r\nContent-Length: 0\r\n\r\n",
+        ),
+    ];
+    for (status, name, value, body, wanted) in rows.as_slice() {
+        let text = written(rt.alloc(), *status, name, value, body)?;
+        assert_eq!(rt; text.as_slice(), *wanted);
+    }
+    Ok(())
+}
+
+#[test]
+fn failed_write_is_a_fault(rt: HostRuntime) -> Result<(), Fail> {
+    let response = HttpResponse {
+        status: 200,
+        fields: HttpFields::from_vec(Vec::new(rt.alloc())),
+        body: Bytes::from_vec(Vec::new(rt.alloc())),
+    };
+    let mut conn = MemConn::new(rt.alloc(), b"", &[1])?;
+    let answer = write_response(rt.alloc(), &response, &mut conn);
+    assert_eq!(rt; answer.err(), Some(EdgeError::ConnFault));
+    Ok(())
+}
+
+fn request(alloc: Global, body: &[u8]) -> Result<HttpRequest, Fail> {
+    let mut fields = Vec::new(alloc);
+    fields.push(field(alloc, b"Host", b"127.0.0.1:3000")?)?;
+    fields.push(field(alloc, b"Dapr-Reentrancy-Id", b"n1.1.0.1")?)?;
+    fields.push(field(alloc, b"Connection", b"close")?)?;
+    Ok(HttpRequest {
+        method: Bytes::from_vec(Vec::from_slice(alloc, b"PUT")?),
+        target: Bytes::from_vec(Vec::from_slice(alloc, b"/actors/order/42/method/add")?),
+        fields: HttpFields::from_vec(fields),
+        body: Bytes::from_vec(Vec::from_slice(alloc, body)?),
+        close: true,
+    })
+}
+
+// What an exchange answers to these bytes, as a text: `STATUS [NAME=VALUE;..] BODY`.
+fn reply(alloc: Global, input: &[u8]) -> Result<Vec<u8>, Fail> {
+    let mut conn = MemConn::new(alloc, input, &[])?;
+    let mut text = Vec::new(alloc);
+    match exchange(alloc, &request(alloc, b"")?, &mut conn) {
+        Ok(response) => {
+            let status = response.status;
+            let digits = format!(in alloc; "{status}")?;
+            text.extend_from_slice(digits.as_bytes())?;
+            add_fields(response.fields.as_slice(), &mut text)?;
+            text.extend_from_slice(response.body.as_slice())?;
+        }
+        Err(error) => {
+            let words = format!(in alloc; "{error}")?;
+            text.extend_from_slice(words.as_bytes())?;
+        }
+    }
+    Ok(text)
+}
+
+// Whether these bytes, cut after so many, give that answer or are told to be cut there.
+fn is_cut_reply(alloc: Global, input: &[u8], n: usize, wanted: &[u8]) -> Result<bool, Fail> {
+    let cut = reply(alloc, &input[..n.min(input.len())])?;
+    let short = format!(in alloc; "cut short after {n} bytes")?;
+    Ok(cut.as_slice() == wanted || cut.as_slice() == short.as_bytes())
+}
+
+// The first row whose bytes don't give its answer, whole or cut at some byte.
+fn first_wrong_reply(alloc: Global, rows: &[(&[u8], &[u8])]) -> Result<Option<usize>, Fail> {
+    for (row, (input, wanted)) in rows.iter().enumerate() {
+        let whole = reply(alloc, input)?;
+        if whole.as_slice() != *wanted {
+            return Ok(Some(row));
+        }
+        for n in 0..input.len() {
+            if !is_cut_reply(alloc, input, n, wanted)? {
+                return Ok(Some(row));
+            }
+        }
+    }
+    Ok(None)
+}
+
+#[test]
+fn replies_are_read_by_length(rt: HostRuntime) -> Result<(), Fail> {
+    let rows: [(&[u8], &[u8]); 14] = [
+        (
+            b"HTTP/1.1 200 OK\r\nContent-Length: 3\r\n\r\nabc",
+            b"200 [Content-Length=3;] abc",
+        ),
+        (
+            b"\r\nHTTP/1.0 500\ncontent-length:1\n\naHTTP/1.1",
+            b"500 [content-length=1;] a",
+        ),
+        (
+            b"HTTP/1.1 299 \xFF\r\nA:\r\nContent-Length: 0\r\n\r\n",
+            b"299 [A=;Content-Length=0;] ",
+        ),
+        (
+            b"HTTP/1.1 204 No Content\r\nContent-Length: 3\r\n\r\n",
+            b"204 [Content-Length=3;] ",
+        ),
+        (
+            b"HTTP/1.1 304 Not Modified\r\nTransfer-Encoding: gzip\r\n\r\n",
+            b"304 [Transfer-Encoding=gzip;] ",
+        ),
+        (
+            b"HTTP/1.1 199 Early\r\nContent-Length: x\r\n\r\n",
+            b"malformed head",
+        ),
+        (b"HTTP/2.0 200 OK\r\n\r\n", b"malformed head"),
+        (b"HTTP/1.1 20 OK\r\n\r\n", b"malformed head"),
+        (b"HTTP/1.1 200 OK\r\nA b\r\n\r\n", b"malformed head"),
+        (
+            b"HTTP/1.1 200 OK\r\nContent-Length: 3\r\nContent-Length: 3\r\n\r\nabc",
+            b"malformed length",
+        ),
+        (
+            b"HTTP/1.1 200 OK\r\nContent-Length: -1\r\n\r\n",
+            b"malformed length",
+        ),
+        (
+            b"HTTP/1.1 200 OK\r\nContent-Length: 4194305\r\n\r\n",
+            b"body of 4194305 bytes",
+        ),
+        (
+            b"HTTP/1.1 200 OK\r\nTransfer-Encoding: gzip, chunked\r\n\r\n",
+            b"chunked body",
+        ),
+        (
+            b"HTTP/1.1 200 OK\r\nTransfer-Encoding: chunked\r\nTransfer-Encoding: chunked\r\n\r\n",
+            b"chunked body",
+        ),
+    ];
+    assert_eq!(rt; first_wrong_reply(rt.alloc(), rows.as_slice())?, None);
+    Ok(())
+}
+
+#[test]
+fn chunks_are_joined(rt: HostRuntime) -> Result<(), Fail> {
+    let rows: [(&[u8], &[u8]); 11] = [
+        (
+            b"HTTP/1.1 200 OK\r\nTransfer-Encoding: chunked\r\n\r\n3\r\nabc\r\n0A;b=c\r\n0123456789\r\n0\r\n\r\n",
+            b"200 [Transfer-Encoding=chunked;] abc0123456789",
+        ),
+        (
+            b"HTTP/1.1 200 OK\r\ntransfer-encoding: CHUNKED\r\n\r\n00 \r\nA: b\r\n\r\nHTTP",
+            b"200 [transfer-encoding=CHUNKED;] ",
+        ),
+        (
+            b"HTTP/1.1 200 OK\r\nContent-Length: x\r\nTransfer-Encoding: chunked\r\n\r\n1\r\n\r\r\n0\r\n\n",
+            b"200 [Content-Length=x;Transfer-Encoding=chunked;] \r",
+        ),
+        (
+            b"HTTP/1.1 200 OK\r\nTransfer-Encoding: chunked\r\n\r\nx\r\n",
+            b"malformed length",
+        ),
+        (
+            b"HTTP/1.1 200 OK\r\nTransfer-Encoding: chunked\r\n\r\n1\na",
+            b"malformed length",
+        ),
+        (
+            b"HTTP/1.1 200 OK\r\nTransfer-Encoding: chunked\r\n\r\n1\r\nabc",
+            b"malformed length",
+        ),
+        (
+            b"HTTP/1.1 200 OK\r\nTransfer-Encoding: chunked\r\n\r\n1\r\na\rb",
+            b"malformed length",
+        ),
+        (
+            b"HTTP/1.1 200 OK\r\nTransfer-Encoding: chunked\r\n\r\n00000000000000001\r\na",
+            b"malformed length",
+        ),
+        (
+            b"HTTP/1.1 200 OK\r\nTransfer-Encoding: chunked\r\n\r\n0\r\nA b\r\n\r\n",
+            b"malformed head",
+        ),
+        (
+            b"HTTP/1.1 200 OK\r\nTransfer-Encoding: chunked\r\n\r\n1\r\na\r\n400000\r\n",
+            b"body of 4194305 bytes",
+        ),
+        (
+            b"HTTP/1.1 200 OK\r\nTransfer-Encoding: chunked\r\n\r\n1\r\na\r\nFFFFFFFFFFFFFFFF\r\n",
+            b"body of 18446744073709551615 bytes",
+        ),
+    ];
+    assert_eq!(rt; first_wrong_reply(rt.alloc(), rows.as_slice())?, None);
+    Ok(())
+}
+
+#[test]
+fn reply_ends_with_the_input(rt: HostRuntime) -> Result<(), Fail> {
+    let some = reply(rt.alloc(), b"HTTP/1.1 200 OK\r\n\r\nab\r\n\r\n")?;
+    assert_eq!(rt; some.as_slice(), b"200 [] ab\r\n\r\n".as_slice());
+    let none = reply(rt.alloc(), b"HTTP/1.0 500 \nA: b\n\n")?;
+    assert_eq!(rt; none.as_slice(), b"500 [A=b;] ".as_slice());
+    Ok(())
+}
+
+#[test]
+fn request_is_written_before_its_reply(rt: HostRuntime) -> Result<(), Fail> {
+    let input = b"HTTP/1.1 200 OK\r\nContent-Length: 1\r\n\r\n6";
+    let mut conn = MemConn::new(rt.alloc(), input, &[])?;
+    let response = exchange(rt.alloc(), &request(rt.alloc(), b"5")?, &mut conn)?;
+    assert_eq!(rt; response.body.as_slice(), b"6".as_slice());
+    let wanted =
+        b"PUT /actors/order/42/method/add HTTP/1.1\r\nHost: 127.0.0.1:3000\r\nDapr-Reentrancy-Id: n1.1.0.1\r\nConnection: close\r\nContent-Length: 1\r\n\r\n5";
+    assert_eq!(rt; conn.written(), wanted.as_slice());
+    Ok(())
+}
+
+#[test]
+fn exchange_over_a_failing_connection_is_a_fault(rt: HostRuntime) -> Result<(), Fail> {
+    let input = b"HTTP/1.1 200 OK\r\nContent-Length: 1\r\n\r\n6";
+    for call in [1, 2] {
+        let mut conn = MemConn::new(rt.alloc(), input, &[call])?;
+        let answer = exchange(rt.alloc(), &request(rt.alloc(), b"5")?, &mut conn);
         assert_eq!(rt; answer.err(), Some(EdgeError::ConnFault));
     }
     Ok(())

@@ -1,12 +1,12 @@
-// Responses written to a connection.
+// The texts of messages, and responses written to a connection.
 ghost use Rattle.std.specs.Prelude.{◌≡◌, ◌++◌, IfErr, OnOk};
 ghost use Rattle.http_edge.specs.Requests.{EdgeCause};
-ghost use Rattle.http_edge.specs.Texts.{field_line, field_lines, sized, ending, phrase_of, status_start, status_line, is_framing, response_text, WritesText};
+ghost use Rattle.http_edge.specs.Texts.{field_line, field_lines, sized, ending, phrase_of, status_start, status_line, is_framing, response_text, request_line, request_text, WritesText};
 
 use crate::carry::send;
 use crate::error::{EdgeError, edge_error};
 use crate::fields::is_same_word;
-use crate::message::{HttpField, HttpResponse};
+use crate::message::{HttpField, HttpRequest, HttpResponse};
 use actor_ports::Conn;
 use http::StatusCode;
 use itoa::Buffer;
@@ -104,6 +104,42 @@ fn add_response(response: &HttpResponse, into: &mut Vec<u8>) -> Result<(), OutOf
     add_status(response.status, into)?;
     add_fields(response.fields.as_slice(), into)?;
     add_ending(response.status, response.body.as_slice(), into)
+}
+
+fn add_request_line(method: &[u8], target: &[u8], into: &mut Vec<u8>) -> Result<(), OutOfMemory>
+    ensures { OnOk result (into.new.items ≡ into.old.items ++ request_line method.now target.now) }
+{
+    add(method, into)?;
+    add(b" ", into)?;
+    add(target, into)?;
+    add(b" HTTP/1.1\r\n", into)
+}
+
+fn add_request(request: &HttpRequest, into: &mut Vec<u8>) -> Result<(), OutOfMemory>
+    ensures { OnOk result (into.new.items ≡ into.old.items ++ request_text request.now) }
+{
+    add_request_line(request.method.as_slice(), request.target.as_slice(), into)?;
+    add_fields(request.fields.as_slice(), into)?;
+    add_sized(request.body.as_slice(), into)
+}
+
+// Writes a request.
+pub(crate) fn write_request<C: Conn>(
+    alloc: Global,
+    request: &HttpRequest,
+    conn: &mut C,
+) -> Result<(), EdgeError>
+    ensures writes { WritesText (C.read_traffic conn.old) (C.read_traffic conn.new) (request_text request.now) result }
+    ensures cause { EdgeCause (C.read_faults conn.old) (C.read_faults conn.new) result }
+{
+    let mut text = Vec::new(alloc);
+    if add_request(request, &mut text).is_err() {
+        return Err(EdgeError::OutOfMemory);
+    }
+    match send(conn, text.as_slice()) {
+        Ok(()) => Ok(()),
+        Err(error) => Err(edge_error(error)),
+    }
 }
 
 /// Writes a response: its status line, its fields in their order but for Content-Length and Transfer-Encoding, and

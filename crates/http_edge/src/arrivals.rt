@@ -1,0 +1,114 @@
+// The bytes of a reply as they come.
+ghost use Rattle.std.specs.Prelude.{◌≡◌, ◌≤◌, ◌<◌, ◌+◌, length, vec_len};
+ghost use Rattle.http_edge.specs.Arrivals.{Arrived, nothing_arrived, skipped, Fetches};
+ghost use Rattle.http_edge.specs.Fields.{most_head};
+ghost use Rattle.http_edge.specs.Requests.{EdgeCause};
+
+use crate::carry::receive;
+use crate::error::{EdgeError, edge_error};
+use actor_ports::Conn;
+use std::alloc::Global;
+use std::marker::Model;
+
+const MOST_HEAD: usize = 16_384;
+
+// The bytes of a message that came, at most 16,384, of which the first `at` are taken.
+#[derive(Drop)]
+pub(crate) struct Arrivals {
+    bytes: Vec<u8>,
+    at: usize,
+    before: u64,
+}
+
+impl Model for Arrivals {
+    ghost use Rattle.std.specs.Prelude.{◌≤◌, ◌+◌, drop, vec_len};
+    ghost use Rattle.http_edge.specs.Fields.{most_head};
+    ghost use Rattle.http_edge.specs.Arrivals.{Arrived};
+
+    ghost Value = { Arrived };
+
+    ghost view = { λ a. record { rest = drop a.at a.bytes.items; taken = a.before } };
+
+    ghost invariant = { λ a. (a.at ≤ vec_len a.bytes) × (vec_len a.bytes ≤ most_head) };
+}
+
+impl Arrivals {
+    pub(crate) fn new(alloc: Global) -> Arrivals
+        ensures { result ≡ nothing_arrived }
+    {
+        Arrivals {
+            bytes: Vec::new(alloc),
+            at: 0,
+            before: 0,
+        }
+    }
+
+    // The bytes that aren't taken yet.
+    pub(crate) fn rest(&self) -> &[u8]
+        ensures rest { result.now ≡ self.now.rest }
+        ensures short { length result.now ≤ most_head }
+    {
+        &self.bytes.as_slice()[self.at..]
+    }
+
+    // How many bytes were taken.
+    pub(crate) fn taken(&self) -> u64
+        ensures { result ≡ self.now.taken }
+    {
+        self.before
+    }
+
+    // Takes the next n bytes.
+    pub(crate) fn skip(&mut self, n: usize)
+        requires within { n ≤ length self.old.rest }
+        requires small { self.old.taken + n < 18446744073709551616 }
+        ensures { self.new ≡ skipped n self.old }
+    {
+        self.at += n;
+        self.before += n as u64;
+    }
+
+    // Counts n bytes that were taken as they came.
+    pub(crate) fn count(&mut self, n: usize)
+        requires small { self.old.taken + n < 18446744073709551616 }
+        ensures { self.new ≡ record { rest = self.old.rest; taken = self.old.taken + n } }
+    {
+        self.before += n as u64;
+    }
+
+    // Lets more bytes come behind those that aren't taken.
+    pub(crate) fn fetch<C: Conn>(&mut self, conn: &mut C) -> Result<(), EdgeError>
+        requires small { self.old.taken + most_head < 18446744073709551616 }
+        ensures fetches { Fetches self.old self.new (C.read_traffic conn.old) (C.read_traffic conn.new) result }
+        ensures short { length self.new.rest ≤ most_head }
+        ensures cause { EdgeCause (C.read_faults conn.old) (C.read_faults conn.new) result }
+    {
+        drop(self.bytes.drain(..self.at));
+        self.at = 0;
+        receive_more(conn, &mut self.bytes, self.before)
+    }
+}
+
+// Lets more bytes come behind these, before which so many were taken.
+fn receive_more<C: Conn>(conn: &mut C, bytes: &mut Vec<u8>, before: u64) -> Result<(), EdgeError>
+    requires short { vec_len bytes.old ≤ most_head }
+    requires small { before + most_head < 18446744073709551616 }
+    ensures fetches { Fetches (record { rest = bytes.old.items; taken = before }) (record { rest = bytes.new.items; taken = before }) (C.read_traffic conn.old) (C.read_traffic conn.new) result }
+    ensures short { vec_len bytes.new ≤ most_head }
+    ensures cause { EdgeCause (C.read_faults conn.old) (C.read_faults conn.new) result }
+{
+    let len = bytes.len();
+    if len == MOST_HEAD {
+        return Err(EdgeError::HeadTooLong);
+    }
+    let count = match receive(conn, bytes, MOST_HEAD - len) {
+        Err(error) => return Err(edge_error(error)),
+        Ok(count) => count,
+    };
+    if count == 0 {
+        return Err(EdgeError::CutShort {
+            n: before + len as u64,
+        });
+    }
+    Ok(())
+}

@@ -1,0 +1,57 @@
+// One exchange over a connection.
+ghost use Rattle.std.specs.Prelude.{◌≡◌};
+ghost use Rattle.http_edge.specs.Content.{ReadsReply};
+ghost use Rattle.http_edge.specs.Exchanges.{Exchanges};
+ghost use Rattle.http_edge.specs.Requests.{EdgeCause};
+ghost use Rattle.http_edge.specs.Texts.{request_text};
+
+use crate::arrivals::Arrivals;
+use crate::bytes::Bytes;
+use crate::content::read_body;
+use crate::error::EdgeError;
+use crate::message::{HttpRequest, HttpResponse};
+use crate::replies::await_reply;
+use crate::writing::write_request;
+use actor_ports::Conn;
+use std::alloc::Global;
+
+// Reads a reply to its end.
+fn read_reply<C: Conn>(alloc: Global, conn: &mut C) -> Result<HttpResponse, EdgeError>
+    ensures reads { ReadsReply (C.read_traffic conn.old) (C.read_traffic conn.new) result }
+    ensures cause { EdgeCause (C.read_faults conn.old) (C.read_faults conn.new) result }
+{
+    let mut arrivals = Arrivals::new(alloc);
+    let head = match await_reply(alloc, &mut arrivals, conn) {
+        Err(error) => return Err(error),
+        Ok(head) => head,
+    };
+    arrivals.skip(head.len);
+    let mut body = Vec::new(alloc);
+    match read_body(head.form, &mut arrivals, conn, &mut body) {
+        Err(error) => Err(error),
+        Ok(()) => Ok(HttpResponse {
+            status: head.status,
+            fields: head.fields,
+            body: Bytes::from_vec(body),
+        }),
+    }
+}
+
+/// Writes one request and reads its reply to its end, however the bytes come: with the fields as they stand in its
+/// head, and a body of at most 4,194,304 bytes that has the length that the head tells, or is its chunks joined, or is
+/// all up to the end of the input. The request's fields are written in their order, but for Content-Length and
+/// Transfer-Encoding, and then the length of its body; `close` is not looked at. Bytes behind a reply may have been
+/// read too, so a connection serves for one exchange.
+pub fn exchange<C: Conn>(
+    alloc: Global,
+    request: &HttpRequest,
+    conn: &mut C,
+) -> Result<HttpResponse, EdgeError>
+    ensures exchanges { Exchanges (request_text request.now) (C.read_traffic conn.old) (C.read_traffic conn.new) result }
+    ensures cause { EdgeCause (C.read_faults conn.old) (C.read_faults conn.new) result }
+{
+    if let Err(error) = write_request(alloc, request, conn) {
+        return Err(error);
+    }
+    read_reply(alloc, conn)
+}
