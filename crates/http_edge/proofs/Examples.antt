@@ -1,13 +1,16 @@
--- Worked examples of what fields say, of one request, and of texts that are written.
-use Rattle.std.proofs.Common.{refl, ℕ, ◌≡◌, true, false, [], ◌∷◌, ◌++◌, Some, None, Ok, Err, codes}
+-- Worked examples of what fields say, of a request, of the parts of replies, and of texts that are written.
+use Rattle.std.proofs.Common.{refl, ℕ, List, ◌≡◌, true, false, [], ◌∷◌, ◌++◌, Some, None, Ok, Err, codes}
 use Rattle.std.specs.Fmt.{digits}
-use Rattle.httparse.specs.Grammar.{RequestHead, crlf, print_request, trim_ows}
+use Rattle.httparse.specs.Grammar.{RequestHead, crlf, print_request, trim_ows, print_chunk_line}
 use Rattle.http_edge.specs.declared.error.EdgeError.TheVariants.{Chunked, BadLength, BodyTooLong}
 use Rattle.http_edge.specs.Fields.{length_of, values_of, body_told, says_close}
 use Rattle.http_edge.specs.Requests.{pairs_of, closes}
 use Rattle.http_edge.specs.declared.message.HttpField.{HttpField}
 use Rattle.http_edge.specs.declared.message.HttpResponse.{HttpResponse}
-use Rattle.http_edge.specs.Texts.{response_text}
+use Rattle.http_edge.specs.declared.message.HttpRequest.{HttpRequest}
+use Rattle.http_edge.specs.declared.form.BodyForm.TheVariants.{BySize, ByChunks, ToEnd}
+use Rattle.http_edge.specs.Replies.{form_told, Chunk, print_chunks, joined}
+use Rattle.http_edge.specs.Texts.{request_text, response_text}
 
 zeros_may_lead : length_of (codes "003") ≡ Some 3
 zeros_may_lead = refl
@@ -91,3 +94,37 @@ no_content_no_length = refl
 no_phrase_keeps_the_space : response_text (answer 299) ≡ codes "HTTP/1.1 299 \r\nContent-Type: application/json\r\nContent-Length: 2\r\n\r\n{}"
 unfolding response_text digits
 no_phrase_keeps_the_space = refl
+
+-- ---- replies
+
+sized_reply : form_told 200 ((codes "Content-Length", codes "3") ∷ []) ≡ Ok (BySize 3)
+sized_reply = refl
+
+chunked_reply : form_told 200 ((codes "Content-Length", codes "x") ∷ (codes "transfer-encoding", codes "Chunked") ∷ []) ≡ Ok ByChunks
+chunked_reply = refl
+
+reply_to_the_end : form_told 200 ((codes "Host", codes "a") ∷ []) ≡ Ok ToEnd
+reply_to_the_end = refl
+
+other_coding : form_told 200 ((codes "Transfer-Encoding", codes "gzip, chunked") ∷ []) ≡ Err Chunked
+other_coding = refl
+
+no_content_no_body : form_told 204 ((codes "Transfer-Encoding", codes "gzip") ∷ []) ≡ Ok (BySize 0)
+no_content_no_body = refl
+
+abbrev chunks : List Chunk
+chunks = record { line = record { digits = codes "3"; pad = []; extension = None }; bytes = codes "abc" } ∷ record { line = record { digits = codes "02"; pad = []; extension = Some (codes "x") }; bytes = codes "de" } ∷ []
+
+chunks_are_spelled : print_chunks chunks ≡ codes "3\r\nabc\r\n02;x\r\nde\r\n"
+unfolding print_chunk_line
+chunks_are_spelled = refl
+
+chunks_are_joined : joined chunks ≡ codes "abcde"
+chunks_are_joined = refl
+
+abbrev asked : HttpRequest
+asked = record { method = codes "PUT"; target = codes "/a"; fields = record { name = codes "Host"; value = codes "b" } ∷ []; body = codes "5"; close = false }
+
+request_is_spelled : request_text asked ≡ codes "PUT /a HTTP/1.1\r\nHost: b\r\nContent-Length: 1\r\n\r\n5"
+unfolding request_text digits
+request_is_spelled = refl
