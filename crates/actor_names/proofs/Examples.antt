@@ -2,7 +2,7 @@
 use Rattle.std.proofs.Common.{◌≡◌, [], Some, None, refl}
 use Rattle.std.specs.Prelude.{Ok, codes, replicate}
 use Rattle.actor_names.specs.declared.error.NameError.TheVariants.{Empty, TooLong, BadByte}
-use Rattle.actor_names.specs.Names.{actor_type_fault, actor_id_fault, chain_id_fault, key_fault}
+use Rattle.actor_names.specs.Names.{actor_type_fault, actor_id_fault, chain_id_fault, key_fault, space_in, local_in}
 use Rattle.actor_names.specs.Numerals.{member_fault}
 use Rattle.actor_names.specs.Addresses.{address_reading, address_fault, part_reading, port_reading}
 
@@ -35,6 +35,30 @@ key_with_two_slashes = refl
 
 key_without_an_id : key_fault (codes "counter/") ≡ Some Empty
 key_without_an_id = refl
+
+key_with_a_space : key_fault (codes "blue:counter/7:a") ≡ None
+key_with_a_space = refl
+
+space_of_a_key : space_in (codes "blue:counter/7:a") ≡ codes "blue"
+space_of_a_key = refl
+
+text_behind_a_space : local_in (codes "blue:counter/7:a") ≡ codes "counter/7:a"
+text_behind_a_space = refl
+
+key_with_a_colon_in_its_id : space_in (codes "counter/a:b") ≡ codes "default"
+key_with_a_colon_in_its_id = refl
+
+key_with_a_fault_behind_its_space : key_fault (codes "blue:count er/7") ≡ Some (BadByte 10)
+key_with_a_fault_behind_its_space = refl
+
+key_with_an_empty_space : key_fault (codes ":counter/7") ≡ Some Empty
+key_with_an_empty_space = refl
+
+member_with_a_space : member_fault (codes "blue:n/1") ≡ None
+member_with_a_space = refl
+
+member_with_a_space_and_no_node : member_fault (codes "blue:/1") ≡ Some Empty
+member_with_a_space_and_no_node = refl
 
 member_of_two_parts : member_fault (codes "n-1/4611686018427387904") ≡ None
 member_of_two_parts = refl

@@ -5,3 +5,4 @@ mod Numerals
 mod PaddingLemmas
 pub mod Slashes
 pub mod FormFaults
+mod Within

@@ -4,7 +4,7 @@ use Rattle.std.proofs.lemmas.Bool.Decides.{eqb_tells, nat_tests}
 use Rattle.std.proofs.lemmas.Bool.{cases_lt}
 use Rattle.actor_names.specs.declared.error.NameError.{NameError}
 use Rattle.actor_names.proofs.FirstBad.{found_from, found_from-start}
-use Rattle.actor_names.specs.Names.{first_bad, is_type_byte, before_slash, after_slash, key_fault, second_fault, actor_id_fault, actor_type_fault, first_of_two, placed_from}
+use Rattle.actor_names.specs.Names.{first_bad, is_type_byte, before_slash, after_slash, local_key_fault, second_fault, actor_id_fault, actor_type_fault, first_of_two, placed_from}
 
 -- the parts by whether the first byte is a slash
 cut_cons : (b : ℕ) (bs : List ℕ) (test : Bool) → take (length (before_slash bs)) bs ≡ before_slash bs → take (length (if test then [] else b ∷ before_slash bs)) (b ∷ bs) ≡ (if test then [] else b ∷ before_slash bs)
@@ -82,8 +82,8 @@ pub kind_found : (text : List ℕ) (n : ℕ) (found : Option ℕ) → found ≡ 
 kind_found text n found walked is slash = kind_ends text n (sym (found_from-start is_type_byte text) ∙ sym walked ∙ is) slash
 
 -- a text whose type is sound has the faults of its id
-pub key_fault-kind : (text : List ℕ) (n : ℕ) → IsKindAt text n → 0 < n → n ≤ 64 → key_fault text ≡ second_fault actor_id_fault text (after_slash text)
-key_fault-kind text n kind low high =
+pub local_key_fault-kind : (text : List ℕ) (n : ℕ) → IsKindAt text n → 0 < n → n ≤ 64 → local_key_fault text ≡ second_fault actor_id_fault text (after_slash text)
+local_key_fault-kind text n kind low high =
     let some : (length (before_slash text) == 0) ≡ false = grind (arith, nat_tests) in
     let short : nat_lt 64 (length (before_slash text)) ≡ false = grind (arith, nat_tests) in
     rw (some, short, kind.passes) refl
@@ -115,8 +115,8 @@ second_sound text rest first fault sound is =
     unplaced (length (before_slash text) + 1) (fault rest) placed
 
 -- a key without a fault has a slash
-pub key_has_slash : (text : List ℕ) → key_fault text ≡ None → length (before_slash text) < length text
-key_has_slash text sound = has_slash text (actor_type_fault (before_slash text)) actor_id_fault sound
+pub local_key_has_slash : (text : List ℕ) → local_key_fault text ≡ None → length (before_slash text) < length text
+local_key_has_slash text sound = has_slash text (actor_type_fault (before_slash text)) actor_id_fault sound
 
 -- the fault of the id where there is a slash
 pub second_fault-slash : (text : List ℕ) (fault : List ℕ → Option NameError) → length (before_slash text) < length text → second_fault fault text (after_slash text) ≡ option_map (placed_from (length (before_slash text) + 1)) (fault (drop (length (before_slash text) + 1) text))

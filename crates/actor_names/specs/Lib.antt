@@ -4,3 +4,4 @@ pub mod Reads
 pub mod Numerals
 pub mod Padding
 pub mod NameLengths
+pub mod Same

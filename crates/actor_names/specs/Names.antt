@@ -1,6 +1,6 @@
 -- The forms of names: which bytes each may have and how many, and the first fault of a text.
 -- Own; the types and ids of actors follow the Actors API reference of Dapr.
-use Rattle.std.specs.Prelude.{◌≡◌, ℕ, ◌+◌, Bool, not, ◌&&◌, ◌||◌, ◌==◌, nat_lt, if◌then◌else◌, List, [], ◌∷◌, length, Option, Some, None, option_map}
+use Rattle.std.specs.Prelude.{◌≡◌, ℕ, ◌+◌, Bool, not, ◌&&◌, ◌||◌, ◌==◌, nat_lt, if◌then◌else◌, List, [], ◌∷◌, length, take, drop, codes, Option, Some, None, option_map}
 use Rattle.lists_and_limits.specs.Decimals.{is_between}
 use Rattle.actor_names.specs.declared.error.NameError.{NameError}
 use Rattle.actor_names.specs.declared.error.NameError.TheVariants.{Empty, TooLong, BadByte, OutOfMemory}
@@ -36,6 +36,9 @@ text_fault ok most text =
 
 abbrev pub node_fault : List ℕ → Option NameError
 node_fault text = text_fault is_node_byte 64 text
+
+abbrev pub space_fault : List ℕ → Option NameError
+space_fault text = text_fault is_node_byte 64 text
 
 abbrev pub app_id_fault : List ℕ → Option NameError
 app_id_fault text = text_fault is_node_byte 64 text
@@ -79,8 +82,47 @@ abbrev pub first_of_two : Option NameError → Option NameError → Option NameE
 first_of_two None later = later
 first_of_two (Some e) later = Some e
 
+-- an actor's text within a space, `TYPE/ID`
+abbrev pub local_key_fault : List ℕ → Option NameError
+local_key_fault text = first_of_two (actor_type_fault (before_slash text)) (second_fault actor_id_fault text (after_slash text))
+
+-- ---- a space before a colon
+
+-- the space of all that is named without one
+abbrev pub default_space : List ℕ
+default_space = codes "default"
+
+-- the place of the colon that ends a space: the first one, where it stands before each `/`
+abbrev pub space_end : List ℕ → Option ℕ
+space_end [] = None
+space_end (b ∷ bs) = if b == 58 then Some 0 else (if b == 47 then None else option_map (λ n. n + 1) (space_end bs))
+
+-- the space of a text, and what stands behind it
+abbrev pub space_at : List ℕ → Option ℕ → List ℕ
+space_at text None = default_space
+space_at text (Some n) = take n text
+
+abbrev pub local_at : List ℕ → Option ℕ → List ℕ
+local_at text None = text
+local_at text (Some n) = drop (n + 1) text
+
+abbrev pub space_in : List ℕ → List ℕ
+space_in text = space_at text (space_end text)
+
+abbrev pub local_in : List ℕ → List ℕ
+local_in text = local_at text (space_end text)
+
+-- the first fault of a text that may have a space and a colon before it, the space first
+abbrev pub spaced_fault_at : (List ℕ → Option NameError) → List ℕ → Option ℕ → Option NameError
+spaced_fault_at fault text None = fault text
+spaced_fault_at fault text (Some n) = first_of_two (space_fault (take n text)) (option_map (placed_from (n + 1)) (fault (drop (n + 1) text)))
+
+abbrev pub spaced_fault : (List ℕ → Option NameError) → List ℕ → Option NameError
+spaced_fault fault text = spaced_fault_at fault text (space_end text)
+
+-- `TYPE/ID` or `SPACE:TYPE/ID`
 abbrev pub key_fault : List ℕ → Option NameError
-key_fault text = first_of_two (actor_type_fault (before_slash text)) (second_fault actor_id_fault text (after_slash text))
+key_fault text = spaced_fault local_key_fault text
 
 -- a text without a fault of its form; a word of its own, so that a proof about something else doesn't look into it
 unfoldable pub HasForm : (List ℕ → Option NameError) → List ℕ → Type 0

@@ -2,7 +2,7 @@
 use Rattle.std.specs.Prelude.{ℕ, ◌==◌, nat_le, if◌then◌else◌, List, [], ◌∷◌, length, Option, Some, None, take_while}
 use Rattle.actor_names.specs.declared.error.NameError.{NameError}
 use Rattle.actor_names.specs.declared.error.NameError.TheVariants.{BadByte}
-use Rattle.actor_names.specs.Names.{node_fault, before_slash, after_slash, second_fault, first_of_two}
+use Rattle.actor_names.specs.Names.{node_fault, before_slash, after_slash, second_fault, first_of_two, spaced_fault}
 use Rattle.lists_and_limits.specs.Decimals.{is_digit, number_of}
 use Rattle.lists_and_limits.specs.Limits.{last_number}
 
@@ -25,5 +25,9 @@ abbrev pub boot_fault : List ℕ → Option NameError
 boot_fault text = number_fault 1 last_number text
 
 -- the first fault of `NODE/BOOT`, node before boot
+abbrev pub local_member_fault : List ℕ → Option NameError
+local_member_fault text = first_of_two (node_fault (before_slash text)) (second_fault boot_fault text (after_slash text))
+
+-- `NODE/BOOT` or `SPACE:NODE/BOOT`
 abbrev pub member_fault : List ℕ → Option NameError
-member_fault text = first_of_two (node_fault (before_slash text)) (second_fault boot_fault text (after_slash text))
+member_fault text = spaced_fault local_member_fault text

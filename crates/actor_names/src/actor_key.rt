@@ -1,20 +1,24 @@
-// Actor keys: the type and the id of one actor, and their text `TYPE/ID`.
-ghost use Rattle.std.specs.Prelude.{◌≡◌, ◌<◌, ◌≤◌, Some, None, length, IfOk, OnOk};
-ghost use Rattle.actor_names.specs.Names.{key_fault, actor_id_fault, before_slash, after_slash, second_fault};
+// Actor keys: the space, the type and the id of one actor, and their text `TYPE/ID` or `SPACE:TYPE/ID`.
+ghost use Rattle.std.specs.Prelude.{◌≡◌, ◌+◌, ◌<◌, ◌≤◌, Some, None, length, drop, option_map, IfOk, OnOk};
+ghost use Rattle.actor_names.specs.Names.{local_key_fault, key_fault, actor_id_fault, before_slash, after_slash, second_fault, placed_from, space_in, local_in};
 ghost use Rattle.actor_names.specs.Reads.{ReadsInMemory};
 
 use crate::byte_class::{IdBytes, TypeBytes, bad_place, fault_in};
 use crate::error::NameError;
 use crate::forms::{
-    ActorId, ActorType, MOST_ACTOR_ID_BYTES, MOST_ACTOR_TYPE_BYTES, actor_type_fault,
+    ActorId, ActorType, MOST_ACTOR_ID_BYTES, MOST_ACTOR_TYPE_BYTES, Space, actor_type_fault,
+    read_space, space_fault,
 };
 use crate::slash::{first_piece, second_piece, slash_place};
+use crate::spaced::{default_space, space_end};
 use lists_and_limits::OutOfMemory;
 use std::alloc::Global;
 
-/// The name of an actor: its type, and its id among the actors of that type.
+/// The name of an actor: its space, its type, and its id among the actors of that type in that space.
 #[derive(Debug, Drop, PartialEq, Eq, PartialOrd, Ord)]
 pub struct ActorKey {
+    /// The space.
+    pub space: Space,
     /// The type.
     pub kind: ActorType,
     /// The id.
@@ -28,11 +32,15 @@ impl ActorKey {
     {
         let kind = self.kind.copy(alloc)?;
         let id = self.id.copy(alloc)?;
-        Ok(ActorKey { kind, id })
+        Ok(ActorKey {
+            space: self.space,
+            kind,
+            id,
+        })
     }
 }
 
-/// The bytes before the first `/`: the type of a key's text. All of the text where it has no `/`.
+/// The bytes before the first `/`: the type of a key's text without a space. All of the text where it has no `/`.
 pub fn key_kind(text: &[u8]) -> &[u8]
     ensures { result.now ≡ before_slash text.now }
 {
@@ -51,9 +59,9 @@ fn id_part_fault(text: &[u8], end: usize) -> Option<NameError>
     fault_in::<IdBytes>(text, end + 1, MOST_ACTOR_ID_BYTES)
 }
 
-/// Why a text is no key; None where it is one. A key is looked over once.
-pub fn key_fault(text: &[u8]) -> Option<NameError>
-    ensures { result ≡ key_fault text.now }
+/// Why a text is no key without a space, `TYPE/ID`; None where it is one. A key is looked over once.
+pub fn local_key_fault(text: &[u8]) -> Option<NameError>
+    ensures { result ≡ local_key_fault text.now }
 {
     if let Some(end) = bad_place::<TypeBytes>(text, 0)
         && text[end] == b'/'
@@ -68,19 +76,73 @@ pub fn key_fault(text: &[u8]) -> Option<NameError>
     }
 }
 
-/// Reads an actor key. A fault is answered before memory is asked for.
-pub fn read_key(alloc: Global, text: &[u8]) -> Result<ActorKey, NameError>
+/// Reads the key of an actor in a space from a text without it, `TYPE/ID`. A fault is answered before memory is
+/// asked for.
+pub fn read_local_key(alloc: Global, space: &Space, text: &[u8]) -> Result<ActorKey, NameError>
+    ensures space { IfOk result (λ key. key.space ≡ space.now) }
     ensures kind { IfOk result (λ key. key.kind ≡ before_slash text.now) }
     ensures id { IfOk result (λ key. Some key.id ≡ after_slash text.now) }
-    ensures sound { OnOk result (key_fault text.now ≡ None) }
-    ensures refused { ReadsInMemory (key_fault text.now) result }
+    ensures sound { OnOk result (local_key_fault text.now ≡ None) }
+    ensures refused { ReadsInMemory (local_key_fault text.now) result }
 {
-    match key_fault(text) {
+    match local_key_fault(text) {
         Some(fault) => Err(fault),
         None => {
             let kind = ActorType::from_bytes(alloc, key_kind(text))?;
             let id = ActorId::from_bytes(alloc, second_piece(text))?;
-            Ok(ActorKey { kind, id })
+            Ok(ActorKey {
+                space: *space,
+                kind,
+                id,
+            })
         }
+    }
+}
+
+// The fault of a key behind a space that ends at `end`, placed in the whole text.
+fn behind_space_fault(text: &[u8], end: usize) -> Option<NameError>
+    requires { end < length text.now }
+    ensures { result ≡ option_map (placed_from (end + 1)) (local_key_fault (drop (end + 1) text.now)) }
+{
+    match local_key_fault(&text[end + 1..]) {
+        Some(NameError::BadByte { at }) => Some(NameError::BadByte {
+            at: end as u64 + 1 + at,
+        }),
+        other => other,
+    }
+}
+
+/// Why a text is no key, `TYPE/ID` or `SPACE:TYPE/ID`; None where it is one. A colon ends a space only before the
+/// first `/`, since an id may have colons.
+pub fn key_fault(text: &[u8]) -> Option<NameError>
+    ensures { result ≡ key_fault text.now }
+{
+    match space_end(text) {
+        None => local_key_fault(text),
+        Some(end) => match space_fault(&text[..end]) {
+            Some(fault) => Some(fault),
+            None => behind_space_fault(text, end),
+        },
+    }
+}
+
+/// Reads an actor key, `TYPE/ID` in the space `default` or `SPACE:TYPE/ID`. A fault is answered before memory is
+/// asked for.
+pub fn read_key(alloc: Global, text: &[u8]) -> Result<ActorKey, NameError>
+    ensures space { IfOk result (λ key. key.space ≡ space_in text.now) }
+    ensures kind { IfOk result (λ key. key.kind ≡ before_slash (local_in text.now)) }
+    ensures id { IfOk result (λ key. Some key.id ≡ after_slash (local_in text.now)) }
+    ensures sound { OnOk result (key_fault text.now ≡ None) }
+    ensures refused { ReadsInMemory (key_fault text.now) result }
+{
+    match space_end(text) {
+        None => read_local_key(alloc, &default_space(), text),
+        Some(end) => match read_space(&text[..end]) {
+            Err(fault) => Err(fault),
+            Ok(space) => match behind_space_fault(text, end) {
+                Some(fault) => Err(fault),
+                None => read_local_key(alloc, &space, &text[end + 1..]),
+            },
+        },
     }
 }

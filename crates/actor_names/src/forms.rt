@@ -1,6 +1,6 @@
 // The forms of names, and their readers.
 ghost use Rattle.std.specs.Prelude.{◌≡◌, None, IfOk, OnOk};
-ghost use Rattle.actor_names.specs.Names.{node_fault, app_id_fault, actor_type_fault, actor_id_fault, record_name_fault};
+ghost use Rattle.actor_names.specs.Names.{node_fault, space_fault, app_id_fault, actor_type_fault, actor_id_fault, record_name_fault};
 ghost use Rattle.actor_names.specs.Reads.{ReadsInMemory, ReadsInPlace};
 
 use crate::byte_class::{IdBytes, NodeBytes, TypeBytes, fault_in};
@@ -48,6 +48,50 @@ pub fn read_node(text: &[u8]) -> Result<Node, NameError>
     ensures value { IfOk result (λ name. name ≡ text.now) }
     ensures sound { OnOk result (node_fault text.now ≡ None) }
     ensures refused { ReadsInPlace (node_fault text.now) result }
+{
+    ShortName::read(text)
+}
+
+/// The most bytes of a space.
+pub const MOST_SPACE_BYTES: usize = 64;
+
+/// The form of spaces.
+#[derive(Clone, Copy, Debug)]
+pub struct SpaceForm;
+
+impl NameForm for SpaceForm {
+    ghost use Rattle.actor_names.specs.Names.{space_fault};
+
+    ghost fault = { space_fault };
+
+    fn fault(text: &[u8]) -> Option<NameError> {
+        fault_in::<NodeBytes>(text, 0, MOST_SPACE_BYTES)
+    }
+}
+
+impl ShortForm for SpaceForm {
+    ghost use Rattle.actor_names.specs.Names.{is_node_byte};
+    ghost use Rattle.actor_names.specs.NameLengths.{most-text_fault};
+
+    ghost is_short = { most-text_fault is_node_byte 64 };
+}
+
+/// The name of a space, in which members and actors have names of their own: 1 to 64 lowercase letters, digits and
+/// `-`. It is copied without memory.
+pub type Space = ShortName<SpaceForm>;
+
+/// Why a text is no space; None where it is one.
+pub fn space_fault(text: &[u8]) -> Option<NameError>
+    ensures { result ≡ space_fault text.now }
+{
+    SpaceForm::fault(text)
+}
+
+/// Reads a space, without memory.
+pub fn read_space(text: &[u8]) -> Result<Space, NameError>
+    ensures value { IfOk result (λ name. name ≡ text.now) }
+    ensures sound { OnOk result (space_fault text.now ≡ None) }
+    ensures refused { ReadsInPlace (space_fault text.now) result }
 {
     ShortName::read(text)
 }

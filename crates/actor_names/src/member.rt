@@ -1,22 +1,25 @@
-// Members: a node in one of its boots, and the text `NODE/BOOT`.
-ghost use Rattle.std.specs.Prelude.{◌≡◌, ◌^◌, Some, None, length, IfOk, OnOk, option_and_then};
-ghost use Rattle.actor_names.specs.Names.{before_slash, after_slash, second_fault};
+// Members: a node of a space in one of its boots, and the text `NODE/BOOT` or `SPACE:NODE/BOOT`.
+ghost use Rattle.std.specs.Prelude.{◌≡◌, ◌+◌, ◌^◌, ◌<◌, Some, None, length, drop, option_map, IfOk, OnOk, option_and_then};
+ghost use Rattle.actor_names.specs.Names.{before_slash, after_slash, second_fault, placed_from, space_in, local_in};
 ghost use Rattle.lists_and_limits.specs.Decimals.{number_of};
-ghost use Rattle.actor_names.specs.Numerals.{boot_fault, member_fault};
+ghost use Rattle.actor_names.specs.Numerals.{boot_fault, local_member_fault, member_fault};
 ghost use Rattle.actor_names.specs.Reads.{ReadsInPlace};
 
 use crate::error::NameError;
-use crate::forms::{Node, node_fault};
+use crate::forms::{Node, Space, node_fault, read_space, space_fault};
 use crate::numeral::number_fault;
 use crate::slash::{first_piece, second_piece, slash_place};
+use crate::spaced::{default_space, space_end};
 use lists_and_limits::{LAST_NUMBER, read_decimal};
 
 /// The greatest boot of a member.
 pub const MOST_BOOT: u64 = LAST_NUMBER;
 
-/// A node in one of its boots. It is copied without memory.
+/// A node of a space in one of its boots. It is copied without memory.
 #[derive(Clone, Copy, Debug, PartialEq, Eq, PartialOrd, Ord)]
 pub struct Member {
+    /// The space.
+    pub space: Space,
     /// The node.
     pub node: Node,
     /// Which of the node's starts this is, from 1 to 2^62.
@@ -44,9 +47,9 @@ fn boot_part_fault(text: &[u8], end: usize) -> Option<NameError>
     number_fault(text, end + 1, 1, MOST_BOOT)
 }
 
-/// Why a text is no member; None where it is one.
-pub fn member_fault(text: &[u8]) -> Option<NameError>
-    ensures { result ≡ member_fault text.now }
+// Why a text is no member without a space, `NODE/BOOT`; None where it is one.
+fn local_member_fault(text: &[u8]) -> Option<NameError>
+    ensures { result ≡ local_member_fault text.now }
 {
     match node_fault(first_piece(text)) {
         Some(fault) => Some(fault),
@@ -54,19 +57,66 @@ pub fn member_fault(text: &[u8]) -> Option<NameError>
     }
 }
 
-/// Reads a member, without memory.
-pub fn read_member(text: &[u8]) -> Result<Member, NameError>
+// Reads a member of a space from a text without it.
+fn read_local_member(space: Space, text: &[u8]) -> Result<Member, NameError>
+    ensures space { IfOk result (λ member. member.space ≡ space) }
     ensures node { IfOk result (λ member. member.node ≡ before_slash text.now) }
     ensures boot { IfOk result (λ member. Some member.boot ≡ option_and_then (number_of (2 ^ 62)) (after_slash text.now)) }
-    ensures sound { OnOk result (member_fault text.now ≡ None) }
-    ensures refused { ReadsInPlace (member_fault text.now) result }
+    ensures sound { OnOk result (local_member_fault text.now ≡ None) }
+    ensures refused { ReadsInPlace (local_member_fault text.now) result }
 {
-    match member_fault(text) {
+    match local_member_fault(text) {
         Some(fault) => Err(fault),
         None => {
             let node = Node::from_bytes(first_piece(text));
             let boot = read_decimal(second_piece(text), MOST_BOOT).unwrap();
-            Ok(Member { node, boot })
+            Ok(Member { space, node, boot })
         }
+    }
+}
+
+// The fault of a member behind a space that ends at `end`, placed in the whole text.
+fn behind_space_fault(text: &[u8], end: usize) -> Option<NameError>
+    requires { end < length text.now }
+    ensures { result ≡ option_map (placed_from (end + 1)) (local_member_fault (drop (end + 1) text.now)) }
+{
+    match local_member_fault(&text[end + 1..]) {
+        Some(NameError::BadByte { at }) => Some(NameError::BadByte {
+            at: end as u64 + 1 + at,
+        }),
+        other => other,
+    }
+}
+
+/// Why a text is no member, `NODE/BOOT` or `SPACE:NODE/BOOT`; None where it is one.
+pub fn member_fault(text: &[u8]) -> Option<NameError>
+    ensures { result ≡ member_fault text.now }
+{
+    match space_end(text) {
+        None => local_member_fault(text),
+        Some(end) => match space_fault(&text[..end]) {
+            Some(fault) => Some(fault),
+            None => behind_space_fault(text, end),
+        },
+    }
+}
+
+/// Reads a member, `NODE/BOOT` in the space `default` or `SPACE:NODE/BOOT`, without memory.
+pub fn read_member(text: &[u8]) -> Result<Member, NameError>
+    ensures space { IfOk result (λ member. member.space ≡ space_in text.now) }
+    ensures node { IfOk result (λ member. member.node ≡ before_slash (local_in text.now)) }
+    ensures boot { IfOk result (λ member. Some member.boot ≡ option_and_then (number_of (2 ^ 62)) (after_slash (local_in text.now))) }
+    ensures sound { OnOk result (member_fault text.now ≡ None) }
+    ensures refused { ReadsInPlace (member_fault text.now) result }
+{
+    match space_end(text) {
+        None => read_local_member(default_space(), text),
+        Some(end) => match read_space(&text[..end]) {
+            Err(fault) => Err(fault),
+            Ok(space) => match behind_space_fault(text, end) {
+                Some(fault) => Err(fault),
+                None => read_local_member(space, &text[end + 1..]),
+            },
+        },
     }
 }

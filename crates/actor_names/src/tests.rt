@@ -151,6 +151,54 @@ fn nodes_members_and_addresses_are_kept_without_memory(rt: HostRuntime) -> Resul
     Ok(())
 }
 
+#[test]
+fn a_colon_before_the_first_slash_ends_a_space(rt: HostRuntime) {
+    let keys: [(&[u8], Option<NameError>); 8] = [
+        (b"blue:counter/7", None),
+        (b"counter/a:b", None),
+        (b"blue:counter/a:b", None),
+        (b":counter/7", Some(NameError::Empty)),
+        (b"Blue:counter/7", bad(0)),
+        (b"blue:green:counter/7", bad(10)),
+        (b"blue:counter", bad(12)),
+        (b"blue:counter/", Some(NameError::Empty)),
+    ];
+    for (text, fault) in keys {
+        assert_eq!(rt; key_fault(text), fault);
+    }
+    let members: [(&[u8], Option<NameError>); 6] = [
+        (b"blue:a/2", None),
+        (b"blue:/2", Some(NameError::Empty)),
+        (b"blue:a/0", bad(7)),
+        (b"blue:a:b/1", bad(6)),
+        (b":a/1", Some(NameError::Empty)),
+        (b"a/1:2", bad(3)),
+    ];
+    for (text, fault) in members {
+        assert_eq!(rt; member_fault(text), fault);
+    }
+    assert_eq!(rt; space_fault(&LETTERS[..64]), None);
+    assert_eq!(rt;
+        space_fault(&LETTERS[..65]),
+        Some(NameError::TooLong { n: 65 })
+    );
+}
+
+#[test]
+fn keys_and_members_have_their_space(rt: HostRuntime) -> Result<(), NameError> {
+    let alloc = rt.alloc();
+    let key = read_key(alloc, b"blue:counter/a:b")?.copy(alloc)?;
+    assert!(rt; key.space == read_space(b"blue")?);
+    assert!(rt; key == read_local_key(alloc, &key.space, b"counter/a:b")?);
+    assert_eq!(rt; key.id.as_slice(), b"a:b".as_slice());
+    assert!(rt; read_key(alloc, b"counter/a:b")?.space == default_space());
+    let member = read_member(b"blue:a/2")?;
+    assert!(rt; member.space == key.space);
+    assert_eq!(rt; member.node.as_slice(), b"a".as_slice());
+    assert!(rt; read_member(b"a/2")?.space == default_space());
+    Ok(())
+}
+
 // How two ids stand, by their order and by whether they are equal.
 fn ids_stand(alloc: Global, a: &[u8], b: &[u8]) -> Result<(Ordering, bool), NameError> {
     let (first, second) = (read_actor_id(alloc, a)?, read_actor_id(alloc, b)?);
@@ -176,5 +224,7 @@ fn names_members_and_keys_are_in_byte_order(rt: HostRuntime) -> Result<(), NameE
     assert_eq!(rt; keys_stand(alloc, b"a/2", b"b/1")?, less);
     assert_eq!(rt; members_stand(b"ab/1", b"b/1")?, less);
     assert_eq!(rt; members_stand(b"a/9", b"a/10")?, less);
+    assert_eq!(rt; members_stand(b"blue:b/1", b"a/1")?, less);
+    assert_eq!(rt; keys_stand(alloc, b"blue:b/1", b"a/1")?, less);
     Ok(())
 }

@@ -11,6 +11,7 @@ use Rattle.cluster_model.specs.World.{key_part}
 use Rattle.cluster_model.proofs.AskedRuns.{run_named, run_settings}
 use Rattle.cluster_model.proofs.Askings.{run_asked}
 use Rattle.cluster_model.proofs.Clusters.{run_invariant}
+use Rattle.world_run.proofs.RingSpaces.{ring_keeps}
 use Rattle.actors_top.specs.Scripts.{ScriptLog, Unread, SoloLog, ClusterLog, settings_of}
 use Rattle.actors_top.specs.Headline.{SoloHolds, ClusterHolds, HeadlineHolds}
 
@@ -20,9 +21,9 @@ solo_holds depths events = record { never_mix = λ key. turns_isolated depths ev
 cluster_holds : (settings : WorldSettings) (events : List WorldEvent) → ClusterHolds settings events
 cluster_holds settings events =
     record {
-      invariant = λ n. run_invariant ring_owner key_part settings (take n events);
+      invariant = λ n. run_invariant ring_owner key_part ring_keeps settings (take n events);
       asked = λ n. run_asked ring_owner key_part settings (take n events);
-      named = λ n. run_named ring_owner key_part settings (take n events);
+      named = λ n. run_named ring_owner key_part ring_keeps settings (take n events);
       parts = λ n. run_settings ring_owner key_part settings (take n events);
     }
 

@@ -12,6 +12,15 @@ fn one_member_goes_through_handshake(rt: HostRuntime) -> Result<(), Fail> {
 }
 
 #[test]
+fn second_space_has_its_own_versions(rt: HostRuntime) -> Result<(), Fail> {
+    let script =
+        "cluster 1\nboot a counter\ncall 1 a/1 counter/7\nto 1\npart 2 0\ncollect a/1\nto 3\npart 4 0\ncollect a/1\nto 5\npart 6 0\ncollect a/1\nto 7\nboot a counter space blue\nto 9\npart 10 0\ncall 2 blue:a/2 counter/7\ncollect blue:a/2\nto 11\npart 12 0\ncollect blue:a/2\nto 13\npart 14 0\nend 1\nend 2\nrestart\n";
+    let output =
+        "boot a/1 msg 1\nwait 1 1\nmsg 2 lock 1\nlocked 1\nmsg 3 ack lock 1\nmsg 4 update 1\nupdated 1 drained\nmsg 5 ack update 1\nmsg 6 unlock 1\nopen 1 begun 1 moved 0\nmsg 7 ack unlock 1\nmsg 8 idle\nboot blue:a/2 msg 9\nmsg 10 lock 1\nlocked 1\nwait 2 1\nmsg 11 ack lock 1\nmsg 12 update 1\nupdated 1 drained\nmsg 13 ack update 1\nmsg 14 unlock 1\nopen 1 begun 1 moved 0\nend 1\nend 2\nrestart 2 2\n";
+    prints(&rt, rt.alloc(), script, 0, output)
+}
+
+#[test]
 fn actor_moves_after_drain(rt: HostRuntime) -> Result<(), Fail> {
     let script =
         "cluster 1\nboot a counter\nto 1\npart 2 0\ncollect a/1\nto 3\npart 4 0\ncollect a/1\nto 5\npart 6 0\ncollect a/1\nto 7\ncall 1 a/1 counter/k0\nboot b counter\nto 9\npart 10 0\ncollect b/2\nto 11\nbeat a/1\nto 13\npart 14 0\ncollect a/1\nto 15\npart 16 0\ncollect a/1\nto 17\nend 1\nclosing a/1 0\nclosed a/1 counter/k0\ncollect a/1\nto 19\ncall 2 b/2 counter/k0\nbeat b/2\nto 21\npart 22 0\ncollect b/2\nto 23\npart 24 0\n";

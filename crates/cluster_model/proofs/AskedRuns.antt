@@ -14,6 +14,8 @@ use Rattle.part_core.specs.Settings.{settings_of}
 use Rattle.part_core.proofs.PartTables.{part_stepped}
 use Rattle.world_events.specs.declared.event.WorldEvent.{WorldEvent}
 use Rattle.world_events.specs.declared.settings.WorldSettings.{WorldSettings}
+use Rattle.cluster_model.specs.Spaces.{KeepsToSpace}
+use Rattle.cluster_model.proofs.SpaceParts.{backed}
 use Rattle.cluster_model.specs.Asked.{asked_calls, chain_under, OverlapsAreNamedAlike, PartsHaveSettings}
 use Rattle.cluster_model.specs.Messages.{Register, Message, Asks}
 use Rattle.cluster_model.specs.World as world
@@ -36,11 +38,11 @@ same_some : (c d : List ℕ) → Some c ≡ Some d → c ≡ d
 same_some c d e = cc
 
 module _ (owner : PlacementTable → ActorKey → Option HostInfo) (part_of : ActorKey → ℕ → ℕ) where
-  pub run_named : (settings : WorldSettings) (es : List WorldEvent)
+  pub run_named : KeepsToSpace owner → (settings : WorldSettings) (es : List WorldEvent)
       → OverlapsAreNamedAlike part_of (world.cluster_run owner part_of (world.opening_cluster settings) es) (asked_calls es (world.outcomes owner part_of (world.opening_cluster settings) es))
-  run_named settings es before middle after m n k a b x y e off =
+  run_named keeps settings es before middle after m n k a b x y e off =
       let t = run_asked owner part_of settings es in
-      let h = (run_invariant owner part_of settings es).isolated.one_chain before middle after m n k a b x y e off in
+      let h = (run_invariant owner part_of keeps settings es).isolated.one_chain before middle after m n k a b x y e off in
       let first = t.began m k a x (subst (In _) (sym e) (In-middle before _ _)) in
       let second = t.began n k b y (subst (In _) (sym e) (In-right before _ _ (inr (In-middle middle _ after)))) in
       record {
@@ -66,7 +68,7 @@ module _ (owner : PlacementTable → ActorKey → Option HostInfo) (part_of : Ac
         other = λ w now calls events t. record { safe = (safe_kept owner part_of).other w now calls events t.safe; kinds = t.kinds };
         step = λ w n p e t at heard asked.
             let i = In-slice_get w.parts n p at in
-            let st = part_stepped owner p e (t.safe.safe.parts p i).sound in
+            let st = part_stepped owner p e (backed owner w t.safe p i).sound in
             record {
               safe = step_safe owner part_of w n p e t.safe at heard;
               kinds = λ x j. elim (In-set w.parts n (part_step owner p e).part x j) [

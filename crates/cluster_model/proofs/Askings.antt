@@ -20,6 +20,7 @@ use Rattle.part_core.proofs.PartTables.{part_stepped}
 use Rattle.world_events.specs.declared.event.WorldEvent.{WorldEvent}
 use Rattle.world_events.specs.declared.event.WorldEvent.TheVariants as lines
 use Rattle.world_events.specs.declared.settings.WorldSettings.{WorldSettings}
+use Rattle.cluster_model.proofs.SpaceParts.{backed}
 use Rattle.cluster_model.specs.Asked.{AskedCall, asked_by, asked_calls, chain_under, WasAsked, TurnsAreAsked}
 use Rattle.cluster_model.specs.World as world
 use Rattle.cluster_model.specs.World.{ClusterState, WorldStep, CallPlace, TraceMark, tagged, the_call, call_at, place_of_call, call_outcome, ask_of, new_parts, most_events}
@@ -134,7 +135,7 @@ module _ (owner : PlacementTable → ActorKey → Option HostInfo) (part_of : Ac
   quiet_step asked w n p e t at quiet =
       let q : PartState = (part_step owner p e).part in
       let i = In-slice_get w.parts n p at in
-      let sound = (t.safe.safe.parts p i).sound in
+      let sound = (backed owner w t.safe p i).sound in
       let st = part_stepped owner p e sound in
       let l : IsLater w.parts w.calls asked (set w.parts n q) w.calls asked =
       record { parts = parts_later w.parts n p q at st.member st.number st.kinds; taken = λ j c x. x; lines = λ a x. x } in
@@ -223,7 +224,7 @@ module _ (owner : PlacementTable → ActorKey → Option HostInfo) (part_of : Ac
         let e : PartEvent = ask_of key least chain w.now in
         let q : PartState = (part_step owner p e).part in
         let i = In-slice_get w.parts n p at in
-        let sound = (t.safe.safe.parts p i).sound in
+        let sound = (backed owner w t.safe p i).sound in
         let st = part_stepped owner p e sound in
         let here = same_place w.parts m (part_of key w.settings.parts) n p home at in
         let l : IsLater w.parts w.calls asked parts calls all =

@@ -24,7 +24,7 @@ use Rattle.part_core.specs.declared.event.PartEvent.TheVariants as events
 use Rattle.part_core.specs.declared.event.PartReply.{PartReply}
 use Rattle.part_core.specs.declared.event.PartReply.TheVariants as replies
 use Rattle.part_core.specs.declared.settings.TypeSettings.{TypeSettings}
-use Rattle.part_core.specs.Keys.{same_member}
+use Rattle.actor_names.specs.Same.{same_member}
 use Rattle.part_core.specs.Marks.{PartMark, TurnBegan, TurnEnded, BecameActive, BecameInactive, PartOpened, begun_calls, ended_calls, marks_of_begin, marks_of_next, marks_of_ends, marks_of_inactive, marks_of_stop}
 use Rattle.part_core.specs.Part
 use Rattle.part_core.specs.Part.{PartState, PartStep, CellStep, asked_step, ask_cell, ask_owned, found_or_first, call_chain, is_full, is_spent, is_open, is_own, is_foreign, is_locked, is_updated, is_drained, each_cell, with_cell, part_step}
@@ -34,6 +34,7 @@ use Rattle.part_core.proofs.PartSteps.{In-first_to_close}
 use Rattle.part_core.proofs.Replays.{cell_at-In, no_turns}
 use Rattle.world_events.specs.declared.event.WorldEvent.{WorldEvent}
 use Rattle.world_events.specs.declared.settings.WorldSettings.{WorldSettings}
+use Rattle.cluster_model.proofs.SpaceParts.{backed}
 use Rattle.cluster_model.specs.Counts.{begun_turns, over_turns, turns_in, open_in, TurnsAreCounted}
 use Rattle.cluster_model.specs.World as world
 use Rattle.cluster_model.specs.World.{ClusterState, tagged, new_parts}
@@ -334,7 +335,7 @@ module _ (owner : PlacementTable → ActorKey → Option HostInfo) (part_of : Ac
       → open_in (set w.parts n (part_step owner p e).part) + over_turns (w.marks ++ tagged p.member (part_step owner p e).marks) ≡ begun_turns (w.marks ++ tagged p.member (part_step owner p e).marks)
   balance_step w n p e t at =
       let s = part_step owner p e in
-      let a = step_balanced owner p e (t.safe.safe.parts p (In-slice_get w.parts n p at)).sound in
+      let a = step_balanced owner p e (backed owner w t.safe p (In-slice_get w.parts n p at)).sound in
       let b = open_in-set w.parts n p s.part at in
       let c = begun_turns-append w.marks (tagged p.member s.marks) in
       let d = over_turns-append w.marks (tagged p.member s.marks) in

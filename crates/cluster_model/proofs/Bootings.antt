@@ -13,7 +13,7 @@ use Rattle.part_core.specs.Part.{PartState, new_part, part_step}
 use Rattle.part_core.proofs.PartTables.{part_stepped}
 use Rattle.round_core.specs.declared.event.PlaceEvent.{PlaceEvent}
 use Rattle.round_core.specs.declared.event.PlaceEvent.TheVariants as changes
-use Rattle.round_core.specs.Placement.{PlacementState, Membership, not_member, with_member, is_full, join_node, ack_change, remove_member, apply_membership, placement_step}
+use Rattle.round_core.specs.Room.{RoomState, Membership, not_member, with_member, is_full, join_node, ack_change, remove_member, apply_membership, room_step}
 use Rattle.round_core.specs.Runs.{HasMember}
 use Rattle.round_core.proofs.Durable.{hosts_with, ack_same, conclude_keeps}
 use Rattle.round_core.proofs.Hosts.{put_member, without_member, heard_member}
@@ -21,36 +21,38 @@ use Rattle.round_core.proofs.Reached.{restart_keeps}
 use Rattle.member_roster.specs.Members.{Joined, hosts_of, of_node, is_here, heard_at, new_joined, greatest_boot}
 use Rattle.world_events.specs.declared.event.WorldEvent.{WorldEvent}
 use Rattle.world_events.specs.declared.settings.WorldSettings.{WorldSettings}
-use Rattle.cluster_model.specs.Messages.{Request, Register, Beat, Ack, Leave, Message, Asks, change_of, asker_of}
+use Rattle.placement_core.specs.Placement.{PlacementState, room_of, placement_step}
+use Rattle.cluster_model.proofs.RoomSteps.{room_after, restart_room}
+use Rattle.cluster_model.proofs.SpaceParts.{backed}
+use Rattle.cluster_model.specs.Messages.{Request, Register, Beat, Ack, Leave, Message, Asks, change_of, asker_of, named_in}
 use Rattle.cluster_model.specs.World as world
 use Rattle.cluster_model.specs.World.{ClusterState, new_parts}
 use Rattle.cluster_model.specs.Invariant.{IsBooted}
-use Rattle.cluster_model.specs.Cluster.{named_in}
 use Rattle.cluster_model.proofs.Basics.{In-slice_get}
 use Rattle.cluster_model.specs.Invariant.{IsSafeWorld}
 use Rattle.cluster_model.proofs.Lines.{IsHonest, AreKept, run_kept}
-use Rattle.cluster_model.proofs.Worlds.{safe_kept, new_world_safe}
+use Rattle.cluster_model.proofs.Worlds.{safe_kept, opening_room, new_world_safe}
 
 -- ---- members after a step of the placement
 
-abbrev FromHosts : PlacementState → PlaceEvent → Membership → Type 0
+abbrev FromHosts : RoomState → PlaceEvent → Membership → Type 0
 FromHosts s e t = (m : Member) → HasMember (hosts_of t.state.members) m → HasMember (hosts_of s.members) m ⊎ ((h : HostInfo) × (e ≡ changes.Register h) × (m ≡ h.member))
 
-heard_from : (s : PlacementState) (e : PlaceEvent) (m : Member) (f : Joined → Joined) (b : Bool) → ((j : Joined) → (f j).host ≡ j.host) → FromHosts s e (cond b (with_member s m f) (not_member s m))
+heard_from : (s : RoomState) (e : PlaceEvent) (m : Member) (f : Joined → Joined) (b : Bool) → ((j : Joined) → (f j).host ≡ j.host) → FromHosts s e (cond b (with_member s m f) (not_member s m))
 heard_from s e m f true same x i = inl (subst (λ (hs : List HostInfo). HasMember hs x) (hosts_with s.members m.node f same) i)
 heard_from s e m f false same x i = inl i
 
-node_from : (s : PlacementState) (host : HostInfo) (now : ℕ) (o : Option Joined) → FromHosts s (changes.Register host) (join_node s host now o)
+node_from : (s : RoomState) (host : HostInfo) (now : ℕ) (o : Option Joined) → FromHosts s (changes.Register host) (join_node s host now o)
 node_from s host now (Some j) = λ x i. inl i
 node_from s host now None =
     cond_both (is_full s host.member.node) _ _ (FromHosts s (changes.Register host))
     (λ _ x i. inl i)
     (λ _ x i. elim (put_member s.members (new_joined host now) x i) [ inl j ↦ inl j | inr e ↦ inr (host, refl, e) ])
 
-gone_from : (s : PlacementState) (e : PlaceEvent) (m : Member) → FromHosts s e (remove_member s m)
+gone_from : (s : RoomState) (e : PlaceEvent) (m : Member) → FromHosts s e (remove_member s m)
 gone_from s e m = cond_both (is_here s.members m) _ _ (FromHosts s e) (λ _ x i. inl (without_member s.members m.node x i)) (λ _ x i. inl i)
 
-change_from : (s : PlacementState) (e : PlaceEvent) (now : ℕ) → FromHosts s e (apply_membership s e now)
+change_from : (s : RoomState) (e : PlaceEvent) (now : ℕ) → FromHosts s e (apply_membership s e now)
 change_from s (changes.Register host) now =
     cond_both (is_here s.members host.member) _ _ (FromHosts s (changes.Register host))
     (λ _. heard_from s (changes.Register host) host.member (heard_at now) true (λ j. refl))
@@ -65,10 +67,18 @@ change_from s changes.Tick now = λ x i. inl (heard_member s.members now x i)
 change_from s changes.Look now = λ x i. inl i
 
 -- a member after a step was one before, or is the host that registers
-pub step_from : (s : PlacementState) (e : PlaceEvent) (now : ℕ) (m : Member) → HasMember (hosts_of (placement_step s e now).state.members) m → HasMember (hosts_of s.members) m ⊎ ((h : HostInfo) × (e ≡ changes.Register h) × (m ≡ h.member))
+pub step_from : (s : RoomState) (e : PlaceEvent) (now : ℕ) (m : Member) → HasMember (hosts_of (room_step s e now).state.members) m → HasMember (hosts_of s.members) m ⊎ ((h : HostInfo) × (e ≡ changes.Register h) × (m ≡ h.member))
 step_from s e now m i =
     let t = apply_membership s e now in
     change_from s e now m (subst (λ (hs : List HostInfo). HasMember hs m) (conclude_keeps t.state t.conclusion).hosts i)
+
+-- the same of a room of the placement
+pub placement_from : (s : PlacementState) (e : PlaceEvent) (now : ℕ) (space : List ℕ) (m : Member) → HasMember (hosts_of (room_of (placement_step s e now).state space).members) m →
+    HasMember (hosts_of (room_of s space).members) m ⊎ ((h : HostInfo) × (e ≡ changes.Register h) × (m ≡ h.member))
+placement_from s e now space m i = elim (room_after s e now space) [
+  | inl h ↦ step_from (room_of s space) e now m (subst (λ (r : RoomState). HasMember (hosts_of r.members) m) h i)
+  | inr h ↦ inl (subst (λ (r : RoomState). HasMember (hosts_of r.members) m) h i)
+]
 
 -- ---- parts of a member stay
 
@@ -100,7 +110,7 @@ module _ (owner : PlacementTable → ActorKey → Option HostInfo) (part_of : Ac
     pub safe : IsSafeWorld owner w
     pub some : 0 < w.settings.parts
     pub named : (x : Message) → In x w.messages → IsBooted w.parts (named_in x)
-    pub joined : (m : Member) → HasMember (hosts_of w.placement.members) m → IsBooted w.parts m
+    pub joined : (space : List ℕ) (m : Member) → HasMember (hosts_of (room_of w.placement space).members) m → IsBooted w.parts m
 
   no_register : (w : ClusterState) (e : PlaceEvent) (h : HostInfo) → IsHonest owner part_of w e → e ≡ changes.Register h → ⊥
   no_register w e h honest same = subst (IsHonest owner part_of w) same honest
@@ -120,12 +130,12 @@ module _ (owner : PlacementTable → ActorKey → Option HostInfo) (part_of : Ac
         safe = λ w t. t.safe;
         other = λ w now calls events t. record { safe = (safe_kept owner part_of).other w now calls events t.safe; some = t.some; named = t.named; joined = t.joined };
         step = λ w n p e t at heard asked.
-            let st = part_stepped owner p e (t.safe.safe.parts p (In-slice_get w.parts n p at)).sound in
+            let st = part_stepped owner p e (backed owner w t.safe p (In-slice_get w.parts n p at)).sound in
             record {
               safe = (safe_kept owner part_of).step w n p e t.safe at heard asked;
               some = t.some;
               named = λ x i. booted_set w.parts n p (part_step owner p e).part at st.member (named_in x) (t.named x i);
-              joined = λ m i. booted_set w.parts n p (part_step owner p e).part at st.member m (t.joined m i);
+              joined = λ space m i. booted_set w.parts n p (part_step owner p e).part at st.member m (t.joined space m i);
             };
         ask = λ w r t may booted. record {
           safe = (safe_kept owner part_of).ask w r t.safe may booted;
@@ -137,8 +147,8 @@ module _ (owner : PlacementTable → ActorKey → Option HostInfo) (part_of : Ac
           safe = (safe_kept owner part_of).answer w r t.safe i;
           some = t.some;
           named = pushed w.messages _ w.parts t.named (t.named (Asks r) i);
-          joined = λ m j. elim (step_from w.placement (change_of r) w.now m j) [
-            | inl old ↦ t.joined m old
+          joined = λ space m j. elim (placement_from w.placement (change_of r) w.now space m j) [
+            | inl old ↦ t.joined space m old
             | inr new ↦ subst (IsBooted w.parts) (registers r new.0 new.1 ∙ sym new.2) (t.named (Asks r) i)
           ];
         };
@@ -146,13 +156,15 @@ module _ (owner : PlacementTable → ActorKey → Option HostInfo) (part_of : Ac
           safe = (safe_kept owner part_of).change w e t.safe h;
           some = t.some;
           named = t.named;
-          joined = λ m j. elim (step_from w.placement e w.now m j) [ inl old ↦ t.joined m old | inr new ↦ absurd (no_register w e new.0 h new.1) ];
+          joined = λ space m j. elim (placement_from w.placement e w.now space m j) [ inl old ↦ t.joined space m old | inr new ↦ absurd (no_register w e new.0 h new.1) ];
         };
         restart = λ w t. record {
           safe = (safe_kept owner part_of).restart w t.safe;
           some = t.some;
           named = t.named;
-          joined = λ m j. t.joined m (subst (λ (hs : List HostInfo). HasMember hs m) (restart_keeps w.placement w.now t.safe.reached.kept).hosts j);
+          joined = λ space m j.
+              let here = subst (λ (r : RoomState). HasMember (hosts_of r.members) m) (restart_room w.placement w.now space) j in
+              t.joined space m (subst (λ (hs : List HostInfo). HasMember hs m) (restart_keeps (room_of w.placement space) w.now (t.safe.spaces space).reached.kept).hosts here);
         };
         boot = λ w m kinds fresh t.
             let more : (x : Member) → IsBooted w.parts x → IsBooted (w.parts ++ new_parts m (world.settings_for w.settings kinds) 0 w.settings.parts) x = booted_more w.parts _ in
@@ -160,11 +172,11 @@ module _ (owner : PlacementTable → ActorKey → Option HostInfo) (part_of : Ac
               safe = (safe_kept owner part_of).boot w m kinds fresh t.safe;
               some = t.some;
               named = pushed w.messages _ _ (λ y i. more (named_in y) (t.named y i)) (booted_new w.parts m (world.settings_for w.settings kinds) w.settings.parts t.some);
-              joined = λ x i. more x (t.joined x i);
+              joined = λ space x i. more x (t.joined space x i);
             };
       }
 
   pub run_booted : (settings : WorldSettings) → 0 < settings.parts → (es : List WorldEvent) → AreAllBooted (world.cluster_run owner part_of (world.opening_cluster settings) es)
   run_booted settings some es =
       run_kept owner part_of AreAllBooted booted_kept (world.opening_cluster settings) es
-      (record { safe = new_world_safe owner part_of settings; some = some; named = λ x i. absurd i; joined = λ m i. absurd i })
+      (record { safe = new_world_safe owner part_of settings; some = some; named = λ x i. absurd i; joined = λ space m i. absurd (subst (λ (r : RoomState). HasMember (hosts_of r.members) m) (opening_room owner part_of space) i) })

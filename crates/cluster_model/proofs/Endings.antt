@@ -19,7 +19,7 @@ use Rattle.part_core.specs.declared.stage.Stage.TheVariants.{Locked, Updated, Op
 use Rattle.part_core.specs.declared.event.PartEvent.{PartEvent}
 use Rattle.part_core.specs.declared.event.PartEvent.TheVariants as events
 use Rattle.part_core.specs.Activity.{Activity, no_activity, activity_of, after_mark, is_mark_of}
-use Rattle.part_core.specs.Keys.{same_member}
+use Rattle.actor_names.specs.Same.{same_member}
 use Rattle.part_core.specs.Marks.{PartMark, TurnBegan, TurnEnded, BecameActive, BecameInactive, PartOpened, ended_calls, marks_of_begin, marks_of_next, marks_of_ends, marks_of_inactive, marks_of_stop}
 use Rattle.part_core.specs.Part
 use Rattle.part_core.specs.Part.{PartState, PartStep, CellStep, is_updated, is_foreign, each_cell, part_step}
@@ -27,6 +27,8 @@ use Rattle.part_core.proofs.CellLaws.{In-cell_of_call}
 use Rattle.part_core.proofs.Replays.{cell_at-In}
 use Rattle.world_events.specs.declared.event.WorldEvent.{WorldEvent}
 use Rattle.world_events.specs.declared.settings.WorldSettings.{WorldSettings}
+use Rattle.cluster_model.specs.Spaces.{KeepsToSpace}
+use Rattle.cluster_model.proofs.SpaceParts.{backed}
 use Rattle.cluster_model.specs.Asked.{EndedHadBegun}
 use Rattle.cluster_model.specs.History.{history}
 use Rattle.cluster_model.specs.World as world
@@ -195,7 +197,7 @@ module _ (owner : PlacementTable → ActorKey → Option HostInfo) (part_of : Ac
       let u = o.3.0 in
       let fits = t.told.fits in
       let home : part_of k w.settings.parts ≡ p.number = subst (λ (z : ActorKey). part_of z w.settings.parts ≡ p.number) o.2 (fits.placed n p at c o.1) in
-      let in_order = (t.safe.safe.parts p (In-slice_get w.parts n p at)).sound.in_order in
+      let in_order = (backed owner w t.safe p (In-slice_get w.parts n p at)).sound.in_order in
       let cell : cell_at p.cells k ≡ Some c = subst (λ (z : ActorKey). cell_at p.cells z ≡ Some c) o.2 (cell_at-In p.cells c in_order o.1) in
       let now : In u (history w.marks p.member k no_activity).turns = subst (λ (z : Activity). In u z.turns) (sym (fits.here n p at k home ∙ ap activity_of cell)) o.3.1 in
       elim (open_began w.marks p.member k no_activity u now) [
@@ -214,9 +216,9 @@ module _ (owner : PlacementTable → ActorKey → Option HostInfo) (part_of : Ac
             (b.0, subst (In _) (sym new.1) (In-left w.marks new.0 _ (subst (λ (z : Member). In (let x : TraceMark = record { member = z; what = TurnBegan k call b.0 } in x) w.marks) (sym s.4) b.1))))
       ]
 
-  endings_kept : AreKept owner part_of AreEndings
-  endings_kept =
-      let kept = told_kept owner part_of in
+  endings_kept : KeepsToSpace owner → AreKept owner part_of AreEndings
+  endings_kept keeps =
+      let kept = told_kept owner part_of keeps in
       record {
         safe = λ w t. t.told.safe;
         other = λ w now calls events t. record { told = kept.other w now calls events t.told; ended = t.ended };
@@ -232,9 +234,9 @@ module _ (owner : PlacementTable → ActorKey → Option HostInfo) (part_of : Ac
   no_split [] after x e = cc
   no_split (y ∷ before) after x e = cc
 
-  pub run_ended : (settings : WorldSettings) (es : List WorldEvent) → EndedHadBegun (world.cluster_run owner part_of (world.opening_cluster settings) es).marks
-  run_ended settings es =
-      (run_kept owner part_of AreEndings endings_kept (world.opening_cluster settings) es (record {
+  pub run_ended : KeepsToSpace owner → (settings : WorldSettings) (es : List WorldEvent) → EndedHadBegun (world.cluster_run owner part_of (world.opening_cluster settings) es).marks
+  run_ended keeps settings es =
+      (run_kept owner part_of AreEndings (endings_kept keeps) (world.opening_cluster settings) es (record {
         told = record { safe = new_world_safe owner part_of settings; told = new_world_told owner part_of settings };
         ended = λ before after m k call e. absurd (no_split before after _ e);
       })).ended

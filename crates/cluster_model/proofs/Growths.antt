@@ -8,6 +8,7 @@ use Rattle.turn_core.proofs.Elements.{In-left}
 use Rattle.part_core.specs.Part.{PartState}
 use Rattle.world_events.specs.declared.event.WorldEvent.{WorldEvent}
 use Rattle.world_events.specs.declared.settings.WorldSettings.{WorldSettings}
+use Rattle.cluster_model.proofs.SpaceParts.{backed}
 use Rattle.cluster_model.specs.Messages.{Message}
 use Rattle.cluster_model.specs.World as world
 use Rattle.cluster_model.specs.World.{ClusterState}
@@ -39,6 +40,6 @@ pub run_came : (owner : PlacementTable → ActorKey → Option HostInfo) (part_o
 run_came owner part_of settings earlier later p i =
     let w : ClusterState = world.cluster_run owner part_of (world.opening_cluster settings) earlier in
     let s = run_safe owner part_of settings earlier in
-    let b = s.safe.parts p i in
+    let b = backed owner w s p i in
     let g = run_kept owner part_of (HasGrown owner part_of w.messages) (grown_kept owner part_of w.messages) w later (record { safe = s; kept = λ x j. j }) in
     record { lock = λ l. g.kept _ (b.lock_came l); update = λ l. g.kept _ (b.update_came l); unlock = λ l. g.kept _ (b.unlock_came l) }

@@ -16,7 +16,7 @@ use Rattle.part_cells.proofs.Elements.{In-cell_at, key-cell_at}
 use Rattle.part_cells.proofs.KeyOrders.{same_key-self}
 use Rattle.part_core.specs.declared.event.PartEvent.{PartEvent}
 use Rattle.part_core.specs.Activity.{Activity, no_activity, activity_of, after_mark, is_mark_of, replay, AreTidy, IsAsked, IsFrom, Replays}
-use Rattle.part_core.specs.Keys.{same_member}
+use Rattle.actor_names.specs.Same.{same_member}
 use Rattle.part_core.specs.Marks.{PartMark, TurnBegan, BecameActive}
 use Rattle.part_core.specs.Part.{PartState}
 use Rattle.part_core.specs.PartMoves.{Stepped}

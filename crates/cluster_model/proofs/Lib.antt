@@ -1,5 +1,7 @@
 mod Rows
 pub mod Basics
+pub mod Filters
+pub mod RoomSteps
 pub mod PartKeeps
 pub mod Joins
 pub mod Rounds
@@ -7,6 +9,7 @@ pub mod Places
 pub mod Messages
 pub mod Boots
 pub mod Named
+pub mod SpaceParts
 pub mod Lines
 pub mod Worlds
 pub mod Histories

@@ -15,8 +15,7 @@ use Rattle.part_core.specs.Activity.{IsAsked}
 use Rattle.part_core.specs.Part.{PartState, part_step}
 use Rattle.round_core.specs.declared.event.PlaceEvent.{PlaceEvent}
 use Rattle.round_core.specs.declared.event.PlaceEvent.TheVariants as changes
-use Rattle.round_core.specs.Placement.{placement_step, placement_restarted}
-use Rattle.member_roster.specs.Members.{late_of}
+use Rattle.placement_core.specs.Placement.{late_in, placement_step, placement_restarted}
 use Rattle.member_core.specs.declared.ack.Ack as declared
 use Rattle.member_core.specs.Acks.{collected, are_stopped}
 use Rattle.member_core.specs.Progress.{MemberReached}
@@ -29,6 +28,7 @@ use Rattle.cluster_model.specs.Messages.{Request, Register, Beat, Ack, Leave, An
 use Rattle.cluster_model.specs.World as world
 use Rattle.cluster_model.specs.World.{ClusterState, WorldStep, CallPlace, most_events, ask_of}
 use Rattle.cluster_model.specs.Invariant.{IsBooted, IsHeard, AllStopped, IsSafe, IsSafeWorld}
+use Rattle.cluster_model.proofs.SpaceParts.{backed}
 use Rattle.cluster_model.proofs.Named.{booted_part, all_stopped_all, none_running, same_place, told_heard, told_asks_not, ask_heard, ask_asks, In-message_at, In-receipts_of}
 
 module _ (owner : PlacementTable → ActorKey → Option HostInfo) (part_of : ActorKey → ℕ → ℕ) where
@@ -42,7 +42,7 @@ module _ (owner : PlacementTable → ActorKey → Option HostInfo) (part_of : Ac
   -- an event of the placement that no message brings
   abbrev pub IsHonest : ClusterState → PlaceEvent → Type 0
   IsHonest w (changes.Lost m) = AllStopped w.parts m
-  IsHonest w changes.Tick = (m : Member) → In m (late_of w.placement.members w.now) → AllStopped w.parts m
+  IsHonest w changes.Tick = (m : Member) → In m (late_in w.placement.rooms w.now) → AllStopped w.parts m
   IsHonest w e = ⊥
 
   -- what every event but a call comes down to: no part that takes a step is asked
@@ -91,7 +91,7 @@ module _ (owner : PlacementTable → ActorKey → Option HostInfo) (part_of : Ac
     Ends s = P s.world
 
     booted_of : (w : ClusterState) (m : Member) → P w → world.was_booted w.parts m ≡ true → m.boot ≤ w.boots
-    booted_of w m t e = let h = booted_part w.parts m e in subst (λ (x : Member). x.boot ≤ w.boots) h.2 ((kept.safe w t).safe.parts h.0 h.1).booted
+    booted_of w m t e = let h = booted_part w.parts m e in subst (λ (x : Member). x.boot ≤ w.boots) h.2 (backed owner w (kept.safe w t) h.0 h.1).booted
 
     step_of : (w : ClusterState) (n : ℕ) (e : PartEvent) (says : PartReply → Outcome) (found : Option PartState) → slice_get w.parts n ≡ found → ((p : PartState) → found ≡ Some p → IsHeard w.messages p.member e) →
         ((k : ActorKey) → IsAsked e k → ⊥) → P w → Ends (world.step_of_part owner part_of w n e says found)
@@ -146,13 +146,13 @@ module _ (owner : PlacementTable → ActorKey → Option HostInfo) (part_of : Ac
     to_part w i (Some (Asks r)) h t = t
     to_part w i (Some (Tells m r)) h t = tells w m i r (world.place_of_part w.parts m i) refl (h _ refl) t
 
-    honest : (w : ClusterState) (o : Option Member) → world.running_among w.parts (late_of w.placement.members w.now) ≡ o → P w → Ends (world.honest_tick w o)
+    honest : (w : ClusterState) (o : Option Member) → world.running_among w.parts (late_in w.placement.rooms w.now) ≡ o → P w → Ends (world.honest_tick w o)
     honest w None e t = kept.change w changes.Tick t (none_running w.parts _ e)
     honest w (Some m) e t = t
 
     pub quiet_line : (w : ClusterState) (e : WorldEvent) → IsNoCall e → P w → Ends (world.happens owner part_of w e)
     quiet_line w (lines.At moment) plain t = kept.other w moment w.events t
-    quiet_line w (lines.Boot node kinds) plain t = kept.boot w (record { node = node; boot = suc w.boots }) kinds refl t
+    quiet_line w (lines.Boot space node kinds) plain t = kept.boot w (record { space = space; node = node; boot = suc w.boots }) kinds refl t
     quiet_line w (lines.Beat m) plain t = cond_both (world.was_booted w.parts m) _ _ Ends (λ b. kept.ask w (Beat m) t tt (booted_part w.parts m b)) (λ _. t)
     quiet_line w (lines.Collect m) plain t =
         cond_both (world.was_booted w.parts m) _ _ Ends (λ b. acks w m (collected (world.receipts_of owner part_of w.parts m)) refl (booted_of w m t b) (booted_part w.parts m b) t) (λ _. t)
@@ -177,7 +177,7 @@ module _ (owner : PlacementTable → ActorKey → Option HostInfo) (part_of : Ac
         cond_both (world.was_booted w.parts m) _ _ Ends
         (λ _. cond_both (world.all_stopped w.parts m) _ _ Ends (λ a. kept.change w (changes.Lost m) t (all_stopped_all w.parts m a)) (λ _. t))
         (λ _. t)
-    quiet_line w lines.PlacementTick plain t = honest w (world.running_among w.parts (late_of w.placement.members w.now)) refl t
+    quiet_line w lines.PlacementTick plain t = honest w (world.running_among w.parts (late_in w.placement.rooms w.now)) refl t
     quiet_line w lines.Restart plain t = kept.restart w t
 
   module _ (P : ClusterState → Type 0) (kept : AreKept P) where

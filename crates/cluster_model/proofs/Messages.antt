@@ -26,10 +26,10 @@ use Rattle.cluster_model.proofs.Joins.{entry_of, has_entry}
 use Rattle.cluster_model.proofs.PartKeeps.{backed_open, told_unlock}
 
 -- the message of a stage of a round
-abbrev pub stage_answer : ℕ → List HostInfo → AckStage → Answer
-stage_answer last fixed stages.Lock = LockAt last
-stage_answer last fixed stages.Update = UpdateTo (table_of last fixed)
-stage_answer last fixed stages.Unlock = UnlockAt last
+abbrev pub stage_answer : List ℕ → ℕ → List HostInfo → AckStage → Answer
+stage_answer space last fixed stages.Lock = LockAt last
+stage_answer space last fixed stages.Update = UpdateTo (table_of space last fixed)
+stage_answer space last fixed stages.Unlock = UnlockAt last
 
 module _ (owner : PlacementTable → ActorKey → Option HostInfo) where
   no_cells : (s : Stage) (p : PartState) → p.stage ≡ s → HasNoCellAt owner s p → p.stage ≡ Stopped → p.cells ≡ []
@@ -115,10 +115,10 @@ module _ (owner : PlacementTable → ActorKey → Option HostInfo) where
 
   -- ---- the message of a round that runs, to one that is pending in it
 
-  version-stage_answer : (last : ℕ) (fixed : List HostInfo) (s : AckStage) → version_of (stage_answer last fixed s) ≡ Some last
-  version-stage_answer last fixed stages.Lock = refl
-  version-stage_answer last fixed stages.Update = refl
-  version-stage_answer last fixed stages.Unlock = refl
+  version-stage_answer : (space : List ℕ) (last : ℕ) (fixed : List HostInfo) (s : AckStage) → version_of (stage_answer space last fixed s) ≡ Some last
+  version-stage_answer space last fixed stages.Lock = refl
+  version-stage_answer space last fixed stages.Update = refl
+  version-stage_answer space last fixed stages.Unlock = refl
 
   some_injective : (a b : ℕ) → Some a ≡ Some b → a ≡ b
   some_injective a b e = cc
@@ -126,15 +126,15 @@ module _ (owner : PlacementTable → ActorKey → Option HostInfo) where
   tells_injective : (m n : Member) (r q : Answer) → Tells m r ≡ Tells n q → (m ≡ n) × (r ≡ q)
   tells_injective m n r q e = (cc, cc)
 
-  update_of_answer : (last : ℕ) (fixed : List HostInfo) (t : PlacementTable) (s : AckStage) → UpdateTo t ≡ stage_answer last fixed s → (s ≡ stages.Update) × (t ≡ table_of last fixed)
-  update_of_answer last fixed t stages.Lock e = absurd (cc)
-  update_of_answer last fixed t stages.Update e = (refl, cc)
-  update_of_answer last fixed t stages.Unlock e = absurd (cc)
+  update_of_answer : (space : List ℕ) (last : ℕ) (fixed : List HostInfo) (t : PlacementTable) (s : AckStage) → UpdateTo t ≡ stage_answer space last fixed s → (s ≡ stages.Update) × (t ≡ table_of space last fixed)
+  update_of_answer space last fixed t stages.Lock e = absurd (cc)
+  update_of_answer space last fixed t stages.Update e = (refl, cc)
+  update_of_answer space last fixed t stages.Unlock e = absurd (cc)
 
-  unlock_of_answer : (last : ℕ) (fixed : List HostInfo) (v : ℕ) (s : AckStage) → UnlockAt v ≡ stage_answer last fixed s → (s ≡ stages.Unlock) × (v ≡ last)
-  unlock_of_answer last fixed v stages.Lock e = absurd (cc)
-  unlock_of_answer last fixed v stages.Update e = absurd (cc)
-  unlock_of_answer last fixed v stages.Unlock e = (refl, cc)
+  unlock_of_answer : (space : List ℕ) (last : ℕ) (fixed : List HostInfo) (v : ℕ) (s : AckStage) → UnlockAt v ≡ stage_answer space last fixed s → (s ≡ stages.Unlock) × (v ≡ last)
+  unlock_of_answer space last fixed v stages.Lock e = absurd (cc)
+  unlock_of_answer space last fixed v stages.Update e = absurd (cc)
+  unlock_of_answer space last fixed v stages.Unlock e = (refl, cc)
 
   -- an Unlock of the round's version is there only at its last stage
   at_last_stage : (last : ℕ) (js : List Joined) (fixed : List HostInfo) (ms : List Message) (ps : List PartState) (s : AckStage) →
@@ -180,43 +180,44 @@ module _ (owner : PlacementTable → ActorKey → Option HostInfo) where
           ]
         ]
 
-  pushed_facts : (last : ℕ) (js : List Joined) (fixed : List HostInfo) (ms ns : List Message) (ps : List PartState) (stage : AckStage) →
-      ((x : Member) (t : PlacementTable) → In (Tells x (UpdateTo t)) ns → In (Tells x (UpdateTo t)) ms ⊎ ((stage ≡ stages.Update) × (t ≡ table_of last fixed))) →
+  pushed_facts : (space : List ℕ) (last : ℕ) (js : List Joined) (fixed : List HostInfo) (ms ns : List Message) (ps : List PartState) (stage : AckStage) →
+      ((x : Member) (t : PlacementTable) → In (Tells x (UpdateTo t)) ns → In (Tells x (UpdateTo t)) ms ⊎ ((stage ≡ stages.Update) × (t ≡ table_of space last fixed))) →
       ((x : Member) (v : ℕ) → In (Tells x (UnlockAt v)) ns → In (Tells x (UnlockAt v)) ms ⊎ ((stage ≡ stages.Unlock) × (v ≡ last))) →
       StageFacts owner last js fixed ms ps stage → StageFacts owner last js fixed ns ps stage
-  pushed_facts last js fixed ms ns ps stages.Lock upd unl f =
+  pushed_facts space last js fixed ms ns ps stages.Lock upd unl f =
       (λ x t i. elim (upd x t i) [ inl j ↦ f.0 x t j | inr q ↦ (let e = q.0 in absurd (cc)) ], λ x v i. elim (unl x v i) [ inl j ↦ f.1 x v j | inr q ↦ (let e = q.0 in absurd (cc)) ])
-  pushed_facts last js fixed ms ns ps stages.Update upd unl f =
+  pushed_facts space last js fixed ms ns ps stages.Update upd unl f =
       (λ x v i. elim (unl x v i) [ inl j ↦ f.0 x v j | inr q ↦ (let e = q.0 in absurd (cc)) ], λ x t i e. elim (upd x t i) [ inl j ↦ f.1 x t j e | inr q ↦ ap (λ (z : PlacementTable). z.hosts) q.1 ], f.2)
-  pushed_facts last js fixed ms ns ps stages.Unlock upd unl f =
+  pushed_facts space last js fixed ms ns ps stages.Unlock upd unl f =
       (λ x t i e. elim (upd x t i) [ inl j ↦ f.0 x t j e | inr q ↦ ap (λ (z : PlacementTable). z.hosts) q.1 ], f.1)
 
   -- the round's table is the one of its version
-  fixed_at : (last : ℕ) (fixed : List HostInfo) (ms : List Message) → CarryTable owner last fixed ms → (m : Member) (t : PlacementTable) → In (Tells m (UpdateTo t)) ms → t.version ≡ last → t ≡ table_of last fixed
-  fixed_at last fixed ms f m t i e = let h = f m t i e in λ k. record { version = e k; hosts = h k }
+  fixed_at : (space : List ℕ) (last : ℕ) (fixed : List HostInfo) (ms : List Message) → CarryTable owner last fixed ms → ((x : Member) (t : PlacementTable) → In (Tells x (UpdateTo t)) ms → t.space ≡ space) →
+      (m : Member) (t : PlacementTable) → In (Tells m (UpdateTo t)) ms → t.version ≡ last → t ≡ table_of space last fixed
+  fixed_at space last fixed ms f ours m t i e = let h = f m t i e in let o = ours m t i in λ k. record { space = o k; version = e k; hosts = h k }
 
-  module _ (last : ℕ) (js : List Joined) (ks : List Known) (fixed : List HostInfo) (ps : List PartState) (ms : List Message) (boots : ℕ) (stage : AckStage)
-      (s : IsSafeAt owner last js ks fixed (Running stage) ps ms boots) (j : Joined) (here : In j js) (pending : j.pending ≡ true)
+  module _ (space : List ℕ) (last : ℕ) (js : List Joined) (ks : List Known) (fixed : List HostInfo) (ps : List PartState) (ms : List Message) (boots : ℕ) (stage : AckStage)
+      (ours : (x : Member) (t : PlacementTable) → In (Tells x (UpdateTo t)) ms → t.space ≡ space) (s : IsSafeAt owner last js ks fixed (Running stage) ps ms boots) (j : Joined) (here : In j js) (pending : j.pending ≡ true)
       (one : (k : Joined) → In k js → k.host.member ≡ j.host.member → k ≡ j) where
     abbrev new : List Message
-    new = ms ++ Tells j.host.member (stage_answer last fixed stage) ∷ []
+    new = ms ++ Tells j.host.member (stage_answer space last fixed stage) ∷ []
 
     told_new : (x : Member) (v : ℕ) → WasTold new x v → WasTold ms x v ⊎ ((x ≡ j.host.member) × (v ≡ last))
     told_new x v w = elim (In-push ms _ (Tells x w.0) w.1) [
       | inl i ↦ inl (w.0, i, w.2)
-      | inr q ↦ inr (let h = tells_injective x j.host.member w.0 (stage_answer last fixed stage) q in (h.0, some_injective v last (sym w.2 ∙ ap version_of h.1 ∙ version-stage_answer last fixed stage)))
+      | inr q ↦ inr (let h = tells_injective x j.host.member w.0 (stage_answer space last fixed stage) q in (h.0, some_injective v last (sym w.2 ∙ ap version_of h.1 ∙ version-stage_answer space last fixed stage)))
     ]
 
-    update_new : (x : Member) (t : PlacementTable) → In (Tells x (UpdateTo t)) new → In (Tells x (UpdateTo t)) ms ⊎ ((stage ≡ stages.Update) × (t ≡ table_of last fixed))
+    update_new : (x : Member) (t : PlacementTable) → In (Tells x (UpdateTo t)) new → In (Tells x (UpdateTo t)) ms ⊎ ((stage ≡ stages.Update) × (t ≡ table_of space last fixed))
     update_new x t i = elim (In-push ms _ _ i) [
       | inl k ↦ inl k
-      | inr q ↦ inr (update_of_answer last fixed t stage (tells_injective x j.host.member (UpdateTo t) (stage_answer last fixed stage) q).1)
+      | inr q ↦ inr (update_of_answer space last fixed t stage (tells_injective x j.host.member (UpdateTo t) (stage_answer space last fixed stage) q).1)
     ]
 
     unlock_new : (x : Member) (v : ℕ) → In (Tells x (UnlockAt v)) new → In (Tells x (UnlockAt v)) ms ⊎ ((stage ≡ stages.Unlock) × (v ≡ last))
     unlock_new x v i = elim (In-push ms _ _ i) [
       | inl k ↦ inl k
-      | inr q ↦ inr (unlock_of_answer last fixed v stage (tells_injective x j.host.member (UnlockAt v) (stage_answer last fixed stage) q).1)
+      | inr q ↦ inr (unlock_of_answer space last fixed v stage (tells_injective x j.host.member (UnlockAt v) (stage_answer space last fixed stage) q).1)
     ]
 
     round_new : IsRoundSound owner last js fixed new ps stage
@@ -229,7 +230,7 @@ module _ (owner : PlacementTable → ActorKey → Option HostInfo) where
             | inr q ↦ ap (λ (z : Joined). z.target) (one y i q.0) ∙ s.round.pending_target j here pending
           ];
           not_pending = s.round.not_pending;
-          facts = pushed_facts last js fixed ms new ps stage update_new unlock_new s.round.facts;
+          facts = pushed_facts space last js fixed ms new ps stage update_new unlock_new s.round.facts;
         }
 
     carried : stage ≡ stages.Update → CarryTable owner last fixed ms
@@ -243,10 +244,10 @@ module _ (owner : PlacementTable → ActorKey → Option HostInfo) where
           one_table = λ x y t u i k e. elim (update_new x t i) [
             | inl o ↦ elim (update_new y u k) [
               | inl l ↦ s.messages.one_table x y t u o l e
-              | inr l ↦ fixed_at last fixed ms (carried l.0) x t o (e ∙ ap (λ (z : PlacementTable). z.version) l.1) ∙ sym l.1
+              | inr l ↦ fixed_at space last fixed ms (carried l.0) ours x t o (e ∙ ap (λ (z : PlacementTable). z.version) l.1) ∙ sym l.1
             ]
             | inr o ↦ elim (update_new y u k) [
-              | inl l ↦ o.1 ∙ sym (fixed_at last fixed ms (carried o.0) y u l (sym e ∙ ap (λ (z : PlacementTable). z.version) o.1))
+              | inl l ↦ o.1 ∙ sym (fixed_at space last fixed ms (carried o.0) ours y u l (sym e ∙ ap (λ (z : PlacementTable). z.version) o.1))
               | inr l ↦ o.1 ∙ sym l.1
             ]
           ];

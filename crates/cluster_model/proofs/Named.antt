@@ -11,7 +11,7 @@ use Rattle.part_core.specs.declared.event.PartEvent.{PartEvent}
 use Rattle.part_core.specs.declared.stage.Stage.{Stage}
 use Rattle.part_core.specs.declared.stage.Stage.TheVariants.{Locked, Updated, Open, Stopped}
 use Rattle.part_core.specs.Activity.{IsAsked}
-use Rattle.part_core.specs.Keys.{same_member}
+use Rattle.actor_names.specs.Same.{same_member}
 use Rattle.part_core.specs.Part.{PartState, is_stopped, receipt_of}
 use Rattle.cluster_model.specs.Messages.{Answer, LockAt, UpdateTo, UnlockAt, Says, Message, Tells, told_event}
 use Rattle.cluster_model.specs.World as world

@@ -11,11 +11,11 @@ use Rattle.turn_core.specs.CellSound.{In}
 use Rattle.turn_core.proofs.Elements.{In-left}
 use Rattle.part_cells.specs.declared.actor_cell.ActorCell.{ActorCell}
 use Rattle.part_cells.specs.Cells.{cell_at}
-use Rattle.part_cells.specs.Keys.{same_key}
+use Rattle.actor_names.specs.Same.{same_key}
 use Rattle.part_cells.proofs.KeyOrders.{same_key-self, same_key-true}
 use Rattle.part_core.specs.declared.event.PartEvent.{PartEvent}
 use Rattle.part_core.specs.Activity.{Activity, no_activity, activity_of, after_mark, replay, AreTidy, AreAt, AreCalm, IsAsked, Replays}
-use Rattle.part_core.specs.Keys.{same_member}
+use Rattle.actor_names.specs.Same.{same_member}
 use Rattle.part_core.specs.Marks.{PartMark, TurnBegan, TurnEnded, BecameActive, BecameInactive, PartOpened}
 use Rattle.part_core.specs.Part.{PartState}
 use Rattle.part_core.specs.PartMoves.{Stepped}
@@ -29,6 +29,8 @@ use Rattle.cluster_model.specs.Invariant.{Gives, IsPartBacked, IsSafeAt}
 use Rattle.cluster_model.specs.History.{history, opened_at, opened_version_at, HadActive, WasGiven, AreGiven, DoVersionsRise}
 use Rattle.cluster_model.proofs.Basics.{same_member-true, same_member-self, one_owner, In-slice_get}
 use Rattle.cluster_model.proofs.Histories.{FitsHistory, get-set, get-set_same, history-append, history-mine, history-others, split_append, split_tagged, not_marked, after_at, last_seen, seen_active}
+use Rattle.cluster_model.specs.Spaces.{KeepsToSpace}
+use Rattle.cluster_model.proofs.SpaceParts.{AreSpacesApart}
 
 append_nil : {A : Type 0} (xs : List A) → xs ++ [] ≡ xs
 append_nil [] = refl
@@ -266,9 +268,9 @@ module _ (part_of : ActorKey → ℕ → ℕ) (n0 : ℕ) where
             ])
       ]
 
-      pub rise_step : (last : ℕ) (js : List Joined) (ks : List Known) (fixed : List HostInfo) (phase : RoundPhase) → IsSafeAt owner last js ks fixed phase changed ms boots →
+      pub rise_step : (keeps : KeepsToSpace owner) → AreSpacesApart owner keeps ms changed →
           AreGiven owner part_of n0 ms (marks ++ tagged p.member xs) → DoVersionsRise owner part_of n0 marks → DoVersionsRise owner part_of n0 (marks ++ tagged p.member xs)
-      rise_step last js ks fixed phase s given rise before after m n' k u v same had ne = elim (split_append marks (tagged p.member xs) before after _ same) [
+      rise_step keeps s given rise before after m n' k u v same had ne = elim (split_append marks (tagged p.member xs) before after _ same) [
         | inl f ↦ rise before f.0 m n' k u v f.1 had ne
         | inr f ↦ (
             let g = split_tagged p.member xs f.0 after (record { member = n'; what = BecameActive k v }) f.2 in
@@ -282,14 +284,15 @@ module _ (part_of : ActorKey → ℕ → ℕ) (n0 : ℕ) where
             let there = In-slice_get changed n q (get-set_same ps n q p at) in
             let me : q.member ≡ n' = st.member ∙ sym g.4 in
             let other : Gives owner w.0 k q.member → ⊥ = λ h. ne (one_owner m q.member (owner w.0 k) w.4 h ∙ me) in
+            let o = kept.owned c.0 c.1 c.3 in
+            let near : m.space ≡ q.member.space = sym (s.given m w.0 k w.1 w.4) ∙ ap (λ (z : ActorKey). z.space) (sym c.2) ∙ s.given q.member o.1.0 c.0.key o.1.1 o.1.3 in
             elim (cases_order u v) [
               | inl x ↦ (
-                  let o = kept.owned c.0 c.1 c.3 in
-                  let t = s.messages.one_table m q.member w.0 o.1.0 w.1 o.1.1 (w.3 ∙ x ∙ version ∙ sym o.1.2) in
+                  let t = s.one_table m q.member w.0 o.1.0 near w.1 o.1.1 (w.3 ∙ x ∙ version ∙ sym o.1.2) in
                   absurd (other (subst (λ (z : PlacementTable). Gives owner z k q.member) (sym t) (subst (λ (z : ActorKey). Gives owner o.1.0 z q.member) c.2 o.1.3))))
               | inr x ↦ elim x [
                 | inl y ↦ y
-                | inr y ↦ absurd (other (subst (λ (z : ActorKey). Gives owner w.0 z q.member) c.2 (s.unlocks.owned u q c.0 (m, w.2) there c.1 c.3 (subst (λ (z : ℕ). z < u) version y) m w.0 w.1 w.3)))
+                | inr y ↦ absurd (other (subst (λ (z : ActorKey). Gives owner w.0 z q.member) c.2 (s.owned u q c.0 m near w.2 there c.1 c.3 (subst (λ (z : ℕ). z < u) version y) w.0 w.1 w.3)))
               ]
             ])
       ]

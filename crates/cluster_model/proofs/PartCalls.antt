@@ -24,7 +24,7 @@ use Rattle.part_core.specs.declared.event.PartEvent.{PartEvent}
 use Rattle.part_core.specs.declared.event.PartEvent.TheVariants as events
 use Rattle.part_core.specs.declared.event.PartReply.{PartReply}
 use Rattle.part_core.specs.Activity.{IsAsked, Replays}
-use Rattle.part_core.specs.Keys.{same_member}
+use Rattle.actor_names.specs.Same.{same_member}
 use Rattle.part_core.specs.Marks.{PartMark, TurnBegan, TurnEnded, BecameInactive, PartOpened, marks_of_begin, marks_of_next, marks_of_ends, marks_of_inactive, marks_of_stop}
 use Rattle.part_core.specs.Part
 use Rattle.part_core.specs.Part.{PartState, PartStep, CellStep, asked_step, ask_cell, ask_owned, found_or_first, call_chain, is_full, is_spent, is_open, is_own, is_foreign, is_locked, is_updated, is_drained, each_cell, with_cell, part_step}

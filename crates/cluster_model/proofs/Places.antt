@@ -15,7 +15,7 @@ use Rattle.round_core.specs.declared.event.PlaceReply.{PlaceReply}
 use Rattle.round_core.specs.declared.phase.RoundPhase.{RoundPhase}
 use Rattle.round_core.specs.declared.phase.RoundPhase.TheVariants.{Quiet, Running}
 use Rattle.round_core.specs.Openings.{IsNewOrUsed}
-use Rattle.round_core.specs.Placement.{PlacementState, PlacementStep, Membership, Stays, Tells, last_version, same_stage, next_stage, advance_round, may_start, start_round, advance_fully, settle_round, stage_reply, phase_reply, reply_for, with_member, with_joined, is_full, join_node, is_in_stage, ack_change, remove_member, drop_late, conclude, placement_step, awoken, placement_restarted}
+use Rattle.round_core.specs.Room.{RoomState, RoomStep, Membership, Stays, Tells, last_version, same_stage, next_stage, advance_round, may_start, start_round, advance_fully, settle_round, stage_reply, phase_reply, reply_for, with_member, with_joined, is_full, join_node, is_in_stage, ack_change, remove_member, drop_late, conclude, room_step, awoken, room_restarted}
 use Rattle.round_core.specs.Runs.{HasMember}
 use Rattle.round_core.proofs.Durable.{hosts_map, hosts_with, ack_same, settle_keeps}
 use Rattle.round_core.proofs.Hosts.{here_same, put_member, without_member, heard_member}
@@ -39,7 +39,7 @@ same_stage-true stages.Unlock stages.Update e = absurd (false≢true e)
 same_stage-true stages.Unlock stages.Unlock e = refl
 
 -- the stage of the round to a member that is pending in it
-pub record IsOfRound (s : PlacementState) (m : Member) (r : PlaceReply) : Type 0 where
+pub record IsOfRound (s : RoomState) (m : Member) (r : PlaceReply) : Type 0 where
   pub stage : AckStage
   pub entry : Joined
   pub phase : s.phase ≡ Running stage
@@ -49,13 +49,13 @@ pub record IsOfRound (s : PlacementState) (m : Member) (r : PlaceReply) : Type 0
   pub reply : r ≡ stage_reply stage (last_version s)
 
 -- what a reply to a member says: nothing of a version, or the stage of the phase to one that is pending in it
-abbrev pub IsReplyOf : PlacementState → Member → PlaceReply → Type 0
-IsReplyOf s m r = (version_of (answer_of s.table r) ≡ None) ⊎ IsOfRound s m r
+abbrev pub IsReplyOf : RoomState → Member → PlaceReply → Type 0
+IsReplyOf s m r = ((space : List ℕ) → version_of (answer_of space s.table r) ≡ None) ⊎ IsOfRound s m r
 
 module _ (owner : PlacementTable → ActorKey → Option HostInfo) (ps : List PartState) (ms : List Message) (boots : ℕ) where
   -- ---- rounds go on, and start
 
-  next_safe : (s : PlacementState) (phase : RoundPhase) → s.phase ≡ phase → ((j : Joined) → In j s.members → j.pending ≡ false) → IsSafe owner s ps ms boots → IsSafe owner (next_stage s phase) ps ms boots
+  next_safe : (s : RoomState) (phase : RoundPhase) → s.phase ≡ phase → ((j : Joined) → In j s.members → j.pending ≡ false) → IsSafe owner s ps ms boots → IsSafe owner (next_stage s phase) ps ms boots
   next_safe s Quiet e none safe = safe
   next_safe s (Running stages.Lock) e none safe =
       regrouped owner (last_version s) s.members (map entered s.members) s.boots s.table _ s.phase (Running stages.Update) ps ms boots (hosts_map entered s.members (λ j. refl))
@@ -66,16 +66,16 @@ module _ (owner : PlacementTable → ActorKey → Option HostInfo) (ps : List Pa
   next_safe s (Running stages.Unlock) e none safe =
       record { parts = safe.parts; messages = safe.messages; booted = safe.booted; members = safe.members; round = tt; unlocks = safe.unlocks }
 
-  pub advance_safe : (s : PlacementState) → IsSafe owner s ps ms boots → IsSafe owner (advance_round s) ps ms boots
+  pub advance_safe : (s : RoomState) → IsSafe owner s ps ms boots → IsSafe owner (advance_round s) ps ms boots
   advance_safe s safe =
-      cond_both (any_pending s.members) _ _ (λ (t : PlacementState). IsSafe owner t ps ms boots) (λ _. safe) (λ f. next_safe s s.phase refl (none_pending s.members f) safe)
+      cond_both (any_pending s.members) _ _ (λ (t : RoomState). IsSafe owner t ps ms boots) (λ _. safe) (λ f. next_safe s s.phase refl (none_pending s.members f) safe)
 
   last_up : (n : ℕ) → 1 ≤ n → n + 1 - 1 ≡ suc (n - 1)
   last_up n h = omega arith
 
-  pub start_safe : (s : PlacementState) → 1 ≤ s.next_version → IsSafe owner s ps ms boots → IsSafe owner (start_round s) ps ms boots
+  pub start_safe : (s : RoomState) → 1 ≤ s.next_version → IsSafe owner s ps ms boots → IsSafe owner (start_round s) ps ms boots
   start_safe s used safe =
-      cond_both (may_start s) _ _ (λ (t : PlacementState). IsSafe owner t ps ms boots)
+      cond_both (may_start s) _ _ (λ (t : RoomState). IsSafe owner t ps ms boots)
       (λ _. subst (λ (l : ℕ). IsSafeAt owner l (map targeted s.members) s.boots s.table (Running stages.Lock) ps ms boots) (sym (last_up s.next_version used))
       (record {
         parts = safe.parts;
@@ -99,8 +99,8 @@ module _ (owner : PlacementTable → ActorKey → Option HostInfo) (ps : List Pa
       again : IsSafeAt owner (last_version s) (map targeted s.members) s.boots s.table Quiet ps ms boots
       again = regrouped owner (last_version s) s.members (map targeted s.members) s.boots s.table s.table s.phase Quiet ps ms boots same tt safe
 
-  advance_version : (s : PlacementState) → (advance_round s).next_version ≡ s.next_version
-  advance_version s = cond_both (any_pending s.members) _ _ (λ (t : PlacementState). t.next_version ≡ s.next_version) (λ _. refl) (λ _. go s.phase)
+  advance_version : (s : RoomState) → (advance_round s).next_version ≡ s.next_version
+  advance_version s = cond_both (any_pending s.members) _ _ (λ (t : RoomState). t.next_version ≡ s.next_version) (λ _. refl) (λ _. go s.phase)
     where
       go : (phase : RoundPhase) → (next_stage s phase).next_version ≡ s.next_version
       go Quiet = refl
@@ -108,10 +108,10 @@ module _ (owner : PlacementTable → ActorKey → Option HostInfo) (ps : List Pa
       go (Running stages.Update) = refl
       go (Running stages.Unlock) = refl
 
-  fully_safe : (s : PlacementState) → IsSafe owner s ps ms boots → IsSafe owner (advance_fully s) ps ms boots
+  fully_safe : (s : RoomState) → IsSafe owner s ps ms boots → IsSafe owner (advance_fully s) ps ms boots
   fully_safe s safe = advance_safe (advance_round (advance_round s)) (advance_safe (advance_round s) (advance_safe s safe))
 
-  pub settle_safe : (s : PlacementState) → 1 ≤ s.next_version → IsSafe owner s ps ms boots → IsSafe owner (settle_round s) ps ms boots
+  pub settle_safe : (s : RoomState) → 1 ≤ s.next_version → IsSafe owner s ps ms boots → IsSafe owner (settle_round s) ps ms boots
   settle_safe s used safe =
       let a = advance_version s in
       let b = advance_version (advance_round s) in
@@ -121,7 +121,7 @@ module _ (owner : PlacementTable → ActorKey → Option HostInfo) (ps : List Pa
   -- ---- changes of the members
 
   -- a member is heard, or acknowledges what it has reached
-  with_safe : (s : PlacementState) (m : Member) (f : Joined → Joined) → ((j : Joined) → (f j).host ≡ j.host) →
+  with_safe : (s : RoomState) (m : Member) (f : Joined → Joined) → ((j : Joined) → (f j).host ≡ j.host) →
       ((stage : AckStage) (j : Joined) → s.phase ≡ Running stage → j.host.member ≡ m → Follows owner (last_version s) ps stage j (f j)) →
       is_here s.members m ≡ true → IsSafe owner s ps ms boots → IsSafe owner (with_member s m f).state ps ms boots
   with_safe s m f same follows here safe =
@@ -137,10 +137,10 @@ module _ (owner : PlacementTable → ActorKey → Option HostInfo) (ps : List Pa
       one : (a b : Joined) → Some a ≡ Some b → a ≡ b
       one a b e = cc
 
-  heard_safe : (s : PlacementState) (m : Member) (now : ℕ) → is_here s.members m ≡ true → IsSafe owner s ps ms boots → IsSafe owner (with_member s m (heard_at now)).state ps ms boots
+  heard_safe : (s : RoomState) (m : Member) (now : ℕ) → is_here s.members m ≡ true → IsSafe owner s ps ms boots → IsSafe owner (with_member s m (heard_at now)).state ps ms boots
   heard_safe s m now here safe = with_safe s m (heard_at now) (λ j. refl) (λ stage j e q. record { host = refl; target = refl; pending = inl refl }) here safe
 
-  acked_safe : (s : PlacementState) (m : Member) (stage : AckStage) (v now : ℕ) → MemberReached owner ps m stage v → is_here s.members m ≡ true → IsSafe owner s ps ms boots →
+  acked_safe : (s : RoomState) (m : Member) (stage : AckStage) (v now : ℕ) → MemberReached owner ps m stage v → is_here s.members m ≡ true → IsSafe owner s ps ms boots →
       IsSafe owner (with_member s m (ack_change s stage v now)).state ps ms boots
   acked_safe s m stage v now reached here safe =
       with_safe s m (ack_change s stage v now) (ack_same now _)
@@ -153,7 +153,7 @@ module _ (owner : PlacementTable → ActorKey → Option HostInfo) (ps : List Pa
       (λ _. record { host = refl; target = refl; pending = inl refl }))
       here safe
 
-  without_safe : (s : PlacementState) (m : Member) → is_here s.members m ≡ true → AllStopped ps m → IsSafe owner s ps ms boots →
+  without_safe : (s : RoomState) (m : Member) → is_here s.members m ≡ true → AllStopped ps m → IsSafe owner s ps ms boots →
       IsSafe owner (record s { members = without_node s.members m.node; dirty = true }) ps ms boots
   without_safe s m here stopped safe =
       let k = here_entry s.members m here in
@@ -169,7 +169,7 @@ module _ (owner : PlacementTable → ActorKey → Option HostInfo) (ps : List Pa
       one : (a b : Joined) → Some a ≡ Some b → a ≡ b
       one a b e = cc
 
-  late_safe : (s : PlacementState) (now : ℕ) → ((m : Member) → In m (late_of s.members now) → AllStopped ps m) → IsSafe owner s ps ms boots → IsSafe owner (drop_late s now).state ps ms boots
+  late_safe : (s : RoomState) (now : ℕ) → ((m : Member) → In m (late_of s.members now) → AllStopped ps m) → IsSafe owner s ps ms boots → IsSafe owner (drop_late s now).state ps ms boots
   late_safe s now stopped safe =
       removed_safe owner (last_version s) s.members (heard_of s.members now) s.boots s.table s.phase ps ms boots
       (In-heard_of s.members now) (heard_member s.members now)
@@ -180,7 +180,7 @@ module _ (owner : PlacementTable → ActorKey → Option HostInfo) (ps : List Pa
         | inr j ↦ inl (subst (HasMember (hosts_of (heard_of s.members now))) (sym h.2) (has_entry (heard_of s.members now) h.0 j))
       ]) safe
 
-  host_safe : (s : PlacementState) (host : HostInfo) (now : ℕ) → greatest_boot s.boots host.member.node < host.member.boot → host.member.boot ≤ boots → IsSafe owner s ps ms boots →
+  host_safe : (s : RoomState) (host : HostInfo) (now : ℕ) → greatest_boot s.boots host.member.node < host.member.boot → host.member.boot ≤ boots → IsSafe owner s ps ms boots →
       IsSafe owner (with_joined s host now) ps ms boots
   host_safe s host now higher booted safe =
       let x = new_joined host now in
@@ -193,87 +193,87 @@ module _ (owner : PlacementTable → ActorKey → Option HostInfo) (ps : List Pa
   -- ---- the step
 
   -- a step that is safe, and whose reply is of its state
-  pub record IsStepSafe (m : Member) (t : PlacementStep) : Type 0 where
+  pub record IsStepSafe (m : Member) (t : RoomStep) : Type 0 where
     pub safe : IsSafe owner t.state ps ms boots
     pub reply : IsReplyOf t.state m t.reply
 
-  told_reply : (s : PlacementState) (m : Member) → is_here s.members m ≡ true → IsReplyOf s m (reply_for s m)
+  told_reply : (s : RoomState) (m : Member) → is_here s.members m ≡ true → IsReplyOf s m (reply_for s m)
   told_reply s m here =
       let k = here_entry s.members m here in
       cond_both (is_pending s.members m) _ _ (IsReplyOf s m)
       (λ t. go (ap is_pending_in (sym k.1) ∙ t) s.phase refl)
-      (λ _. inl refl)
+      (λ _. inl (λ space. refl))
     where
       go : ((here_entry s.members m here).0.pending ≡ true) → (phase : RoundPhase) → s.phase ≡ phase → IsReplyOf s m (phase_reply phase (last_version s))
-      go l Quiet e = inl refl
+      go l Quiet e = inl (λ space. refl)
       go l (Running stage) e =
           let k = here_entry s.members m here in
           inr (record { stage = stage; entry = k.0; phase = e; here = k.2; member = k.3; pending = l; reply = refl })
 
-  tells_safe : (s : PlacementState) (m : Member) → 1 ≤ s.next_version → is_here s.members m ≡ true → IsSafe owner s ps ms boots → IsStepSafe m (conclude s (Tells m))
+  tells_safe : (s : RoomState) (m : Member) → 1 ≤ s.next_version → is_here s.members m ≡ true → IsSafe owner s ps ms boots → IsStepSafe m (conclude s (Tells m))
   tells_safe s m used here safe =
       record {
         safe = settle_safe s used safe;
         reply = told_reply (settle_round s) m (here_same (settle_round s).members s.members m (settle_keeps s).hosts ∙ here);
       }
 
-  stays_safe : (s : PlacementState) (m : Member) (r : PlaceReply) → version_of (answer_of s.table r) ≡ None → IsSafe owner s ps ms boots → IsStepSafe m (conclude s (Stays r))
+  stays_safe : (s : RoomState) (m : Member) (r : PlaceReply) → ((space : List ℕ) → version_of (answer_of space s.table r) ≡ None) → IsSafe owner s ps ms boots → IsStepSafe m (conclude s (Stays r))
   stays_safe s m r e safe = record { safe = safe; reply = inl e }
 
   abbrev Goes : Member → Membership → Type 0
   Goes m t = IsStepSafe m (conclude t.state t.conclusion)
 
-  node_safe : (s : PlacementState) (host : HostInfo) (now : ℕ) → 1 ≤ s.next_version → greatest_boot s.boots host.member.node < host.member.boot → host.member.boot ≤ boots → IsSafe owner s ps ms boots →
+  node_safe : (s : RoomState) (host : HostInfo) (now : ℕ) → 1 ≤ s.next_version → greatest_boot s.boots host.member.node < host.member.boot → host.member.boot ≤ boots → IsSafe owner s ps ms boots →
       (o : Option Joined) → of_node s.members host.member.node ≡ o → Goes host.member (join_node s host now o)
-  node_safe s host now used higher booted safe (Some j) e = stays_safe s host.member _ refl safe
+  node_safe s host now used higher booted safe (Some j) e = stays_safe s host.member _ (λ space. refl) safe
   node_safe s host now used higher booted safe None e =
       cond_both (is_full s host.member.node) _ _ (Goes host.member)
-      (λ _. stays_safe s host.member _ refl safe)
+      (λ _. stays_safe s host.member _ (λ space. refl) safe)
       (λ _. tells_safe (with_joined s host now) host.member used (put_here s.members (new_joined host now) e) (host_safe s host now higher booted safe))
 
-  pub register_safe : (s : PlacementState) (host : HostInfo) (now : ℕ) → 1 ≤ s.next_version → host.member.boot ≤ boots → IsSafe owner s ps ms boots → IsStepSafe host.member (placement_step s (events.Register host) now)
+  pub register_safe : (s : RoomState) (host : HostInfo) (now : ℕ) → 1 ≤ s.next_version → host.member.boot ≤ boots → IsSafe owner s ps ms boots → IsStepSafe host.member (room_step s (events.Register host) now)
   register_safe s host now used booted safe =
       cond_both (is_here s.members host.member) _ _ (Goes host.member)
       (λ h. tells_safe (with_member s host.member (heard_at now)).state host.member used (here_with s host.member (heard_at now) (λ j. refl) h) (heard_safe s host.member now h safe))
       (λ _. cond_both (nat_le host.member.boot (greatest_boot s.boots host.member.node)) _ _ (Goes host.member)
-      (λ _. stays_safe s host.member _ refl safe)
+      (λ _. stays_safe s host.member _ (λ space. refl) safe)
       (λ f. node_safe s host now used (leb-false _ _ f) booted safe (of_node s.members host.member.node) refl))
     where
-      here_with : (s : PlacementState) (m : Member) (f : Joined → Joined) → ((j : Joined) → (f j).host ≡ j.host) → is_here s.members m ≡ true → is_here (with_node s.members m.node f) m ≡ true
+      here_with : (s : RoomState) (m : Member) (f : Joined → Joined) → ((j : Joined) → (f j).host ≡ j.host) → is_here s.members m ≡ true → is_here (with_node s.members m.node f) m ≡ true
       here_with s m f same h = here_same (with_node s.members m.node f) s.members m (hosts_with s.members m.node f same) ∙ h
 
-  pub beat_safe : (s : PlacementState) (m : Member) (now : ℕ) → 1 ≤ s.next_version → IsSafe owner s ps ms boots → IsStepSafe m (placement_step s (events.Beat m) now)
+  pub beat_safe : (s : RoomState) (m : Member) (now : ℕ) → 1 ≤ s.next_version → IsSafe owner s ps ms boots → IsStepSafe m (room_step s (events.Beat m) now)
   beat_safe s m now used safe =
       cond_both (is_here s.members m) _ _ (Goes m)
       (λ h. tells_safe (with_member s m (heard_at now)).state m used (here_same (with_node s.members m.node (heard_at now)) s.members m (hosts_with s.members m.node (heard_at now) (λ j. refl)) ∙ h) (heard_safe s m now h safe))
-      (λ _. stays_safe s m _ refl safe)
+      (λ _. stays_safe s m _ (λ space. refl) safe)
 
-  pub ack_safe : (s : PlacementState) (m : Member) (stage : AckStage) (v now : ℕ) → 1 ≤ s.next_version → MemberReached owner ps m stage v → IsSafe owner s ps ms boots → IsStepSafe m (placement_step s (events.Ack m stage v) now)
+  pub ack_safe : (s : RoomState) (m : Member) (stage : AckStage) (v now : ℕ) → 1 ≤ s.next_version → MemberReached owner ps m stage v → IsSafe owner s ps ms boots → IsStepSafe m (room_step s (events.Ack m stage v) now)
   ack_safe s m stage v now used reached safe =
       cond_both (is_here s.members m) _ _ (Goes m)
       (λ h. tells_safe (with_member s m (ack_change s stage v now)).state m used (here_same (with_node s.members m.node (ack_change s stage v now)) s.members m (hosts_with s.members m.node (ack_change s stage v now) (ack_same now _)) ∙ h) (acked_safe s m stage v now reached h safe))
-      (λ _. stays_safe s m _ refl safe)
+      (λ _. stays_safe s m _ (λ space. refl) safe)
 
-  gone_safe : (s : PlacementState) (m : Member) → 1 ≤ s.next_version → AllStopped ps m → IsSafe owner s ps ms boots → Goes m (remove_member s m)
+  gone_safe : (s : RoomState) (m : Member) → 1 ≤ s.next_version → AllStopped ps m → IsSafe owner s ps ms boots → Goes m (remove_member s m)
   gone_safe s m used stopped safe =
       cond_both (is_here s.members m) _ _ (Goes m)
-      (λ h. record { safe = settle_safe (record s { members = without_node s.members m.node; dirty = true }) used (without_safe s m h stopped safe); reply = inl refl })
-      (λ _. stays_safe s m _ refl safe)
+      (λ h. record { safe = settle_safe (record s { members = without_node s.members m.node; dirty = true }) used (without_safe s m h stopped safe); reply = inl (λ space. refl) })
+      (λ _. stays_safe s m _ (λ space. refl) safe)
 
-  pub leave_safe : (s : PlacementState) (m : Member) (now : ℕ) → 1 ≤ s.next_version → AllStopped ps m → IsSafe owner s ps ms boots → IsStepSafe m (placement_step s (events.Leave m) now)
+  pub leave_safe : (s : RoomState) (m : Member) (now : ℕ) → 1 ≤ s.next_version → AllStopped ps m → IsSafe owner s ps ms boots → IsStepSafe m (room_step s (events.Leave m) now)
   leave_safe s m now used stopped safe = gone_safe s m used stopped safe
 
-  pub lost_safe : (s : PlacementState) (m : Member) (now : ℕ) → 1 ≤ s.next_version → AllStopped ps m → IsSafe owner s ps ms boots → IsSafe owner (placement_step s (events.Lost m) now).state ps ms boots
+  pub lost_safe : (s : RoomState) (m : Member) (now : ℕ) → 1 ≤ s.next_version → AllStopped ps m → IsSafe owner s ps ms boots → IsSafe owner (room_step s (events.Lost m) now).state ps ms boots
   lost_safe s m now used stopped safe = let t = gone_safe s m used stopped safe in t.safe
 
-  pub tick_safe : (s : PlacementState) (now : ℕ) → 1 ≤ s.next_version → ((m : Member) → In m (late_of s.members now) → AllStopped ps m) → IsSafe owner s ps ms boots → IsSafe owner (placement_step s events.Tick now).state ps ms boots
+  pub tick_safe : (s : RoomState) (now : ℕ) → 1 ≤ s.next_version → ((m : Member) → In m (late_of s.members now) → AllStopped ps m) → IsSafe owner s ps ms boots → IsSafe owner (room_step s events.Tick now).state ps ms boots
   tick_safe s now used stopped safe = settle_safe (drop_late s now).state used (late_safe s now stopped safe)
 
   -- ---- the restart
 
-  pub restart_safe : (s : PlacementState) (now : ℕ) → IsNewOrUsed s → IsSafe owner s ps ms boots → IsSafe owner (placement_restarted s now) ps ms boots
+  pub restart_safe : (s : RoomState) (now : ℕ) → IsNewOrUsed s → IsSafe owner s ps ms boots → IsSafe owner (room_restarted s now) ps ms boots
   restart_safe s now kept safe =
-      cond_both (s.next_version == 1) _ _ (λ (t : PlacementState). IsSafe owner t ps ms boots)
-      (λ e. subst (λ (t : PlacementState). IsSafe owner t ps ms boots) (kept.unused (eqb-true s.next_version 1 e)) safe)
+      cond_both (s.next_version == 1) _ _ (λ (t : RoomState). IsSafe owner t ps ms boots)
+      (λ e. subst (λ (t : RoomState). IsSafe owner t ps ms boots) (kept.unused (eqb-true s.next_version 1 e)) safe)
       (λ _. settle_safe (awoken s now) kept.used
       (regrouped owner (last_version s) s.members (map (restarted_at now) s.members) s.boots s.table [] s.phase Quiet ps ms boots (hosts_map (restarted_at now) s.members (λ j. refl)) tt safe))

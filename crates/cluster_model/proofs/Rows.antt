@@ -3,6 +3,7 @@
 use Rattle.std.specs.Prelude.{◌≡◌, ℕ, true, false, List, [], ◌∷◌, ◌++◌, Option, None, Some, Result, Ok, Err, codes}
 use Rattle.std.specs.Fmt.{digits}
 use Rattle.std.proofs.Common.{refl}
+use Rattle.actor_names.specs.Names.{default_space}
 use Rattle.actor_names.specs.declared.member.Member.{Member}
 use Rattle.actor_names.specs.declared.actor_key.ActorKey.{ActorKey}
 use Rattle.place_table.specs.declared.host.HostInfo.{HostInfo}
@@ -40,7 +41,7 @@ abbrev d : List ℕ
 d = 100 ∷ []
 
 abbrev member_of : List ℕ → ℕ → Member
-member_of n i = record { node = n; boot = i }
+member_of n i = record { space = default_space; node = n; boot = i }
 
 abbrev a/1 : Member
 a/1 = member_of a 1
@@ -49,7 +50,7 @@ abbrev b/2 : Member
 b/2 = member_of b 2
 
 abbrev key : ActorKey
-key = record { kind = counter; id = 55 ∷ [] }
+key = record { space = default_space; kind = counter; id = 55 ∷ [] }
 
 abbrev last_host : List HostInfo → Option HostInfo
 last_host [] = None
@@ -79,7 +80,7 @@ after es = cluster_run owner part_of (opening_cluster settings) es
 abbrev opening : List WorldEvent
 opening = To 1 ∷ Part 2 0 ∷ Collect a/1 ∷ To 3 ∷ Part 4 0 ∷ Collect a/1 ∷ To 5 ∷ Part 6 0 ∷ Collect a/1 ∷ To 7 ∷ []
 
-one_member_goes_through_handshake : outcomes owner part_of (opening_cluster settings) (Boot a (counter ∷ []) ∷ Call 1 a/1 key 0 None ∷ opening)
+one_member_goes_through_handshake : outcomes owner part_of (opening_cluster settings) (Boot default_space a (counter ∷ []) ∷ Call 1 a/1 key 0 None ∷ opening)
     ≡ done (Booted a/1 1 ∷ Turn (turn.Waits 1 1)
     ∷ Answered 2 (place.Lock 1) ∷ Locked 1 ∷ AckAdded 3 stages.Lock 1
     ∷ Answered 4 (place.Update 1) ∷ Updated 1 true ∷ AckAdded 5 stages.Update 1
@@ -87,11 +88,11 @@ one_member_goes_through_handshake : outcomes owner part_of (opening_cluster sett
 one_member_goes_through_handshake = refl
 
 abbrev opened : ClusterState
-opened = after (Boot a (counter ∷ []) ∷ opening)
+opened = after (Boot default_space a (counter ∷ []) ∷ opening)
 
 abbrev moving : List WorldEvent
 moving =
-    Call 1 a/1 key 0 None ∷ Boot b (counter ∷ []) ∷ To 9 ∷ Part 10 0 ∷ Collect b/2 ∷ To 11 ∷ Beat a/1 ∷ To 13 ∷ Part 14 0
+    Call 1 a/1 key 0 None ∷ Boot default_space b (counter ∷ []) ∷ To 9 ∷ Part 10 0 ∷ Collect b/2 ∷ To 11 ∷ Beat a/1 ∷ To 13 ∷ Part 14 0
     ∷ Collect a/1 ∷ To 15 ∷ Part 16 0 ∷ []
 
 actor_moves_after_drain : outcomes owner part_of opened (moving ++ (Collect a/1 ∷ To 17 ∷ End 1 ∷ Closing a/1 0
@@ -108,15 +109,15 @@ tick_ends_turn_after_drain_time : outcomes owner part_of (cluster_run owner part
 tick_ends_turn_after_drain_time = refl
 
 restart_starts_next_round : outcomes owner part_of opened (Restart ∷ Beat a/1 ∷ To 9 ∷ Part 10 0 ∷ Part 6 0 ∷ [])
-    ≡ done (Restarted 2 ∷ BeatAdded 9 ∷ Answered 10 (place.Lock 2) ∷ Locked 2 ∷ Ignored ∷ [])
+    ≡ done (Restarted (2 ∷ []) ∷ BeatAdded 9 ∷ Answered 10 (place.Lock 2) ∷ Locked 2 ∷ Ignored ∷ [])
 restart_starts_next_round = refl
 
-late_ack_only_beats : outcomes owner part_of (after (Boot a (counter ∷ []) ∷ Call 1 a/1 key 0 None ∷ To 1 ∷ Part 2 0 ∷ Collect a/1 ∷ To 3 ∷ Part 4 0 ∷ Collect a/1 ∷ []))
-    (Restart ∷ To 5 ∷ Part 6 0 ∷ []) ≡ done (Restarted 2 ∷ Answered 6 (place.Lock 2) ∷ Locked 2 ∷ [])
+late_ack_only_beats : outcomes owner part_of (after (Boot default_space a (counter ∷ []) ∷ Call 1 a/1 key 0 None ∷ To 1 ∷ Part 2 0 ∷ Collect a/1 ∷ To 3 ∷ Part 4 0 ∷ Collect a/1 ∷ []))
+    (Restart ∷ To 5 ∷ Part 6 0 ∷ []) ≡ done (Restarted (2 ∷ []) ∷ Answered 6 (place.Lock 2) ∷ Locked 2 ∷ [])
 late_ack_only_beats = refl
 
 stopped_member_boots_again : outcomes owner part_of opened
-    (Stop a/1 0 ∷ Lost a/1 ∷ To 1 ∷ Boot a (counter ∷ []) ∷ To 10 ∷ Boot a (counter ∷ []) ∷ To 12 ∷ To 1 ∷ [])
+    (Stop a/1 0 ∷ Lost a/1 ∷ To 1 ∷ Boot default_space a (counter ∷ []) ∷ To 10 ∷ Boot default_space a (counter ∷ []) ∷ To 12 ∷ To 1 ∷ [])
     ≡ done (Stopped ∷ out.Lost a/1 ∷ Answered 9 (place.StaleBoot 1) ∷ Booted (member_of a 2) 10 ∷ Answered 11 (place.Lock 3)
     ∷ Booted (member_of a 3) 12 ∷ Answered 13 (place.NodeBusy 2) ∷ Answered 14 (place.StaleBoot 2) ∷ [])
 stopped_member_boots_again = refl
@@ -156,7 +157,7 @@ abbrev reentrant : WorldSettings
 reentrant = record { parts = 1; kinds = record { kind = counter; idle_ms = 3600000; drain_ms = 60000; depth = 2 } ∷ []; idle_ms = 3600000; drain_ms = 60000 }
 
 abbrev reentrant_opened : ClusterState
-reentrant_opened = cluster_run owner part_of (opening_cluster reentrant) (Boot a (counter ∷ []) ∷ opening)
+reentrant_opened = cluster_run owner part_of (opening_cluster reentrant) (Boot default_space a (counter ∷ []) ∷ opening)
 
 chain_is_that_of_its_line : (cluster_run owner part_of reentrant_opened (Call 1 a/1 key 0 (Some c) ∷ Call 2 a/1 key 0 None ∷ End 1 ∷ [])).marks
     ≡ record { member = a/1; what = PartOpened 0 1 } ∷ record { member = a/1; what = BecameActive key 1 } ∷ record { member = a/1; what = TurnBegan key 1 (Some c) }

@@ -29,7 +29,8 @@ use Rattle.cluster_model.specs.World.{ClusterState, TraceMark, new_parts, tagged
 use Rattle.cluster_model.specs.Invariant.{IsHeard}
 use Rattle.cluster_model.specs.History.{history, IsNeverTwice, IsOneChain, opened_version_at, AreGiven, DoVersionsRise}
 use Rattle.cluster_model.proofs.Basics.{In-append, In-set, In-slice_get}
-use Rattle.cluster_model.proofs.PartKeeps.{active_once}
+use Rattle.cluster_model.specs.Spaces.{KeepsToSpace}
+use Rattle.cluster_model.proofs.SpaceParts.{backed, spaces_apart, world_once}
 use Rattle.cluster_model.proofs.Boots.{In-new_parts}
 use Rattle.cluster_model.proofs.Histories.{FitsHistory, get-set_same, fits_step, never_step, chain_step}
 use Rattle.cluster_model.proofs.Openings.{FitsOpenings, openings_step, given_step, rise_step}
@@ -92,27 +93,28 @@ module _ (owner : PlacementTable → ActorKey → Option HostInfo) (part_of : Ac
     ],
   )
 
-  with_step_told : (w : ClusterState) (n : ℕ) (p : PartState) (e : PartEvent) → IsSafeWorld owner w → IsTold w → slice_get w.parts n ≡ Some p → IsHeard w.messages p.member e →
+  with_step_told : KeepsToSpace owner → (w : ClusterState) (n : ℕ) (p : PartState) (e : PartEvent) → IsSafeWorld owner w → IsTold w → slice_get w.parts n ≡ Some p → IsHeard w.messages p.member e →
       ((k : ActorKey) → IsAsked e k → part_of k w.settings.parts ≡ p.number) →
       IsToldAt w.settings (set w.parts n (part_step owner p e).part) (w.marks ++ tagged p.member (part_step owner p e).marks) w.messages
-  with_step_told w n p e s t at heard asked =
+  with_step_told keeps w n p e s t at heard asked =
       let q : PartState = (part_step owner p e).part in
       let i = In-slice_get w.parts n p at in
-      let sound = (s.safe.parts p i).sound in
+      let sound = (backed owner w s p i).sound in
       let st = part_stepped owner p e sound in
       let r = part_replays owner p e sound in
-      let safe = (step_safe owner part_of w n p e s at heard).safe in
-      let once = active_once owner _ _ _ _ _ (set w.parts n q) w.messages w.boots safe in
+      let next = world.with_step owner part_of w n p (part_step owner p e) in
+      let safe = step_safe owner part_of w n p e s at heard in
+      let once = world_once owner keeps next safe in
       let deep = deep_step w.settings e p q _ st r (t.deep p i) in
-      let kept = safe.parts q (In-slice_get (set w.parts n q) n q (get-set_same w.parts n q p at)) in
-      let given = given_step part_of w.settings.parts owner w.messages w.parts w.marks t.fits t.openings n p q at e _ asked st r w.boots (s.safe.parts p i) kept t.given in
+      let kept = backed owner next safe q (In-slice_get (set w.parts n q) n q (get-set_same w.parts n q p at)) in
+      let given = given_step part_of w.settings.parts owner w.messages w.parts w.marks t.fits t.openings n p q at e _ asked st r w.boots (backed owner w s p i) kept t.given in
       record {
         fits = fits_step part_of w.settings.parts owner w.parts w.marks t.fits n p q at e _ asked st r;
         never = never_step part_of w.settings.parts owner w.parts w.marks t.fits n p q at e _ asked st r t.never once;
-        chain = chain_step part_of w.settings.parts owner w.parts w.marks t.fits n p q at e _ asked st r (world.depth_in w.settings) deep.1 t.chain once (λ x j c k. (s.safe.parts x j).sound.each_sound c k);
+        chain = chain_step part_of w.settings.parts owner w.parts w.marks t.fits n p q at e _ asked st r (world.depth_in w.settings) deep.1 t.chain once (λ x j c k. (backed owner w s x j).sound.each_sound c k);
         openings = openings_step part_of w.settings.parts owner w.messages w.parts w.marks t.fits t.openings n p q at e _ asked st r;
         given = given;
-        rise = rise_step part_of w.settings.parts owner w.messages w.parts w.marks t.fits t.openings n p q at e _ asked st r w.boots (s.safe.parts p i) kept _ _ _ _ _ safe given t.rise;
+        rise = rise_step part_of w.settings.parts owner w.messages w.parts w.marks t.fits t.openings n p q at e _ asked st r w.boots (backed owner w s p i) kept keeps (spaces_apart owner keeps next safe) given t.rise;
         deep = λ x j. elim (In-set w.parts n q x j) [ inl z ↦ subst (IsDeep w.settings) (sym z) deep | inr l ↦ t.deep x l ];
       }
 
@@ -137,7 +139,7 @@ module _ (owner : PlacementTable → ActorKey → Option HostInfo) (part_of : Ac
   boot_told : (w : ClusterState) (m : Member) (kinds : List TypeSettings) (n : ℕ) → ((kind : List ℕ) → (settings_of kinds kind).depth ≤ world.depth_in w.settings kind) → m.boot ≡ suc w.boots → IsSafeWorld owner w → IsTold w → IsToldAt w.settings (w.parts ++ new_parts m kinds 0 n) w.marks w.messages
   boot_told w m kinds n deep fresh s t =
       let other : (i : ℕ) (p : PartState) → slice_get w.parts i ≡ Some p → p.member ≡ m → ⊥ = λ i p g a.
-      (let b = (s.safe.parts p (In-slice_get w.parts i p g)).booted in let c : p.member.boot ≡ suc w.boots = ap (λ (z : Member). z.boot) a ∙ fresh in absurd (omega arith)) in
+      (let b = (backed owner w s p (In-slice_get w.parts i p g)).booted in let c : p.member.boot ≡ suc w.boots = ap (λ (z : Member). z.boot) a ∙ fresh in absurd (omega arith)) in
       let new : (j : ℕ) (x : PartState) → slice_get (new_parts m kinds 0 n) j ≡ Some x → (x ≡ new_part m j kinds) = λ j x g.
       (let a = get-new_parts m kinds 0 n j x g in let b : 0 + j ≡ j = omega arith in subst (λ (z : ℕ). x ≡ new_part m z kinds) b a) in
       record {
@@ -192,12 +194,12 @@ module _ (owner : PlacementTable → ActorKey → Option HostInfo) (part_of : Ac
     pub safe : IsSafeWorld owner w
     pub told : IsTold w
 
-  pub told_kept : AreKept owner part_of IsToldWorld
-  told_kept =
+  pub told_kept : KeepsToSpace owner → AreKept owner part_of IsToldWorld
+  told_kept keeps =
       record {
         safe = λ w t. t.safe;
         other = λ w now calls events t. record { safe = (safe_kept owner part_of).other w now calls events t.safe; told = t.told };
-        step = λ w n p e t at heard asked. record { safe = step_safe owner part_of w n p e t.safe at heard; told = with_step_told w n p e t.safe t.told at heard asked };
+        step = λ w n p e t at heard asked. record { safe = step_safe owner part_of w n p e t.safe at heard; told = with_step_told keeps w n p e t.safe t.told at heard asked };
         ask = λ w r t may booted. record { safe = (safe_kept owner part_of).ask w r t.safe may booted; told = grown w.settings w.parts w.marks w.messages _ t.told };
         answer = λ w r t i. record { safe = (safe_kept owner part_of).answer w r t.safe i; told = grown w.settings w.parts w.marks w.messages _ t.told };
         change = λ w e t h. record { safe = (safe_kept owner part_of).change w e t.safe h; told = t.told };
@@ -234,5 +236,5 @@ module _ (owner : PlacementTable → ActorKey → Option HostInfo) (part_of : Ac
         deep = λ p i. absurd i;
       }
 
-  pub run_told : (settings : WorldSettings) (es : List WorldEvent) → IsToldWorld (world.cluster_run owner part_of (world.opening_cluster settings) es)
-  run_told settings es = run_kept owner part_of IsToldWorld told_kept (world.opening_cluster settings) es (record { safe = new_world_safe owner part_of settings; told = new_world_told settings })
+  pub run_told : KeepsToSpace owner → (settings : WorldSettings) (es : List WorldEvent) → IsToldWorld (world.cluster_run owner part_of (world.opening_cluster settings) es)
+  run_told keeps settings es = run_kept owner part_of IsToldWorld (told_kept keeps) (world.opening_cluster settings) es (record { safe = new_world_safe owner part_of settings; told = new_world_told settings })

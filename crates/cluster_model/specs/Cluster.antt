@@ -16,69 +16,73 @@ use Rattle.part_core.specs.declared.stage.Stage.TheVariants.{Stopped}
 use Rattle.part_core.specs.Part.{PartState}
 use Rattle.part_core.specs.Sound.{NoIdleWaiter}
 use Rattle.round_core.specs.declared.phase.RoundPhase.TheVariants.{Running}
-use Rattle.round_core.specs.Placement.{new_placement, last_version}
-use Rattle.round_core.specs.Runs.{HasMember}
+use Rattle.round_core.specs.Room.{new_room, last_version}
+use Rattle.round_core.specs.Runs.{HasMember, ForgetsNothing}
+use Rattle.placement_core.specs.Placement.{PlacementState, room_of}
 use Rattle.member_roster.specs.Members.{Joined, greatest_boot, hosts_of}
 use Rattle.member_core.specs.Progress.{MemberReached}
-use Rattle.cluster_model.specs.Messages.{Register, Ack, Leave, LockAt, UpdateTo, UnlockAt, Message, Asks, Tells, table_of, asker_of}
+use Rattle.cluster_model.specs.Messages.{Register, Ack, Leave, LockAt, UpdateTo, UnlockAt, Message, Asks, Tells, table_of, named_in}
 use Rattle.cluster_model.specs.World.{ClusterState, TraceMark, depth_in}
+use Rattle.cluster_model.specs.Spaces.{SpaceState, seen_in}
 use Rattle.cluster_model.specs.Invariant.{IsBooted, WasTold, IsUnlocked, AllStopped, Gives, IsOwnedAtOpening}
 use Rattle.cluster_model.specs.History.{history, AreGiven, DoVersionsRise}
 
-abbrev pub IsMember : ClusterState → Member → Type 0
-IsMember w m = HasMember (hosts_of w.placement.members) m
+-- ---- what one space sees of the cluster: its room, the parts of its members, and the messages that name them
+
+abbrev pub IsMember : SpaceState → Member → Type 0
+IsMember s m = HasMember (hosts_of s.room.members) m
 
 -- the version of the running round, or the last one used
-abbrev pub last_of : ClusterState → ℕ
-last_of w = last_version w.placement
+abbrev pub last_of : SpaceState → ℕ
+last_of s = last_version s.room
 
 -- Every version is below the next one, and each version that a part has now came by a message. A round's version is
 -- the next one less one; those pending are targets, and who was told its version and is a member is one. So each message of
 -- its version went to one of its targets, but for members that have gone since, whose parts have all stopped.
-pub record VersionsBelowNext (w : ClusterState) : Type 0 where
-  pub messages : (m : Member) (v : ℕ) → WasTold w.messages m v → v < w.placement.next_version
-  pub seen : (p : PartState) → In p w.parts → p.seen < w.placement.next_version
-  pub opened : (p : PartState) → In p w.parts → p.opened < w.placement.next_version
-  pub installed : (p : PartState) → In p w.parts → p.table.version < w.placement.next_version
-  pub round : (stage : AckStage) → w.placement.phase ≡ Running stage → 0 < last_of w
-  pub pending : (stage : AckStage) (j : Joined) → w.placement.phase ≡ Running stage → In j w.placement.members → j.pending ≡ true → j.target ≡ true
-  pub told : (stage : AckStage) (j : Joined) → w.placement.phase ≡ Running stage → In j w.placement.members → WasTold w.messages j.host.member (last_of w) → j.target ≡ true
-  pub sent : (stage : AckStage) (m : Member) → w.placement.phase ≡ Running stage → WasTold w.messages m (last_of w) →
-      ((j : Joined) × In j w.placement.members × (m ≡ j.host.member) × (j.target ≡ true)) ⊎ AllStopped w.parts m
-  pub lock_came : (p : PartState) → In p w.parts → 0 < p.seen → In (Tells p.member (LockAt p.seen)) w.messages
-  pub update_came : (p : PartState) → In p w.parts → 0 < p.table.version → In (Tells p.member (UpdateTo p.table)) w.messages
-  pub unlock_came : (p : PartState) → In p w.parts → 0 < p.opened → In (Tells p.member (UnlockAt p.opened)) w.messages
+pub record VersionsBelowNext (s : SpaceState) : Type 0 where
+  pub messages : (m : Member) (v : ℕ) → WasTold s.messages m v → v < s.room.next_version
+  pub seen : (p : PartState) → In p s.parts → p.seen < s.room.next_version
+  pub opened : (p : PartState) → In p s.parts → p.opened < s.room.next_version
+  pub installed : (p : PartState) → In p s.parts → p.table.version < s.room.next_version
+  pub round : (stage : AckStage) → s.room.phase ≡ Running stage → 0 < last_of s
+  pub pending : (stage : AckStage) (j : Joined) → s.room.phase ≡ Running stage → In j s.room.members → j.pending ≡ true → j.target ≡ true
+  pub told : (stage : AckStage) (j : Joined) → s.room.phase ≡ Running stage → In j s.room.members → WasTold s.messages j.host.member (last_of s) → j.target ≡ true
+  pub sent : (stage : AckStage) (m : Member) → s.room.phase ≡ Running stage → WasTold s.messages m (last_of s) →
+      ((j : Joined) × In j s.room.members × (m ≡ j.host.member) × (j.target ≡ true)) ⊎ AllStopped s.parts m
+  pub lock_came : (p : PartState) → In p s.parts → 0 < p.seen → In (Tells p.member (LockAt p.seen)) s.messages
+  pub update_came : (p : PartState) → In p s.parts → 0 < p.table.version → In (Tells p.member (UpdateTo p.table)) s.messages
+  pub unlock_came : (p : PartState) → In p s.parts → 0 < p.opened → In (Tells p.member (UnlockAt p.opened)) s.messages
 
 -- The Update messages of a version carry one table, which is that of each part that installed the version, and of the
 -- round from its second stage on.
-pub record OneTablePerVersion (w : ClusterState) : Type 0 where
-  pub messages : (m n : Member) (t u : PlacementTable) → In (Tells m (UpdateTo t)) w.messages → In (Tells n (UpdateTo u)) w.messages → t.version ≡ u.version → t ≡ u
-  pub installed : (p : PartState) (m : Member) (t : PlacementTable) → In p w.parts → In (Tells m (UpdateTo t)) w.messages → t.version ≡ p.table.version → t ≡ p.table
-  pub locking_update : w.placement.phase ≡ Running stages.Lock → (m : Member) (t : PlacementTable) → In (Tells m (UpdateTo t)) w.messages → t.version ≡ last_of w → ⊥
-  pub locking_unlock : w.placement.phase ≡ Running stages.Lock → (m : Member) → In (Tells m (UnlockAt (last_of w))) w.messages → ⊥
-  pub updating : w.placement.phase ≡ Running stages.Update → (m : Member) → In (Tells m (UnlockAt (last_of w))) w.messages → ⊥
-  pub updating_table : w.placement.phase ≡ Running stages.Update → (m : Member) (t : PlacementTable) → In (Tells m (UpdateTo t)) w.messages → t.version ≡ last_of w → t ≡ table_of (last_of w) w.placement.table
-  pub unlocking_table : w.placement.phase ≡ Running stages.Unlock → (m : Member) (t : PlacementTable) → In (Tells m (UpdateTo t)) w.messages → t.version ≡ last_of w → t ≡ table_of (last_of w) w.placement.table
+pub record OneTablePerVersion (s : SpaceState) : Type 0 where
+  pub messages : (m n : Member) (t u : PlacementTable) → In (Tells m (UpdateTo t)) s.messages → In (Tells n (UpdateTo u)) s.messages → t.version ≡ u.version → t ≡ u
+  pub installed : (p : PartState) (m : Member) (t : PlacementTable) → In p s.parts → In (Tells m (UpdateTo t)) s.messages → t.version ≡ p.table.version → t ≡ p.table
+  pub locking_update : s.room.phase ≡ Running stages.Lock → (m : Member) (t : PlacementTable) → In (Tells m (UpdateTo t)) s.messages → t.version ≡ last_of s → ⊥
+  pub locking_unlock : s.room.phase ≡ Running stages.Lock → (m : Member) → In (Tells m (UnlockAt (last_of s))) s.messages → ⊥
+  pub updating : s.room.phase ≡ Running stages.Update → (m : Member) → In (Tells m (UnlockAt (last_of s))) s.messages → ⊥
+  pub updating_table : s.room.phase ≡ Running stages.Update → (m : Member) (t : PlacementTable) → In (Tells m (UpdateTo t)) s.messages → t.version ≡ last_of s → t ≡ table_of s.space (last_of s) s.room.table
+  pub unlocking_table : s.room.phase ≡ Running stages.Unlock → (m : Member) (t : PlacementTable) → In (Tells m (UpdateTo t)) s.messages → t.version ≡ last_of s → t ≡ table_of s.space (last_of s) s.room.table
 
 -- Who was told a version is a member, or its parts have all stopped; who asks to leave has stopped. Boots are known and
 -- drawn, a node has one member, and before the first round the placement is the opening one.
-pub record MembersOrStopped (w : ClusterState) : Type 0 where
-  pub told : (m : Member) (v : ℕ) → WasTold w.messages m v → IsMember w m ⊎ AllStopped w.parts m
-  pub leaves : (m : Member) → In (Asks (Leave m)) w.messages → AllStopped w.parts m
-  pub member_boot : (m : Member) → IsMember w m → m.boot ≤ greatest_boot w.placement.boots m.node
-  pub told_boot : (m : Member) (v : ℕ) → WasTold w.messages m v → m.boot ≤ greatest_boot w.placement.boots m.node
-  pub nodes : (m n : Member) → IsMember w m → IsMember w n → m.node ≡ n.node → m ≡ n
-  pub opening : w.placement.next_version ≡ 1 → w.placement ≡ new_placement
-  pub member_booted : (m : Member) → IsMember w m → m.boot ≤ w.boots
-  pub told_booted : (m : Member) (v : ℕ) → WasTold w.messages m v → m.boot ≤ w.boots
-  pub ack_booted : (m : Member) (stage : AckStage) (v : ℕ) → In (Asks (Ack m stage v)) w.messages → m.boot ≤ w.boots
-  pub leave_booted : (m : Member) → In (Asks (Leave m)) w.messages → m.boot ≤ w.boots
-  pub host_booted : (h : HostInfo) → In (Asks (Register h)) w.messages → h.member.boot ≤ w.boots
-  pub part_booted : (p : PartState) → In p w.parts → p.member.boot ≤ w.boots
+pub record MembersOrStopped (s : SpaceState) : Type 0 where
+  pub told : (m : Member) (v : ℕ) → WasTold s.messages m v → IsMember s m ⊎ AllStopped s.parts m
+  pub leaves : (m : Member) → In (Asks (Leave m)) s.messages → AllStopped s.parts m
+  pub member_boot : (m : Member) → IsMember s m → m.boot ≤ greatest_boot s.room.boots m.node
+  pub told_boot : (m : Member) (v : ℕ) → WasTold s.messages m v → m.boot ≤ greatest_boot s.room.boots m.node
+  pub nodes : (m n : Member) → IsMember s m → IsMember s n → m.node ≡ n.node → m ≡ n
+  pub opening : s.room.next_version ≡ 1 → s.room ≡ new_room
+  pub member_booted : (m : Member) → IsMember s m → m.boot ≤ s.boots
+  pub told_booted : (m : Member) (v : ℕ) → WasTold s.messages m v → m.boot ≤ s.boots
+  pub ack_booted : (m : Member) (stage : AckStage) (v : ℕ) → In (Asks (Ack m stage v)) s.messages → m.boot ≤ s.boots
+  pub leave_booted : (m : Member) → In (Asks (Leave m)) s.messages → m.boot ≤ s.boots
+  pub host_booted : (h : HostInfo) → In (Asks (Register h)) s.messages → h.member.boot ≤ s.boots
+  pub part_booted : (p : PartState) → In p s.parts → p.member.boot ≤ s.boots
 
 -- while a round runs, each member that was ever told a version is a target of it
-pub record InformedAreTargets (w : ClusterState) : Type 0 where
-  pub targets : (stage : AckStage) (j : Joined) (v : ℕ) → w.placement.phase ≡ Running stage → In j w.placement.members → WasTold w.messages j.host.member v → j.target ≡ true
+pub record InformedAreTargets (s : SpaceState) : Type 0 where
+  pub targets : (stage : AckStage) (j : Joined) (v : ℕ) → s.room.phase ≡ Running stage → In j s.room.members → WasTold s.messages j.host.member v → j.target ≡ true
 
 -- the version that a part has seen, the table that it has and the version at which it opened came by messages
 pub record HasCome (ms : List Message) (p : PartState) : Type 0 where
@@ -86,15 +90,14 @@ pub record HasCome (ms : List Message) (p : PartState) : Type 0 where
   pub update : 0 < p.table.version → In (Tells p.member (UpdateTo p.table)) ms
   pub unlock : 0 < p.opened → In (Tells p.member (UnlockAt p.opened)) ms
 
--- the member that a message names
-abbrev pub named_in : Message → Member
-named_in (Asks request) = asker_of request
-named_in (Tells m answer) = m
+-- no room forgets anything
+abbrev pub RoomsForgetNothing : PlacementState → PlacementState → Type 0
+RoomsForgetNothing s t = (space : List ℕ) → ForgetsNothing (room_of s space) (room_of t space)
 
 -- each member that a message names, and each member of the placement, was booted
 pub record NamedWereBooted (w : ClusterState) : Type 0 where
   pub messages : (x : Message) → In x w.messages → IsBooted w.parts (named_in x)
-  pub members : (m : Member) → IsMember w m → IsBooted w.parts m
+  pub members : (space : List ℕ) (m : Member) → IsMember (seen_in w space) m → IsBooted w.parts m
 
 -- ---- the history
 
@@ -119,11 +122,11 @@ pub record TurnsIsolated (w : ClusterState) : Type 0 where
 module _ (owner : PlacementTable → ActorKey → Option HostInfo) (part_of : ActorKey → ℕ → ℕ) where
   -- An acknowledged stage is reached by its member; from the second stage on the targets have reached the one before, and
   -- a target that isn't pending has reached the stage itself.
-  pub record AcksAreReached (w : ClusterState) : Type 0 where
-    pub acks : (m : Member) (stage : AckStage) (v : ℕ) → In (Asks (Ack m stage v)) w.messages → MemberReached owner w.parts m stage v
-    pub updating : w.placement.phase ≡ Running stages.Update → (j : Joined) → In j w.placement.members → j.target ≡ true → MemberReached owner w.parts j.host.member stages.Lock (last_of w)
-    pub unlocking : w.placement.phase ≡ Running stages.Unlock → (j : Joined) → In j w.placement.members → j.target ≡ true → MemberReached owner w.parts j.host.member stages.Update (last_of w)
-    pub not_pending : (stage : AckStage) (j : Joined) → w.placement.phase ≡ Running stage → In j w.placement.members → j.target ≡ true → j.pending ≡ false → MemberReached owner w.parts j.host.member stage (last_of w)
+  pub record AcksAreReached (s : SpaceState) : Type 0 where
+    pub acks : (m : Member) (stage : AckStage) (v : ℕ) → In (Asks (Ack m stage v)) s.messages → MemberReached owner s.parts m stage v
+    pub updating : s.room.phase ≡ Running stages.Update → (j : Joined) → In j s.room.members → j.target ≡ true → MemberReached owner s.parts j.host.member stages.Lock (last_of s)
+    pub unlocking : s.room.phase ≡ Running stages.Unlock → (j : Joined) → In j s.room.members → j.target ≡ true → MemberReached owner s.parts j.host.member stages.Update (last_of s)
+    pub not_pending : (stage : AckStage) (j : Joined) → s.room.phase ≡ Running stage → In j s.room.members → j.target ≡ true → j.pending ≡ false → MemberReached owner s.parts j.host.member stage (last_of s)
 
   -- An active cell is owned in the table at which its part opened last. Where at any place of the marks a member had an
   -- actor active while its part had opened last at a version, an Update and an Unlock of it went to the member and that
@@ -135,11 +138,11 @@ module _ (owner : PlacementTable → ActorKey → Option HostInfo) (part_of : Ac
 
   -- Once an Unlock of a version exists, each running part of a member that was told a version of at most it has seen it,
   -- and so has each running part that has seen any; an active cell of a part that opened before is owned in its table.
-  pub record NobodyBehindUnlock (w : ClusterState) : Type 0 where
-    pub told : (v u : ℕ) (p : PartState) → IsUnlocked w.messages u → In p w.parts → WasTold w.messages p.member v → v ≤ u → (p.stage ≡ Stopped) ⊎ (u ≤ p.seen)
-    pub seen : (u : ℕ) (p : PartState) → IsUnlocked w.messages u → In p w.parts → 0 < p.seen → (p.stage ≡ Stopped) ⊎ (u ≤ p.seen)
-    pub owned : (u : ℕ) (p : PartState) (c : ActorCell) → IsUnlocked w.messages u → In p w.parts → In c p.cells → c.active ≡ true → p.opened < u →
-        (m : Member) (t : PlacementTable) → In (Tells m (UpdateTo t)) w.messages → t.version ≡ u → Gives owner t c.key p.member
+  pub record NobodyBehindUnlock (s : SpaceState) : Type 0 where
+    pub told : (v u : ℕ) (p : PartState) → IsUnlocked s.messages u → In p s.parts → WasTold s.messages p.member v → v ≤ u → (p.stage ≡ Stopped) ⊎ (u ≤ p.seen)
+    pub seen : (u : ℕ) (p : PartState) → IsUnlocked s.messages u → In p s.parts → 0 < p.seen → (p.stage ≡ Stopped) ⊎ (u ≤ p.seen)
+    pub owned : (u : ℕ) (p : PartState) (c : ActorCell) → IsUnlocked s.messages u → In p s.parts → In c p.cells → c.active ≡ true → p.opened < u →
+        (m : Member) (t : PlacementTable) → In (Tells m (UpdateTo t)) s.messages → t.version ≡ u → Gives owner t c.key p.member
 
   -- A cell with an open turn is active; its turns carry one chain and are within the depth; an open part leaves no call
   -- waiting that could run.
@@ -149,15 +152,15 @@ module _ (owner : PlacementTable → ActorKey → Option HostInfo) (part_of : Ac
     pub within : (p : PartState) (c : ActorCell) → In p w.parts → In c p.cells → length c.inner.turns ≤ most_turns (depth_in w.settings c.key.kind)
     pub no_idle_waiter : (p : PartState) → In p w.parts → NoIdleWaiter owner p
 
-  -- the cluster invariant, with the first part of the headline
+  -- the cluster invariant, with the first part of the headline: what holds in each space, and of all of them together
   pub record ClusterInvariant (w : ClusterState) : Type 0 where
-    pub versions : VersionsBelowNext w
-    pub tables : OneTablePerVersion w
-    pub members : MembersOrStopped w
-    pub acks : AcksAreReached w
-    pub informed : InformedAreTargets w
+    pub versions : (space : List ℕ) → VersionsBelowNext (seen_in w space)
+    pub tables : (space : List ℕ) → OneTablePerVersion (seen_in w space)
+    pub members : (space : List ℕ) → MembersOrStopped (seen_in w space)
+    pub acks : (space : List ℕ) → AcksAreReached (seen_in w space)
+    pub informed : (space : List ℕ) → InformedAreTargets (seen_in w space)
     pub owned : ActiveMeansOwned w
-    pub unlocked : NobodyBehindUnlock w
+    pub unlocked : (space : List ℕ) → NobodyBehindUnlock (seen_in w space)
     pub turns : TurnsUnderOneChain w
     pub single : SingleActivation w
     pub isolated : TurnsIsolated w

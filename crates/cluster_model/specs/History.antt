@@ -7,7 +7,7 @@ use Rattle.place_table.specs.Hosts.{PlacementTable}
 use Rattle.turn_core.specs.declared.cell.Turn.{Turn}
 use Rattle.turn_core.specs.CellSound.{In}
 use Rattle.part_core.specs.Activity.{Activity, no_activity, after_mark, is_mark_of}
-use Rattle.part_core.specs.Keys.{same_member}
+use Rattle.actor_names.specs.Same.{same_member}
 use Rattle.part_core.specs.Marks.{PartMark, TurnBegan, BecameActive, PartOpened}
 use Rattle.cluster_model.specs.Invariant.{Gives}
 use Rattle.cluster_model.specs.Messages.{UpdateTo, UnlockAt, Message, Tells}

@@ -17,7 +17,7 @@ use Rattle.part_core.specs.PartRuns.{AreVersionsTied}
 use Rattle.part_core.specs.Sound.{IsPartSound}
 use Rattle.round_core.specs.declared.phase.RoundPhase.{RoundPhase}
 use Rattle.round_core.specs.declared.phase.RoundPhase.TheVariants.{Quiet, Running}
-use Rattle.round_core.specs.Placement.{PlacementState, last_version}
+use Rattle.round_core.specs.Room.{RoomState, last_version}
 use Rattle.round_core.specs.Reached.{IsReached}
 use Rattle.round_core.specs.Runs.{HasMember}
 use Rattle.member_roster.specs.declared.book.Known.{Known}
@@ -25,6 +25,7 @@ use Rattle.member_roster.specs.Members.{Joined, greatest_boot, hosts_of}
 use Rattle.member_core.specs.Progress.{MemberReached}
 use Rattle.cluster_model.specs.Messages.{Register, Ack, Leave, Answer, LockAt, UpdateTo, UnlockAt, Says, Message, Asks, Tells}
 use Rattle.cluster_model.specs.World.{ClusterState}
+use Rattle.cluster_model.specs.Spaces.{SpaceState, seen_in}
 
 -- ---- messages
 
@@ -146,13 +147,18 @@ module _ (owner : PlacementTable → ActorKey → Option HostInfo) where
     pub round : RoundFacts last js fixed ms ps phase
     pub unlocks : IsUnlockSound ms ps
 
-  abbrev pub IsSafe : PlacementState → List PartState → List Message → ℕ → Type 0
+  abbrev pub IsSafe : RoomState → List PartState → List Message → ℕ → Type 0
   IsSafe s ps ms boots = IsSafeAt (last_version s) s.members s.boots s.table s.phase ps ms boots
 
-  -- a cluster is safe: its placement is one that a run reaches, and so are its parts and messages
+  -- what a space sees of a cluster is safe: its room is one that a run reaches, and so are its parts and messages
+  pub record IsSafeSpace (v : SpaceState) : Type 0 where
+    pub reached : IsReached v.room
+    pub safe : IsSafe v.room v.parts v.messages v.boots
+
+  -- a cluster is safe: each space is, and a table goes to members of its space alone
   pub record IsSafeWorld (w : ClusterState) : Type 0 where
-    pub reached : IsReached w.placement
-    pub safe : IsSafe w.placement w.parts w.messages w.boots
+    pub spaces : (space : List ℕ) → IsSafeSpace (seen_in w space)
+    pub tables : (m : Member) (t : PlacementTable) → In (Tells m (UpdateTo t)) w.messages → t.space ≡ m.space
 
 -- no actor is active on two members
 abbrev pub IsActiveOnce : List PartState → Type 0

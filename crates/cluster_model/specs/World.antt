@@ -9,7 +9,7 @@ use Rattle.part_core.specs.declared.event.PartEvent.{PartEvent}
 use Rattle.part_core.specs.declared.event.PartEvent.TheVariants as events
 use Rattle.part_core.specs.declared.event.PartReply.{PartReply}
 use Rattle.part_core.specs.declared.event.PartReply.TheVariants as replies
-use Rattle.part_core.specs.Keys.{same_member}
+use Rattle.actor_names.specs.Same.{same_member}
 use Rattle.part_core.specs.Marks.{PartMark}
 use Rattle.part_core.specs.Part.{PartState, PartStep, new_part, is_stopped, receipt_of, part_step}
 use Rattle.part_core.specs.declared.receipt.SeenStage.{SeenStage}
@@ -20,8 +20,8 @@ use Rattle.round_core.specs.declared.event.PlaceEvent.{PlaceEvent}
 use Rattle.round_core.specs.declared.event.PlaceEvent.TheVariants as changes
 use Rattle.round_core.specs.declared.event.PlaceReply.{PlaceReply}
 use Rattle.round_core.specs.declared.event.PlaceReply.TheVariants as place_replies
-use Rattle.round_core.specs.Placement.{PlacementState, PlacementStep, new_placement, placement_step, placement_restarted, last_version}
-use Rattle.member_roster.specs.Members.{late_of}
+use Rattle.round_core.specs.Room.{RoomState, last_version}
+use Rattle.placement_core.specs.Placement.{SpaceRoom, PlacementState, PlacementStep, new_placement, room_of, late_in, placement_step, placement_restarted}
 use Rattle.member_core.specs.declared.ack.Ack as declared
 use Rattle.member_core.specs.Acks.{collected, are_stopped}
 use Rattle.world_events.specs.declared.settings.WorldSettings.{WorldSettings}
@@ -171,11 +171,15 @@ booted w m kinds =
       outcome = Ok (added_outcome (next_message w) (Register (host_of m kinds)));
     }
 
+-- the table that the placement fixed last in a space
+abbrev pub table_in : PlacementState → List ℕ → List HostInfo
+table_in s space = (room_of s space).table
+
 -- the placement takes a step, and its answer is the next message
 abbrev pub answers : ClusterState → Request → PlacementStep → WorldStep
 answers w r s =
     record {
-      world = record (with_message w (Tells (asker_of r) (answer_of s.state.table s.reply))) { placement = s.state };
+      world = record (with_message w (Tells (asker_of r) (answer_of (asker_of r).space (table_in s.state (asker_of r).space) s.reply))) { placement = s.state };
       outcome = Ok (out.Answered (next_message w) s.reply);
     }
 
@@ -208,9 +212,15 @@ abbrev pub honest_tick : ClusterState → Option Member → WorldStep
 honest_tick w None = placement_does w changes.Tick dropped_outcome
 honest_tick w (Some m) = dishonest w m
 
--- the version of the round that a restart starts, 0 where it starts none
-abbrev pub restarted_version : PlacementState → PlacementState → ℕ
-restarted_version old new = if new.next_version == old.next_version then 0 else last_version new
+-- the version of the round that a restart starts in a room, 0 where it starts none
+abbrev pub restarted_version : RoomState → RoomState → ℕ
+restarted_version old new = if last_version new == last_version old then 0 else last_version new
+
+-- those of all rooms, in order of space
+abbrev pub restarted_versions : List SpaceRoom → List SpaceRoom → List ℕ
+restarted_versions [] new = []
+restarted_versions (r ∷ rs) [] = []
+restarted_versions (r ∷ rs) (t ∷ ts) = restarted_version r.room t.room ∷ restarted_versions rs ts
 
 -- ---- calls of the script
 
@@ -392,7 +402,7 @@ module _ (owner : PlacementTable → ActorKey → Option HostInfo) (part_of : Ac
 
   abbrev pub happens : ClusterState → WorldEvent → WorldStep
   happens w (lines.At moment) = record { world = record w { now = moment }; outcome = Ok (out.At moment) }
-  happens w (lines.Boot node kinds) = booted w (record { node = node; boot = suc w.boots }) kinds
+  happens w (lines.Boot space node kinds) = booted w (record { space = space; node = node; boot = suc w.boots }) kinds
   happens w (lines.Beat m) = if was_booted w.parts m then added w (Beat m) else nothing w
   happens w (lines.Collect m) = if was_booted w.parts m then add_ack w m (collected (receipts_of w.parts m)) else nothing w
   happens w (lines.Leave m) =
@@ -412,10 +422,10 @@ module _ (owner : PlacementTable → ActorKey → Option HostInfo) (part_of : Ac
   happens w (lines.Stop m i) = part_does w (place_of_part w.parts m i) events.StopPart (λ _. stop_outcome)
   happens w (lines.Lost m) =
       if was_booted w.parts m then (if all_stopped w.parts m then placement_does w (changes.Lost m) (lost_outcome m) else dishonest w m) else nothing w
-  happens w lines.PlacementTick = honest_tick w (running_among w.parts (late_of w.placement.members w.now))
+  happens w lines.PlacementTick = honest_tick w (running_among w.parts (late_in w.placement.rooms w.now))
   happens w lines.Restart =
       let p = placement_restarted w.placement w.now in
-      record { world = record w { placement = p }; outcome = Ok (out.Restarted (restarted_version w.placement p)) }
+      record { world = record w { placement = p }; outcome = Ok (out.Restarted (restarted_versions w.placement.rooms p.rooms)) }
 
   abbrev pub counted : WorldStep → WorldStep
   counted s = record { world = record (s.world) { events = s.world.events + weight_of s.outcome }; outcome = s.outcome }

@@ -1,5 +1,5 @@
 // A part that is open.
-use actor_names::{read_actor_type, read_address, read_app_id, read_member};
+use actor_names::{default_space, read_actor_type, read_address, read_app_id, read_member};
 use part_core::{Part, PartEvent, PartSettings, TypeList};
 use place_table::{ActorTypes, HostInfo, build_table};
 use std::alloc::Global;
@@ -21,7 +21,7 @@ pub fn open_part(alloc: Global) -> Option<Part> {
         address: read_address(b"127.0.0.1:3500").ok()?,
         kinds: ActorTypes::from_vec(kinds),
     };
-    let table = build_table(alloc, 1, &[host]).ok()?;
+    let table = build_table(alloc, &default_space(), 1, &[host]).ok()?;
     let _locked = part.step(PartEvent::Lock { version: 1 });
     let _updated = part.step(PartEvent::Update { table, now: 10 });
     let _opened = part.step(PartEvent::Unlock { version: 1 });

@@ -43,9 +43,9 @@ known_by k (e ∷ es) = rw (is_eq-slice_cmp k e.0) (go (bytes_eq k e.0) (known_b
 pub known_at : (k : List ℕ) (es : List (List ℕ × ℕ)) → is_some (boot_at k es) ≡ is_known (known_in es) k
 known_at k es = sym (known_by k es)
 
-put_in : (k : List ℕ) (boot : ℕ) (es : List (List ℕ × ℕ)) → known_in (insert_entry cmp es k boot) ≡ put_boot (known_in es) (record { node = k; boot = boot })
-put_in k boot [] = refl
-put_in k boot (e ∷ es) = go (cmp k e.0) refl (put_in k boot es)
+put_in : (space k : List ℕ) (boot : ℕ) (es : List (List ℕ × ℕ)) → known_in (insert_entry cmp es k boot) ≡ put_boot (known_in es) (record { space = space; node = k; boot = boot })
+put_in space k boot [] = refl
+put_in space k boot (e ∷ es) = go (cmp k e.0) refl (put_in space k boot es)
   where
     at : Known
     at = record { node = k; greatest = boot }
@@ -57,7 +57,7 @@ put_in k boot (e ∷ es) = go (cmp k e.0) refl (put_in k boot es)
     new = insert_entry cmp es k boot
 
     old : List Known
-    old = put_boot (known_in es) (record { node = k; boot = boot })
+    old = put_boot (known_in es) (record { space = space; node = k; boot = boot })
 
     go : (o : Ordering) → cmp k e.0 ≡ o → known_in new ≡ old → known_in (match_ordering o ((k, boot) ∷ e ∷ es) ((e.0, boot) ∷ es) (e ∷ new)) ≡ cond (bytes_eq k e.0) (at ∷ known_in es) (cond (is_before k e.0) (at ∷ first ∷ known_in es) (first ∷ old))
     go Less is ih = rw (sym (is_eq-slice_cmp k e.0), is) refl
@@ -68,7 +68,7 @@ put_in k boot (e ∷ es) = go (cmp k e.0) refl (put_in k boot es)
 
 -- an insertion at the node puts the member's boot
 pub put_at : (m : Member) (es : List (List ℕ × ℕ)) → known_in (insert_entry cmp es m.node m.boot) ≡ put_boot (known_in es) m
-put_at m es = put_in m.node m.boot es
+put_at m es = put_in m.space m.node m.boot es
 
 -- it leaves no more than 65,536, where there is room for a new node
 pub few_at : (k : List ℕ) (es fs : List (List ℕ × ℕ)) (before : Option ℕ) → before ≡ boot_at k es → length fs ≡ length es + cond (is_some before) 0 1 → length es ≤ 65536 → (is_known (known_in es) k ≡ false → length (known_in es) < 65536) → length fs ≤ 65536

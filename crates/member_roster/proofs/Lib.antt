@@ -1,7 +1,7 @@
-mod Ascending
+pub mod Ascending
 mod Backed
 mod Boots
 mod Counts
 mod Lateness
-mod Places
+pub mod Places
 mod Rosters

@@ -7,16 +7,17 @@ use Rattle.std.specs.declared.cmp.Ordering.TheVariants.{Less, Equal, Greater}
 use Rattle.std.specs.declared.result.Result.{Result}
 use Rattle.std.specs.declared.result.Result.TheVariants.{Ok, Err}
 use Rattle.actor_names.specs.declared.member.Member.{Member}
+use Rattle.actor_names.specs.Same.{same_member}
 use Rattle.place_table.specs.declared.host.HostInfo.{HostInfo}
 use Rattle.member_roster.specs.declared.marks.Mark.{Mark}
-use Rattle.member_roster.specs.Members.{Joined, has_boot, is_here, of_node, with_node, without_node, put_joined, any_pending, hosts_of}
+use Rattle.member_roster.specs.Members.{Joined, is_the, is_here, of_node, with_node, without_node, put_joined, any_pending, hosts_of}
 use Rattle.member_roster.specs.Places.{host_node, Ascends, place_from, place_by}
 use Rattle.member_roster.specs.Roster.{joined_of, joined_all}
 use Rattle.member_roster.proofs.Places.{cmp, same_texts, before_texts, one_more-Ok, one_more-Err, none_after}
 
 -- where a place past the end is read
 abbrev pub no_host : HostInfo
-no_host = record { member = record { node = []; boot = 0 }; app = []; address = record { ip = 0; port = 0 }; kinds = [] }
+no_host = record { member = record { space = []; node = []; boot = 0 }; app = []; address = record { ip = 0; port = 0 }; kinds = [] }
 
 abbrev pub no_mark : Mark
 no_mark = record { heard = 0; target = false; pending = false }
@@ -45,12 +46,12 @@ of_node-missing node (h ∷ hs) (k ∷ ms) i a p = go (cmp h.member.node node) r
     go Equal f ih i p = absurd (cc)
     go Greater f ih i p = rw (same_texts h.member.node node Greater f) (ih 0 (none_after host_node h.member.node node hs f a.0))
 
-pub is_here-found : (m : Member) (b : Bool) (hs : List HostInfo) (ms : List Mark) (i : ℕ) (h : HostInfo) → length ms ≡ length hs → place_by host_node m.node hs ≡ Ok i → h ≡ get_or hs i h → b ≡ (m.boot == h.member.boot) → b ≡ is_here (joined_all hs ms) m
+pub is_here-found : (m : Member) (b : Bool) (hs : List HostInfo) (ms : List Mark) (i : ℕ) (h : HostInfo) → length ms ≡ length hs → place_by host_node m.node hs ≡ Ok i → h ≡ get_or hs i h → b ≡ same_member m h.member → b ≡ is_here (joined_all hs ms) m
 is_here-found m b hs ms i h l p e f =
-    f ∙ ap (λ (x : HostInfo). m.boot == x.member.boot) e ∙ sym (ap (has_boot m.boot) (of_node-found m.node hs ms i h no_mark l p))
+    f ∙ ap (λ (x : HostInfo). same_member m x.member) e ∙ sym (ap (is_the m) (of_node-found m.node hs ms i h no_mark l p))
 
 pub is_here-missing : (m : Member) (hs : List HostInfo) (ms : List Mark) (i : ℕ) → Ascends host_node hs → place_by host_node m.node hs ≡ Err i → false ≡ is_here (joined_all hs ms) m
-is_here-missing m hs ms i a p = sym (ap (has_boot m.boot) (of_node-missing m.node hs ms i a p))
+is_here-missing m hs ms i a p = sym (ap (is_the m) (of_node-missing m.node hs ms i a p))
 
 -- a change of the mark at the place
 pub with_node-found : (node : List ℕ) (hs : List HostInfo) (ms : List Mark) (i : ℕ) (g : Mark → Mark) (f : Joined → Joined) (d : Mark) → ((h : HostInfo) (k : Mark) → f (joined_of h k) ≡ joined_of h (g k)) → place_by host_node node hs ≡ Ok i → with_node (joined_all hs ms) node f ≡ joined_all hs (set ms i (g (get_or ms i d)))

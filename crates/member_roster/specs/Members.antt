@@ -4,6 +4,7 @@ use Rattle.std.specs.List.{list_any}
 use Rattle.std.specs.Ordering.{nat_cmp, is_lt}
 use Rattle.std.specs.Cmp.Lexicographic.{slice_cmp}
 use Rattle.actor_names.specs.declared.member.Member.{Member}
+use Rattle.actor_names.specs.Same.{same_member}
 use Rattle.place_table.specs.declared.host.HostInfo.{HostInfo}
 use Rattle.place_table.specs.Hosts.{node_of}
 use Rattle.member_roster.specs.declared.book.Known.{Known}
@@ -56,13 +57,13 @@ of_node (j ∷ js) node = if bytes_eq node (joined_node j) then Some j else of_n
 abbrev pub boot_of : Joined → ℕ
 boot_of j = j.host.member.boot
 
-abbrev pub has_boot : ℕ → Option Joined → Bool
-has_boot boot None = false
-has_boot boot (Some j) = boot == j.host.member.boot
+abbrev pub is_the : Member → Option Joined → Bool
+is_the m None = false
+is_the m (Some j) = same_member m j.host.member
 
--- whether it is a member: its node has one, of the same boot
+-- whether it is a member: its node has one, which is the same
 abbrev pub is_here : List Joined → Member → Bool
-is_here js m = has_boot m.boot (of_node js m.node)
+is_here js m = is_the m (of_node js m.node)
 
 abbrev pub is_pending_in : Option Joined → Bool
 is_pending_in None = false

@@ -2,6 +2,7 @@
 ghost use Rattle.std.specs.Prelude.{◌≡◌, ◌==◌, ◌+◌, ◌<◌, ◌≤◌, ◌↔◌, [], ◌∷◌, ◌++◌, None, false, length, map, IfOk, OnOk, OnErr, IsTrue, IsFalse, Some, max, option_map};
 ghost use Rattle.member_roster.specs.Members.{heard_at, acked_at, restarted_at, new_joined, boot_of, hosts_of, of_node, is_here, is_pending, with_node, without_node, put_joined, Joined, is_late, late_of, heard_of, any_pending, entered, targeted, target_hosts, removes_all};
 ghost use Rattle.std.specs.List.{slice_get};
+ghost use Rattle.actor_names.specs.Same.{same_member};
 ghost use Rattle.member_roster.specs.Places.{Ascends, host_node};
 ghost use Rattle.member_roster.specs.Roster.{RosterState, SameButCapacity};
 
@@ -42,11 +43,11 @@ impl Model for Roster {
     ghost invariant = { λ a. IsRosterKept a.hosts.items a.marks.items a.spares.items a.table.items a.capacity a.pending × HasCapacity a.capacity (vec_capacity a.hosts) (vec_capacity a.marks) (vec_capacity a.spares) (vec_capacity a.table) };
 }
 
-/// Whether the host is of the member's boot.
-fn has_boot(host: &HostInfo, member: &Member) -> bool
-    ensures { result ≡ (member.now.boot == host.now.member.boot) }
+/// Whether the host is the member's.
+fn is_member(host: &HostInfo, member: &Member) -> bool
+    ensures { result ≡ same_member member.now host.now.member }
 {
-    member.boot == host.member.boot
+    host.member == *member
 }
 
 impl Roster {
@@ -135,7 +136,7 @@ impl Roster {
     {
         match host_place(&self.hosts, &member.node) {
             Ok(at) => {
-                if !has_boot(&self.hosts[at], member) {
+                if !is_member(&self.hosts[at], member) {
                     return false;
                 }
                 let mark = &mut self.marks[at];
@@ -155,7 +156,7 @@ impl Roster {
     {
         match host_place(&self.hosts, &member.node) {
             Ok(at) => {
-                if !has_boot(&self.hosts[at], member) {
+                if !is_member(&self.hosts[at], member) {
                     return false;
                 }
                 let weight = weigh_mark(self.marks[at]);
@@ -219,7 +220,7 @@ impl Roster {
     {
         match host_place(&self.hosts, &member.node) {
             Ok(at) => {
-                if !has_boot(&self.hosts[at], member) {
+                if !is_member(&self.hosts[at], member) {
                     return false;
                 }
                 let _host = self.hosts.remove(at);

@@ -5,7 +5,7 @@ use Rattle.std.proofs.lemmas.Bool.{cond_both, cond-true, cond-false}
 use Rattle.actor_names.specs.declared.actor_key.ActorKey.{ActorKey}
 use Rattle.turn_core.specs.CellSound.{In}
 use Rattle.part_cells.specs.declared.actor_cell.ActorCell.{ActorCell}
-use Rattle.part_cells.specs.Keys.{same_key, key_cmp, key_before}
+use Rattle.actor_names.specs.Same.{same_key, key_cmp, key_before}
 use Rattle.part_cells.specs.Cells.{cell_at, drop_cell, insert_cell, put_cell}
 use Rattle.part_cells.specs.Order.{AreInOrder}
 use Rattle.part_cells.proofs.KeyOrders.{key_cmp_total, before, same_keys, before_keys, after_equal, after_greater, before_equal}

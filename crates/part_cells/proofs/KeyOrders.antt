@@ -1,9 +1,9 @@
 -- The order of keys is a total one, and tied keys are the same.
-use Rattle.std.proofs.Common.{◌≡◌, true, false, ◌&&◌, refl, sym, ap, ◌∙◌}
+use Rattle.std.proofs.Common.{◌≡◌, Bool, true, false, ◌&&◌, refl, sym, ap, ◌∙◌}
 use Rattle.std.specs.Prelude.{bytes_eq}
 use Rattle.std.specs.declared.cmp.Ordering.{Ordering}
 use Rattle.std.specs.declared.cmp.Ordering.TheVariants.{Less, Equal, Greater}
-use Rattle.std.specs.Ordering.{nat_cmp, ordering_reverse, is_eq, is_lt}
+use Rattle.std.specs.Ordering.{nat_cmp, ordering_then, ordering_reverse, is_eq, is_lt}
 use Rattle.std.specs.Cmp.{IsTotalOrder, then_total, on_total, tied_then}
 use Rattle.std.specs.Cmp.Lexicographic.{slice_cmp}
 use Rattle.std.proofs.lemmas.Bool.{and_parts, true≢false}
@@ -11,10 +11,12 @@ use Rattle.std.proofs.lemmas.Cmp.{nat_list_cmp_total}
 use Rattle.std.proofs.lemmas.Map.Text.{is_eq-slice_cmp}
 use Rattle.std.proofs.lemmas.Slice.Eq.{bytes_eq-Decides}
 use Rattle.actor_names.specs.declared.actor_key.ActorKey.{ActorKey}
-use Rattle.part_cells.specs.Keys.{same_key, key_cmp, key_before}
+use Rattle.actor_names.specs.Same.{same_key, key_cmp, key_before}
 
 pub key_cmp_total : IsTotalOrder key_cmp
-key_cmp_total = then_total (on_total (λ (k : ActorKey). k.kind) nat_list_cmp_total) (on_total (λ (k : ActorKey). k.id) nat_list_cmp_total)
+key_cmp_total =
+    then_total (on_total (λ (k : ActorKey). k.space) nat_list_cmp_total)
+    (then_total (on_total (λ (k : ActorKey). k.kind) nat_list_cmp_total) (on_total (λ (k : ActorKey). k.id) nat_list_cmp_total))
 
 pub back : (a b : ActorKey) (o : Ordering) → key_cmp a b ≡ o → key_cmp b a ≡ ordering_reverse o
 back a b o e = let t = key_cmp_total in t.antisymm b a ∙ ap ordering_reverse e
@@ -32,8 +34,11 @@ less_before a b e = ap is_lt e
 
 pub same_keys : (a b : ActorKey) (o : Ordering) → key_cmp a b ≡ o → same_key b a ≡ is_eq (ordering_reverse o)
 same_keys a b o e =
-    (λ i. sym (is_eq-slice_cmp b.kind a.kind) i && sym (is_eq-slice_cmp b.id a.id) i)
-    ∙ tied_then (slice_cmp nat_cmp b.kind a.kind) (slice_cmp nat_cmp b.id a.id) ∙ ap is_eq (back a b o e)
+    let kinds = slice_cmp nat_cmp b.kind a.kind in
+    let ids = slice_cmp nat_cmp b.id a.id in
+    (λ i. sym (is_eq-slice_cmp b.space a.space) i && (sym (is_eq-slice_cmp b.kind a.kind) i && sym (is_eq-slice_cmp b.id a.id) i))
+    ∙ ap (λ (z : Bool). is_eq (slice_cmp nat_cmp b.space a.space) && z) (tied_then kinds ids)
+    ∙ tied_then (slice_cmp nat_cmp b.space a.space) (ordering_then kinds ids) ∙ ap is_eq (back a b o e)
 
 pub before_keys : (a b : ActorKey) (o : Ordering) → key_cmp a b ≡ o → key_before b a ≡ is_lt (ordering_reverse o)
 before_keys a b o e = ap is_lt (back a b o e)
@@ -61,10 +66,12 @@ same_key-self a = same_keys a a Equal (equal_self a)
 
 pub same_key-true : (a b : ActorKey) → same_key a b ≡ true → a ≡ b
 same_key-true a b e =
-    let h = and_parts (bytes_eq a.kind b.kind) (bytes_eq a.id b.id) e in
-    let p = (bytes_eq-Decides a.kind b.kind).0 h.0 in
-    let q = (bytes_eq-Decides a.id b.id).0 h.1 in
-    λ i. record { kind = p i; id = q i }
+    let h = and_parts (bytes_eq a.space b.space) (bytes_eq a.kind b.kind && bytes_eq a.id b.id) e in
+    let k = and_parts (bytes_eq a.kind b.kind) (bytes_eq a.id b.id) h.1 in
+    let s = (bytes_eq-Decides a.space b.space).0 h.0 in
+    let p = (bytes_eq-Decides a.kind b.kind).0 k.0 in
+    let q = (bytes_eq-Decides a.id b.id).0 k.1 in
+    λ i. record { space = s i; kind = p i; id = q i }
 
 pub key_trans : (a b c : ActorKey) → key_before a b ≡ true → key_before b c ≡ true → key_before a c ≡ true
 key_trans a b c h k = let t = key_cmp_total in ap is_lt (t.trans a b c (before a b h) (before b c k))

@@ -4,7 +4,7 @@ use Rattle.std.proofs.lemmas.Bool.{cond_both}
 use Rattle.actor_names.specs.declared.actor_key.ActorKey.{ActorKey}
 use Rattle.turn_core.specs.CellSound.{In}
 use Rattle.part_cells.specs.declared.actor_cell.ActorCell.{ActorCell}
-use Rattle.part_cells.specs.Keys.{same_key, key_before}
+use Rattle.actor_names.specs.Same.{same_key, key_before}
 use Rattle.part_cells.specs.Cells.{cell_at, drop_cell, insert_cell, put_cell, keep_cell, is_kept, total}
 use Rattle.part_cells.specs.Order.{AreInOrder}
 use Rattle.part_cells.proofs.Changes.{insert-taken, drop-missing}

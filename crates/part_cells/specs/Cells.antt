@@ -3,7 +3,7 @@ use Rattle.std.specs.Prelude.{ℕ, ◌+◌, Bool, false, ◌||◌, nat_lt, if◌
 use Rattle.actor_names.specs.declared.actor_key.ActorKey.{ActorKey}
 use Rattle.turn_core.specs.Cell.{new_cell, is_in_cell}
 use Rattle.part_cells.specs.declared.actor_cell.ActorCell.{ActorCell}
-use Rattle.part_cells.specs.Keys.{same_key, key_before}
+use Rattle.actor_names.specs.Same.{same_key, key_before}
 
 abbrev pub cell_at : List ActorCell → ActorKey → Option ActorCell
 cell_at [] key = None

@@ -2,7 +2,7 @@
 use Rattle.std.specs.Prelude.{◌≡◌, true, List, [], ◌∷◌}
 use Rattle.turn_core.specs.CellSound.{In}
 use Rattle.part_cells.specs.declared.actor_cell.ActorCell.{ActorCell}
-use Rattle.part_cells.specs.Keys.{key_before}
+use Rattle.actor_names.specs.Same.{key_before}
 
 -- each key stands before those that follow
 abbrev pub AreInOrder : List ActorCell → Type 0

@@ -8,7 +8,7 @@ use Rattle.part_cells.specs.declared.actor_cell.ActorCell.{ActorCell}
 use Rattle.part_core.specs.declared.standing.Standing.{Standing}
 use Rattle.part_core.specs.declared.event.PartReply.{PartReply}
 use Rattle.part_core.specs.declared.event.PartReply.TheVariants as replies
-use Rattle.part_core.specs.Keys.{same_member}
+use Rattle.actor_names.specs.Same.{same_member}
 use Rattle.part_core.specs.Part.{PartState, PartStep, is_open, made_chain, chain_or, call_chain, ask_cell, ask_owned, ask_here, ring_owner}
 use Rattle.part_core.specs.Actors.{ActorsState, state_of, AsksIn, AsksAtCell}
 

@@ -11,8 +11,8 @@ use Rattle.turn_core.specs.Cell.{CellState, AskStep, EndStep, PollStep, is_open_
 use Rattle.turn_core.specs.CellSound.{In}
 use Rattle.part_core.specs.declared.event.PartEvent.{PartEvent}
 use Rattle.part_cells.specs.declared.actor_cell.ActorCell.{ActorCell}
-use Rattle.part_cells.specs.Keys.{same_key}
-use Rattle.part_core.specs.Keys.{same_member}
+use Rattle.actor_names.specs.Same.{same_key}
+use Rattle.actor_names.specs.Same.{same_member}
 use Rattle.part_core.specs.Settings.{settings_of}
 use Rattle.part_cells.specs.Cells.{cell_at, cell_of_call}
 use Rattle.part_core.specs.Marks.{PartMark, TurnEnded, BecameInactive, marks_of_begin, marks_of_next}

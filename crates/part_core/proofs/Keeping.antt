@@ -5,7 +5,7 @@ use Rattle.actor_names.specs.declared.actor_key.ActorKey.{ActorKey}
 use Rattle.turn_core.specs.Cell.{is_in_cell}
 use Rattle.turn_core.specs.CellSound.{In}
 use Rattle.part_cells.specs.declared.actor_cell.ActorCell.{ActorCell}
-use Rattle.part_cells.specs.Keys.{same_key}
+use Rattle.actor_names.specs.Same.{same_key}
 use Rattle.part_cells.specs.Cells.{cell_at, put_cell, keep_cell, calls_in, total_calls}
 use Rattle.part_cells.specs.Order.{AreInOrder}
 use Rattle.part_cells.proofs.KeyOrders.{same_key-self}

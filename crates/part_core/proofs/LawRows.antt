@@ -1,6 +1,7 @@
 -- Worked examples of what marks tell and which replies refuse. The first host of a table owns every actor here.
 use Rattle.std.proofs.Common.{◌≡◌, true, false, List, [], ◌∷◌, ◌++◌, Option, None, Some, refl}
 use Rattle.actor_names.specs.declared.actor_key.ActorKey.{ActorKey}
+use Rattle.actor_names.specs.Names.{default_space}
 use Rattle.actor_names.specs.declared.member.Member.{Member}
 use Rattle.place_table.specs.declared.host.HostInfo.{HostInfo}
 use Rattle.place_table.specs.Hosts.{PlacementTable}
@@ -14,16 +15,16 @@ use Rattle.part_core.specs.Activity.{no_activity, activity_of, replay, turn_mark
 use Rattle.part_core.specs.PartRuns.{part_after, marks_after, refuses}
 
 abbrev a : Member
-a = record { node = 97 ∷ []; boot = 1 }
+a = record { space = default_space; node = 97 ∷ []; boot = 1 }
 
 abbrev key : ActorKey
-key = record { kind = 99 ∷ []; id = 55 ∷ [] }
+key = record { space = default_space; kind = 99 ∷ []; id = 55 ∷ [] }
 
 abbrev other : ActorKey
-other = record { kind = 99 ∷ []; id = 56 ∷ [] }
+other = record { space = default_space; kind = 99 ∷ []; id = 56 ∷ [] }
 
 abbrev table : PlacementTable
-table = record { version = 1; hosts = record { member = a; app = 120 ∷ []; address = record { ip = 1; port = 1 }; kinds = (99 ∷ []) ∷ [] } ∷ [] }
+table = record { space = default_space; version = 1; hosts = record { member = a; app = 120 ∷ []; address = record { ip = 1; port = 1 }; kinds = (99 ∷ []) ∷ [] } ∷ [] }
 
 abbrev first_host : List HostInfo → Option HostInfo
 first_host [] = None

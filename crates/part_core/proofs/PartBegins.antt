@@ -15,7 +15,7 @@ use Rattle.part_core.specs.declared.stage.Stage.TheVariants.{Locked, Updated, Op
 use Rattle.part_core.specs.declared.event.PartEvent.{PartEvent}
 use Rattle.part_core.specs.declared.event.PartEvent.TheVariants as events
 use Rattle.part_cells.specs.declared.actor_cell.ActorCell.{ActorCell}
-use Rattle.part_core.specs.Keys.{same_member}
+use Rattle.actor_names.specs.Same.{same_member}
 use Rattle.part_cells.specs.Cells.{cell_at, cell_of_call}
 use Rattle.part_core.specs.Marks.{PartMark, TurnBegan, marks_of_begin, marks_of_next, marks_of_ends, marks_of_inactive, marks_of_stop}
 use Rattle.part_core.specs.Part

@@ -13,7 +13,7 @@ use Rattle.part_core.specs.declared.stage.Stage.TheVariants.{Locked, Updated, Op
 use Rattle.part_core.specs.declared.event.PartEvent.{PartEvent}
 use Rattle.part_core.specs.declared.event.PartEvent.TheVariants as events
 use Rattle.part_cells.specs.declared.actor_cell.ActorCell.{ActorCell}
-use Rattle.part_cells.specs.Keys.{same_key}
+use Rattle.actor_names.specs.Same.{same_key}
 use Rattle.part_cells.specs.Cells.{cell_at, cell_of_call}
 use Rattle.part_core.specs.Marks.{PartMark, marks_of_ends, marks_of_inactive, marks_of_stop}
 use Rattle.part_core.specs.Part

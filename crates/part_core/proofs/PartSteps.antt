@@ -15,7 +15,7 @@ use Rattle.turn_core.proofs.CellKeeps.{line_sound, without_call_sound, turn_begi
 use Rattle.part_core.specs.declared.stage.Stage.TheVariants.{Open, Stopped}
 use Rattle.part_core.specs.declared.event.PartEvent.{PartEvent}
 use Rattle.part_cells.specs.declared.actor_cell.ActorCell.{ActorCell}
-use Rattle.part_core.specs.Keys.{same_member}
+use Rattle.actor_names.specs.Same.{same_member}
 use Rattle.part_cells.specs.Cells.{cell_at, cell_of_call}
 use Rattle.part_core.specs.Part
 use Rattle.part_core.specs.Part.{PartState, PartStep, CellStep, refused, with_cell, asked_step, ask_cell, ask_owned, found_or_first, call_chain, chain_or, made_chain, is_full, is_spent, is_open, is_updated, is_locked, is_own, is_foreign, is_owned_by, is_drained, may_begin, each_cell}

@@ -14,7 +14,7 @@ use Rattle.turn_core.proofs.Overlaps.{Enters, EntersAll, EntersAll-append, isola
 use Rattle.part_core.specs.declared.settings.TypeSettings.{TypeSettings}
 use Rattle.part_core.specs.declared.event.PartEvent.{PartEvent}
 use Rattle.part_cells.specs.declared.actor_cell.ActorCell.{ActorCell}
-use Rattle.part_cells.specs.Keys.{same_key}
+use Rattle.actor_names.specs.Same.{same_key}
 use Rattle.part_core.specs.Settings.{settings_of}
 use Rattle.part_cells.specs.Cells.{cell_at}
 use Rattle.part_core.specs.Marks.{PartMark, TurnBegan, TurnEnded, BecameActive, BecameInactive, PartOpened}

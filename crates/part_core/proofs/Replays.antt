@@ -5,7 +5,7 @@ use Rattle.actor_names.specs.declared.actor_key.ActorKey.{ActorKey}
 use Rattle.turn_core.specs.declared.cell.Turn.{Turn}
 use Rattle.turn_core.specs.CellSound.{In}
 use Rattle.part_cells.specs.declared.actor_cell.ActorCell.{ActorCell}
-use Rattle.part_cells.specs.Keys.{same_key, key_before}
+use Rattle.actor_names.specs.Same.{same_key, key_before}
 use Rattle.part_cells.specs.Cells.{cell_at, insert_cell, drop_cell, keep_cell, is_kept}
 use Rattle.part_core.specs.Marks.{PartMark, TurnBegan, TurnEnded, BecameActive, BecameInactive, PartOpened}
 use Rattle.part_cells.specs.Order.{AreInOrder}

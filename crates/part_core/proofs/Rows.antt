@@ -3,6 +3,7 @@ use Rattle.std.proofs.Common.{◌≡◌, ℕ, true, false, List, [], ◌∷◌, 
 use Rattle.std.specs.Prelude.{codes}
 use Rattle.std.specs.Fmt.{digits}
 use Rattle.actor_names.specs.declared.actor_key.ActorKey.{ActorKey}
+use Rattle.actor_names.specs.Names.{default_space}
 use Rattle.actor_names.specs.declared.member.Member.{Member}
 use Rattle.place_table.specs.declared.host.HostInfo.{HostInfo}
 use Rattle.place_table.specs.Hosts.{PlacementTable}
@@ -17,10 +18,10 @@ use Rattle.part_core.specs.Marks.{PartMark, TurnBegan, TurnEnded, BecameActive, 
 use Rattle.part_core.specs.Part.{PartState, new_part, made_chain, part_step}
 
 abbrev a : Member
-a = record { node = 97 ∷ []; boot = 1 }
+a = record { space = default_space; node = 97 ∷ []; boot = 1 }
 
 abbrev b : Member
-b = record { node = 98 ∷ []; boot = 2 }
+b = record { space = default_space; node = 98 ∷ []; boot = 2 }
 
 -- `counter/7` and `counter/8`, and `nested/7`, whose type has reentrancy on at a depth of 2
 abbrev counter : List ℕ
@@ -30,13 +31,13 @@ abbrev nested : List ℕ
 nested = 110 ∷ []
 
 abbrev key : ActorKey
-key = record { kind = counter; id = 55 ∷ [] }
+key = record { space = default_space; kind = counter; id = 55 ∷ [] }
 
 abbrev other : ActorKey
-other = record { kind = counter; id = 56 ∷ [] }
+other = record { space = default_space; kind = counter; id = 56 ∷ [] }
 
 abbrev chained : ActorKey
-chained = record { kind = nested; id = 55 ∷ [] }
+chained = record { space = default_space; kind = nested; id = 55 ∷ [] }
 
 abbrev host : Member → HostInfo
 host m = record { member = m; app = 120 ∷ []; address = record { ip = 1; port = 1 }; kinds = counter ∷ [] }
@@ -50,10 +51,10 @@ abbrev owner : PlacementTable → ActorKey → Option HostInfo
 owner table k = last_host table.hosts
 
 abbrev table_1 : PlacementTable
-table_1 = record { version = 1; hosts = host a ∷ [] }
+table_1 = record { space = default_space; version = 1; hosts = host a ∷ [] }
 
 abbrev table_2 : PlacementTable
-table_2 = record { version = 2; hosts = host a ∷ host b ∷ [] }
+table_2 = record { space = default_space; version = 2; hosts = host a ∷ host b ∷ [] }
 
 abbrev fresh : PartState
 fresh = new_part a 3 (record { kind = nested; idle_ms = 1000; drain_ms = 0; depth = 2 } ∷ [])

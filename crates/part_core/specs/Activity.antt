@@ -8,7 +8,7 @@ use Rattle.turn_core.specs.CellSound.{In}
 use Rattle.part_core.specs.declared.event.PartEvent.{PartEvent}
 use Rattle.part_core.specs.declared.event.PartEvent.TheVariants as events
 use Rattle.part_cells.specs.declared.actor_cell.ActorCell.{ActorCell}
-use Rattle.part_cells.specs.Keys.{same_key}
+use Rattle.actor_names.specs.Same.{same_key}
 use Rattle.part_core.specs.Settings.{settings_of}
 use Rattle.part_cells.specs.Cells.{cell_at}
 use Rattle.part_core.specs.Marks.{PartMark, TurnBegan, TurnEnded, BecameActive, BecameInactive, PartOpened}

@@ -1,4 +1,3 @@
-pub mod Keys
 pub mod Receipts
 pub mod Settings
 pub mod Marks

@@ -28,7 +28,7 @@ use Rattle.part_core.specs.declared.event.PartEvent.TheVariants as events
 use Rattle.part_core.specs.declared.event.PartReply.{PartReply}
 use Rattle.part_core.specs.declared.event.PartReply.TheVariants as replies
 use Rattle.part_cells.specs.declared.actor_cell.ActorCell.{ActorCell}
-use Rattle.part_core.specs.Keys.{same_member}
+use Rattle.actor_names.specs.Same.{same_member}
 use Rattle.part_core.specs.Receipts.{ReceiptState}
 use Rattle.part_core.specs.Settings.{settings_of}
 use Rattle.part_cells.specs.Cells.{cell_at, keep_cell, cell_of_call, first_cell}
@@ -58,12 +58,13 @@ most_drawn = 2 ^ 62
 abbrev pub most_cells : ℕ
 most_cells = 65536
 
-abbrev pub no_table : PlacementTable
-no_table = record { version = 0; hosts = [] }
+-- the table of a space before the first round
+abbrev pub no_table : List ℕ → PlacementTable
+no_table space = record { space = space; version = 0; hosts = [] }
 
 abbrev pub new_part : Member → ℕ → List TypeSettings → PartState
 new_part m number kinds =
-    record { member = m; number = number; kinds = kinds; stage = Locked; seen = 0; opened = 0; table = no_table; since = 0; drawn = 0; cells = [] }
+    record { member = m; number = number; kinds = kinds; stage = Locked; seen = 0; opened = 0; table = no_table m.space; since = 0; drawn = 0; cells = [] }
 
 -- the host that owns an actor in a table, by the ring; no proof looks into it
 unfoldable pub ring_owner : PlacementTable → ActorKey → Option HostInfo

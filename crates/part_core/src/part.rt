@@ -46,7 +46,7 @@ impl Part {
             part,
             kinds,
         } = settings;
-        match build_table(alloc, 0, &[]) {
+        match build_table(alloc, &member.space, 0, &[]) {
             Err(_) => Err(OutOfMemory),
             Ok(table) => {
                 let standing = Standing {

@@ -1,6 +1,6 @@
 // Receipts: what a part shows of itself.
 ghost use Rattle.std.specs.Prelude.{◌≡◌, ◌≤◌, ◌^◌};
-ghost use Rattle.part_core.specs.Keys.{same_member};
+ghost use Rattle.actor_names.specs.Same.{same_member};
 
 use actor_names::Member;
 use std::marker::Model;

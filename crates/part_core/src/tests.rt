@@ -3,7 +3,9 @@ ghost use Rattle.std.specs.Prelude.{◌≡◌, ◌≤◌, ◌^◌, IfOk};
 ghost use Rattle.part_core.specs.Rooms.{IsInRange};
 
 use super::*;
-use actor_names::{ActorKey, read_actor_type, read_address, read_app_id, read_key, read_member};
+use actor_names::{
+    ActorKey, default_space, read_actor_type, read_address, read_app_id, read_key, read_member,
+};
 use place_table::{ActorTypes, HostInfo, Table, build_table};
 use std::alloc::Global;
 use std::test::Fail;
@@ -99,7 +101,7 @@ fn table_of(alloc: Global, version: u64, member: &[u8]) -> Result<Table, Fail>
         address: read_address(b"127.0.0.1:3500")?,
         kinds: ActorTypes::from_vec(kinds),
     };
-    Ok(build_table(alloc, version, &[host])?)
+    Ok(build_table(alloc, &default_space(), version, &[host])?)
 }
 
 /// Part 3 of `a/1`, where `nested` has reentrancy on at a depth of 2.

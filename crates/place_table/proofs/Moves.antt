@@ -4,11 +4,12 @@ use Rattle.std.proofs.Common.{refl, sym, ◌∙◌, ap, subst, inl, inr, append-
 use Rattle.std.proofs.lemmas.Grind.{flat_map-append}
 use Rattle.std.proofs.lemmas.List.Elements.{Contains-append_left, Contains-append_right, Contains-append_cases}
 use Rattle.std.proofs.lemmas.List.Sorted.{Contains-permutation, IsPermutation-sym}
+use Rattle.std.specs.Str.{bytes_eq}
 use Rattle.actor_names.specs.declared.actor_key.ActorKey.{ActorKey}
 use Rattle.place_table.specs.declared.point.Point.{Point}
 use Rattle.place_table.specs.declared.host.HostInfo.{HostInfo}
 use Rattle.place_table.specs.Ring.{owner_point, IsOwner}
-use Rattle.place_table.specs.Hosts.{node_of, serves, node_places, node_points, point_at, host_points, ring_points, owner_of, key_place}
+use Rattle.place_table.specs.Hosts.{node_of, serves, node_places, node_points, point_at, host_points, ring_points, owner_of, given_owner, key_place}
 use Rattle.place_table.proofs.Owners.{none_in_nil, Contains-head, Contains-tail, Contains-cons_cases, owner_cases, owner_determined}
 use Rattle.place_table.proofs.Picks.{among_from_owner}
 
@@ -100,6 +101,18 @@ owner_more hosts h key =
 
 pub taken_by_new : (hosts : List HostInfo) (h : HostInfo) (key : ActorKey) → (owner_of (hosts ++ h ∷ []) key ≢ owner_of hosts key) → owner_of (hosts ++ h ∷ []) key ≡ Some (node_of h)
 taken_by_new hosts h key moved = elim (owner_more hosts h key) [ inl taken ↦ taken | inr same ↦ absurd (moved same) ]
+
+-- ---- the owners that tables of a space give
+
+pub given_permuted : (a b : List ℕ) (xs ys : List HostInfo) (key : ActorKey) → a ≡ b → IsPermutation xs ys → given_owner a xs key ≡ given_owner b ys key
+given_permuted a b xs ys key e same = rw (e, owner_permuted xs ys key same) refl
+
+pub given_to_new : (space : List ℕ) (hosts : List HostInfo) (h : HostInfo) (key : ActorKey) → (given_owner space (hosts ++ h ∷ []) key ≢ given_owner space hosts key) → given_owner space (hosts ++ h ∷ []) key ≡ Some (node_of h)
+given_to_new space hosts h key = go (bytes_eq key.space space)
+  where
+    go : (b : Bool) → ((if b then owner_of (hosts ++ h ∷ []) key else None) ≢ (if b then owner_of hosts key else None)) → (if b then owner_of (hosts ++ h ∷ []) key else None) ≡ Some (node_of h)
+    go true moved = taken_by_new hosts h key moved
+    go false moved = absurd (moved refl)
 
 -- a fact that holds where two owners differ, said of equal owners
 pub moves_same : {P : Type 0} (a a' b b' : Option (List ℕ)) → a ≡ a' → b ≡ b' → P ↔ (a ≢ b) → P ↔ (a' ≢ b')

@@ -18,7 +18,7 @@ use Rattle.std.proofs.lemmas.Slice.Eq.{bytes_eq-Decides}
 use Rattle.place_table.specs.declared.host.HostInfo.{HostInfo}
 use Rattle.place_table.specs.declared.error.TableError.{TableError}
 use Rattle.place_table.specs.declared.error.TableError.TheVariants.{TooManyMembers, SameNode}
-use Rattle.place_table.specs.Hosts.{node_of, node_cmp, types_fault, same_node_fault, first_fault, table_fault}
+use Rattle.place_table.specs.Hosts.{node_of, node_cmp, types_fault, same_node_fault, other_space_fault, first_fault, table_fault}
 use Rattle.place_table.specs.Tables.{IsNodeSorted}
 
 pub node_cmp_total : IsTotalOrder node_cmp
@@ -89,12 +89,23 @@ second_none : (a b : Option TableError) → first_fault a b ≡ None → b ≡ N
 second_none None b e = e
 second_none (Some f) b e = absurd (true≢false (ap is_some e))
 
-pub distinct_allowed : (hosts : List HostInfo) → table_fault hosts ≡ None → IsDistinct hosts
-distinct_allowed hosts e = distinct_from [] hosts (split (nat_lt 256 (length hosts)) e) none_distinct
+first_none : (a b : Option TableError) → first_fault a b ≡ None → a ≡ None
+first_none None b e = refl
+first_none (Some f) b e = absurd (true≢false (ap is_some e))
+
+-- hosts of which a table is built have distinct nodes
+pub nodes_allowed : (space : List ℕ) (hosts : List HostInfo) → table_fault space hosts ≡ None → same_node_fault [] hosts ≡ None
+nodes_allowed space hosts e = split (nat_lt 256 (length hosts)) e
   where
-    split : (b : Bool) → (if b then Some (TooManyMembers (length hosts)) else first_fault (types_fault hosts) (same_node_fault [] hosts)) ≡ None → same_node_fault [] hosts ≡ None
+    later : Option TableError
+    later = first_fault (same_node_fault [] hosts) (other_space_fault space hosts)
+
+    split : (b : Bool) → (if b then Some (TooManyMembers (length hosts)) else first_fault (types_fault hosts) later) ≡ None → same_node_fault [] hosts ≡ None
     split true f = absurd (true≢false (ap is_some f))
-    split false f = second_none (types_fault hosts) (same_node_fault [] hosts) f
+    split false f = first_none (same_node_fault [] hosts) (other_space_fault space hosts) (second_none (types_fault hosts) later f)
+
+pub distinct_allowed : (hosts : List HostInfo) → same_node_fault [] hosts ≡ None → IsDistinct hosts
+distinct_allowed hosts e = distinct_from [] hosts e none_distinct
 
 pub distinct_permuted : (xs ys : List HostInfo) → IsPermutation xs ys → IsDistinct xs → IsDistinct ys
 unfolding IsDistinct

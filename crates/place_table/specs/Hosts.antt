@@ -9,7 +9,7 @@ use Rattle.actor_names.specs.declared.actor_key.ActorKey.{ActorKey}
 use Rattle.place_table.specs.declared.point.Point.{Point}
 use Rattle.place_table.specs.declared.host.HostInfo.{HostInfo}
 use Rattle.place_table.specs.declared.error.TableError.{TableError}
-use Rattle.place_table.specs.declared.error.TableError.TheVariants.{TooManyMembers, TooManyTypes, SameNode, OutOfMemory}
+use Rattle.place_table.specs.declared.error.TableError.TheVariants.{TooManyMembers, TooManyTypes, SameNode, OtherSpace, OutOfMemory}
 use Rattle.place_table.specs.Hash.{place_of, point_text}
 use Rattle.place_table.specs.Ring.{owner_point}
 
@@ -47,12 +47,17 @@ host_points kind host = if serves host kind then node_points (node_of host) else
 abbrev pub ring_points : List HostInfo → List ℕ → List Point
 ring_points hosts kind = flat_map (host_points kind) hosts
 
--- the node that owns an actor among the hosts
+-- the node that owns an actor among the hosts, whatever its space
 abbrev pub owner_of : List HostInfo → ActorKey → Option (List ℕ)
 owner_of hosts key = option_map (λ p. p.node) (owner_point (ring_points hosts key.kind) (key_place key.id))
 
--- a placement table: a version, and hosts of distinct nodes in byte order of node
+-- the node to which a table of the space gives an actor among the hosts: none where the actor is of another space
+abbrev pub given_owner : List ℕ → List HostInfo → ActorKey → Option (List ℕ)
+given_owner space hosts key = if bytes_eq key.space space then owner_of hosts key else None
+
+-- a placement table: a space, a version, and hosts of that space and of distinct nodes in byte order of node
 pub record PlacementTable : Type 0 where
+  pub space : List ℕ
   pub version : ℕ
   pub hosts : List HostInfo
 
@@ -61,7 +66,7 @@ host_of hosts node = find (λ h. bytes_eq (node_of h) node) hosts
 
 -- the host that owns an actor in a table
 abbrev pub table_owner : PlacementTable → ActorKey → Option HostInfo
-table_owner table key = option_and_then (host_of table.hosts) (owner_of table.hosts key)
+table_owner table key = option_and_then (host_of table.hosts) (given_owner table.space table.hosts key)
 
 -- hosts in byte order of node
 abbrev pub node_cmp : HostInfo → HostInfo → Ordering
@@ -77,13 +82,19 @@ abbrev pub same_node_fault : List HostInfo → List HostInfo → Option TableErr
 same_node_fault earlier [] = None
 same_node_fault earlier (h ∷ hs) = if list_any (λ e. bytes_eq (node_of e) (node_of h)) earlier then Some (SameNode (node_of h)) else same_node_fault (earlier ++ h ∷ []) hs
 
+-- the first host of another space
+abbrev pub other_space_fault : List ℕ → List HostInfo → Option TableError
+other_space_fault space [] = None
+other_space_fault space (h ∷ hs) = if bytes_eq h.member.space space then other_space_fault space hs else Some (OtherSpace (node_of h))
+
 abbrev pub first_fault : Option TableError → Option TableError → Option TableError
 first_fault None second = second
 first_fault (Some e) second = Some e
 
--- why no table of these hosts is built, memory apart
-abbrev pub table_fault : List HostInfo → Option TableError
-table_fault hosts = if nat_lt 256 (length hosts) then Some (TooManyMembers (length hosts)) else first_fault (types_fault hosts) (same_node_fault [] hosts)
+-- why no table of these hosts is built for the space, memory apart
+abbrev pub table_fault : List ℕ → List HostInfo → Option TableError
+table_fault space hosts =
+    if nat_lt 256 (length hosts) then Some (TooManyMembers (length hosts)) else first_fault (types_fault hosts) (first_fault (same_node_fault [] hosts) (other_space_fault space hosts))
 
 -- hosts with a fault are refused with that very fault; of any others a table is built, unless there is no memory for it
 abbrev pub BuildsTable : {A : Type 0} → Option TableError → Result A TableError → Type 0

@@ -15,6 +15,9 @@ pub enum TableError {
     /// Two hosts have the node `name`; it is the first in the given order that stood before.
     #[error("two members of one node")]
     SameNode { name: Node },
+    /// The host of `node`, the first such one in the given order, is of another space than the table.
+    #[error("a member of another space")]
+    OtherSpace { node: Node },
     /// There was no memory for the table.
     #[error("out of memory")]
     OutOfMemory,

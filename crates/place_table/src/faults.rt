@@ -2,11 +2,11 @@
 ghost use Rattle.std.specs.Prelude.{◌≡◌, [], if◌then◌else◌};
 ghost use Rattle.std.specs.List.{list_any};
 ghost use Rattle.std.specs.Str.{bytes_eq};
-ghost use Rattle.place_table.specs.Hosts.{node_of, types_fault, same_node_fault, table_fault};
+ghost use Rattle.place_table.specs.Hosts.{node_of, types_fault, same_node_fault, other_space_fault, table_fault};
 
 use crate::error::TableError;
 use crate::host::HostInfo;
-use actor_names::Node;
+use actor_names::{Node, Space};
 
 /// The most hosts of a table.
 pub const MOST_HOSTS: usize = 256;
@@ -50,16 +50,33 @@ fn same_node_fault(hosts: &[HostInfo]) -> Option<TableError>
     None
 }
 
-// Why no table of these hosts is built, memory apart.
-pub(crate) fn table_fault(hosts: &[HostInfo]) -> Option<TableError>
-    ensures { result ≡ table_fault hosts.now }
+// The first host of another space.
+fn other_space_fault(space: &Space, hosts: &[HostInfo]) -> Option<TableError>
+    ensures { result ≡ other_space_fault space.now hosts.now }
+{
+    for host in hosts {
+        if host.member.space != *space {
+            return Some(TableError::OtherSpace {
+                node: host.member.node,
+            });
+        }
+    }
+    None
+}
+
+// Why no table of these hosts is built for the space, memory apart.
+pub(crate) fn table_fault(space: &Space, hosts: &[HostInfo]) -> Option<TableError>
+    ensures { result ≡ table_fault space.now hosts.now }
 {
     let n = hosts.len();
     if n > MOST_HOSTS {
         return Some(TableError::TooManyMembers { n: n as u64 });
     }
-    match types_fault(hosts) {
+    if let Some(fault) = types_fault(hosts) {
+        return Some(fault);
+    }
+    match same_node_fault(hosts) {
         Some(fault) => Some(fault),
-        None => same_node_fault(hosts),
+        None => other_space_fault(space, hosts),
     }
 }

@@ -1,13 +1,13 @@
 // Which host takes an actor when a host is added.
 ghost use Rattle.std.specs.Prelude.{◌≡◌, ◌≢◌, ◌↔◌, ◌∷◌, ◌++◌, [], None, IfOk, OnOk, IsTrue, option_map};
 ghost use Rattle.std.specs.Option.{option_copied};
-ghost use Rattle.place_table.specs.Hosts.{node_of, owner_of, table_fault, RefusesTables};
+ghost use Rattle.place_table.specs.Hosts.{node_of, given_owner, table_fault, RefusesTables};
 
 use crate::error::TableError;
 use crate::host::HostInfo;
 use crate::sort::copy_hosts;
 use crate::table::{Table, build_table};
-use actor_names::{ActorKey, OutOfMemory};
+use actor_names::{ActorKey, OutOfMemory, Space};
 use std::alloc::Global;
 
 // Equal hosts, and one more.
@@ -36,27 +36,28 @@ fn is_same_node(first: Option<&HostInfo>, second: Option<&HostInfo>) -> bool
 
 // Tests whether the tables give the actor to hosts of different nodes.
 fn has_moved(before: &Table, after: &Table, key: &ActorKey) -> bool
-    ensures { IsTrue result ↔ (owner_of after.now.hosts key.now ≢ owner_of before.now.hosts key.now) }
+    ensures { IsTrue result ↔ (given_owner after.now.space after.now.hosts key.now ≢ given_owner before.now.space before.now.hosts key.now) }
 {
     !is_same_node(after.owner_uncounted(key), before.owner_uncounted(key))
 }
 
-/// Whether the actor has another owner among the hosts and one more than among the hosts alone, in tables of
-/// version 1; its owner is then the new host. A fault is that of the smaller table, or else of the larger.
+/// Whether the actor has another owner among the hosts of a space and one more than among the hosts alone, in tables
+/// of version 1; its owner is then the new host. A fault is that of the smaller table, or else of the larger.
 pub fn moved_law(
     alloc: Global,
+    space: &Space,
     hosts: &[HostInfo],
     more: &HostInfo,
     key: &ActorKey,
 ) -> Result<bool, TableError>
-    ensures moved { IfOk result (λ moved. IsTrue moved ↔ (owner_of (hosts.now ++ more.now ∷ []) key.now ≢ owner_of hosts.now key.now)) }
-    ensures law { IfOk result (λ moved. IsTrue moved → owner_of (hosts.now ++ more.now ∷ []) key.now ≡ Some (node_of more.now)) }
-    ensures smaller { OnOk result (table_fault hosts.now ≡ None) }
-    ensures larger { OnOk result (table_fault (hosts.now ++ more.now ∷ []) ≡ None) }
-    ensures refused { RefusesTables (table_fault hosts.now) (table_fault (hosts.now ++ more.now ∷ [])) result }
+    ensures moved { IfOk result (λ moved. IsTrue moved ↔ (given_owner space.now (hosts.now ++ more.now ∷ []) key.now ≢ given_owner space.now hosts.now key.now)) }
+    ensures law { IfOk result (λ moved. IsTrue moved → given_owner space.now (hosts.now ++ more.now ∷ []) key.now ≡ Some (node_of more.now)) }
+    ensures smaller { OnOk result (table_fault space.now hosts.now ≡ None) }
+    ensures larger { OnOk result (table_fault space.now (hosts.now ++ more.now ∷ []) ≡ None) }
+    ensures refused { RefusesTables (table_fault space.now hosts.now) (table_fault space.now (hosts.now ++ more.now ∷ [])) result }
 {
-    let before = build_table(alloc, 1, hosts)?;
+    let before = build_table(alloc, space, 1, hosts)?;
     let both = larger_hosts(alloc, hosts, more)?;
-    let after = build_table(alloc, 1, both.as_slice())?;
+    let after = build_table(alloc, space, 1, both.as_slice())?;
     Ok(has_moved(&before, &after, key))
 }

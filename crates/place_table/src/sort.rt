@@ -1,6 +1,6 @@
 // Copies of hosts, in byte order of node.
-ghost use Rattle.std.specs.Prelude.{◌≡◌, None, IfOk, IsPermutation, IsSorted};
-ghost use Rattle.place_table.specs.Hosts.{node_cmp, table_fault};
+ghost use Rattle.std.specs.Prelude.{◌≡◌, [], None, IfOk, IsPermutation, IsSorted};
+ghost use Rattle.place_table.specs.Hosts.{node_cmp, same_node_fault};
 ghost use Rattle.place_table.specs.Tables.{IsNodeSorted};
 
 use crate::host::HostInfo;
@@ -28,7 +28,7 @@ fn sort_hosts(hosts: &mut Vec<HostInfo>)
 
 // Equal hosts of distinct nodes, in byte order of node.
 pub(crate) fn sorted_hosts(alloc: Global, hosts: &[HostInfo]) -> Result<Vec<HostInfo>, OutOfMemory>
-    requires { table_fault hosts.now ≡ None }
+    requires { same_node_fault [] hosts.now ≡ None }
     ensures same { IfOk result (λ v. IsPermutation hosts.now v.items) }
     ensures order { IfOk result (λ v. IsNodeSorted v.items) }
 {

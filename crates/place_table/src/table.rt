@@ -1,8 +1,9 @@
 // Placement tables.
-ghost use Rattle.std.specs.Prelude.{◌≡◌, ◌↔◌, ◌<◌, ◌≤◌, ◌+◌, ◌-◌, ◌*◌, ◌^◌, ℕ, List, [], length, false, IsNone, None, IfSome, IfOk, OnOk, Contains, IsPermutation, option_map, option_and_then};
+ghost use Rattle.std.specs.Prelude.{◌≡◌, ◌↔◌, ◌<◌, ◌≤◌, ◌+◌, ◌-◌, ◌*◌, ◌^◌, ℕ, List, [], length, true, false, ◌&&◌, IsNone, None, IfSome, IfOk, OnOk, Contains, IsPermutation, option_map, option_and_then};
 ghost use Rattle.std.specs.List.{list_any};
+ghost use Rattle.std.specs.Str.{bytes_eq};
 ghost use Rattle.std.specs.Option.{option_copied};
-ghost use Rattle.place_table.specs.Hosts.{node_of, serves, ring_points, key_place, host_of, owner_of, table_owner, table_fault, types_fault, same_node_fault, BuildsTable};
+ghost use Rattle.place_table.specs.Hosts.{node_of, serves, ring_points, key_place, host_of, owner_of, given_owner, table_owner, table_fault, types_fault, same_node_fault, other_space_fault, BuildsTable};
 ghost use Rattle.place_table.specs.Ring.{IsOwner};
 ghost use Rattle.place_table.specs.Tables.{IsNodeSorted, IsTableKept};
 ghost use Rattle.place_table.specs.declared.point.Point.{Point};
@@ -15,7 +16,7 @@ use crate::host::HostInfo;
 use crate::slots::{owner_slot, ring_slots};
 use crate::sort::sorted_hosts;
 use crate::steps::Steps;
-use actor_names::{ActorKey, ActorType, OutOfMemory};
+use actor_names::{ActorKey, ActorType, OutOfMemory, Space};
 use std::alloc::Global;
 use std::marker::{Brand, Model};
 use std::sync::Arc;
@@ -42,10 +43,11 @@ pub(crate) struct Kept {
     rings: Vec<TypeRing>,
 }
 
-/// The hosts of a cluster in byte order of node, at one version. Its copies share the hosts and their points, also
+/// The hosts of one space in byte order of node, at one version. Its copies share the hosts and their points, also
 /// in other threads.
 #[derive(Drop)]
 pub struct Table {
+    space: Space,
     version: u64,
     kept: Arc<Kept, Global>,
 }
@@ -56,12 +58,19 @@ impl Model for Table {
 
     ghost Value = { PlacementTable };
 
-    ghost view = { λ a. record { version = a.version; hosts = a.kept.value.hosts.items } };
+    ghost view = { λ a. record { space = a.space; version = a.version; hosts = a.kept.value.hosts.items } };
 
     ghost invariant = { λ a. IsTableKept a.kept.value.hosts.items a.kept.value.rings.items };
 }
 
 impl Table {
+    /// The table's space.
+    pub fn space(&self) -> &Space
+        ensures { result.now ≡ self.now.space }
+    {
+        &self.space
+    }
+
     /// The table's version.
     pub fn version(&self) -> u64
         ensures { result ≡ self.now.version }
@@ -78,17 +87,22 @@ impl Table {
         kept.hosts.as_slice()
     }
 
-    /// The host that owns the actor; None where no host serves the type. The actor's id is hashed once, the points
-    /// of its type are searched by halves, and no memory is asked for. Each point that is looked at counts one step.
+    /// The host that owns the actor; None where the actor is of another space or no host serves its type. The
+    /// actor's id is hashed once, the points of its type are searched by halves, and no memory is asked for. Each
+    /// point that is looked at counts one step.
     pub fn owner<L: Ledger>(&self, key: &ActorKey, steps: &mut Steps<L>) -> Option<&HostInfo>
         ensures owner { option_copied result ≡ table_owner self.now key.now }
-        ensures node { option_map node_of (option_copied result) ≡ owner_of self.now.hosts key.now }
+        ensures node { option_map node_of (option_copied result) ≡ given_owner self.now.space self.now.hosts key.now }
         ensures point { IfSome result (λ h. (p : Point) × IsOwner (ring_points self.now.hosts key.now.kind) (key_place key.now.id) p × (p.node ≡ node_of h.now)) }
         ensures among { IfSome result (λ h. Contains self.now.hosts h.now) }
-        ensures none { IsNone result ↔ (list_any (λ h. serves h key.now.kind) self.now.hosts ≡ false) }
+        ensures space { IfSome result (λ h. bytes_eq key.now.space self.now.space ≡ true) }
+        ensures none { IsNone result ↔ ((bytes_eq key.now.space self.now.space && list_any (λ h. serves h key.now.kind) self.now.hosts) ≡ false) }
         ensures counted { steps.old ≤ steps.new }
         ensures probes { 2 ^ (steps.new - steps.old) ≤ 2 * length (ring_points self.now.hosts key.now.kind) + 2 }
     {
+        if key.space != self.space {
+            return None;
+        }
         let kept: &Kept = &self.kept;
         owner_host(kept.hosts.as_slice(), kept.rings.as_slice(), key, steps)
     }
@@ -96,7 +110,7 @@ impl Table {
     /// The host that owns the actor, for a caller without interest in the count: looked up with a fresh counter.
     pub fn owner_uncounted(&self, key: &ActorKey) -> Option<&HostInfo>
         ensures owner { option_copied result ≡ table_owner self.now key.now }
-        ensures node { option_map node_of (option_copied result) ≡ owner_of self.now.hosts key.now }
+        ensures node { option_map node_of (option_copied result) ≡ given_owner self.now.space self.now.hosts key.now }
     {
         fresh_owner::<Brand>(self, key, Blank::new(1))
     }
@@ -108,45 +122,63 @@ impl Table {
     {
         let kept = Arc::try_clone(&self.kept)?;
         Ok(Table {
+            space: self.space,
             version: self.version,
             kept,
         })
     }
 }
 
-// The table of the hosts at the version.
-fn make_table(alloc: Global, version: u64, hosts: &[HostInfo]) -> Result<Table, TableError>
+// The table of the hosts of the space at the version.
+fn make_table(
+    alloc: Global,
+    space: &Space,
+    version: u64,
+    hosts: &[HostInfo],
+) -> Result<Table, TableError>
+    ensures space { IfOk result (λ t. t.space ≡ space.now) }
     ensures version { IfOk result (λ t. t.version ≡ version) }
     ensures hosts { IfOk result (λ t. IsPermutation hosts.now t.hosts) }
     ensures order { IfOk result (λ t. IsNodeSorted t.hosts) }
-    ensures sound { OnOk result (table_fault hosts.now ≡ None) }
-    ensures refused { BuildsTable (table_fault hosts.now) result }
+    ensures sound { OnOk result (table_fault space.now hosts.now ≡ None) }
+    ensures refused { BuildsTable (table_fault space.now hosts.now) result }
 {
-    match table_fault(hosts) {
+    match table_fault(space, hosts) {
         Some(fault) => Err(fault),
         None => {
             let hosts = sorted_hosts(alloc, hosts)?;
             let rows = all_places(alloc, hosts.as_slice())?;
             let rings = all_rings(alloc, hosts.as_slice(), rows.as_slice())?;
             let kept = Arc::new(alloc, Kept { hosts, rings })?;
-            Ok(Table { version, kept })
+            Ok(Table {
+                space: *space,
+                version,
+                kept,
+            })
         }
     }
 }
 
-/// The table of the hosts at the version, its hosts equal to the given ones and in byte order of node. A fault of
-/// the hosts is answered before memory is asked for; the points of each host are hashed once.
-pub fn build_table(alloc: Global, version: u64, hosts: &[HostInfo]) -> Result<Table, TableError>
+/// The table of the hosts of the space at the version, its hosts equal to the given ones and in byte order of node.
+/// A fault of the hosts is answered before memory is asked for; the points of each host are hashed once.
+pub fn build_table(
+    alloc: Global,
+    space: &Space,
+    version: u64,
+    hosts: &[HostInfo],
+) -> Result<Table, TableError>
+    ensures space { IfOk result (λ t. t.space ≡ space.now) }
     ensures version { IfOk result (λ t. t.version ≡ version) }
     ensures hosts { IfOk result (λ t. IsPermutation hosts.now t.hosts) }
     ensures order { IfOk result (λ t. IsNodeSorted t.hosts) }
-    ensures sound { OnOk result (table_fault hosts.now ≡ None) }
-    ensures refused { BuildsTable (table_fault hosts.now) result }
+    ensures sound { OnOk result (table_fault space.now hosts.now ≡ None) }
+    ensures refused { BuildsTable (table_fault space.now hosts.now) result }
     ensures members { (n : ℕ) → (result ≡ Err (TableError.TooManyMembers n)) ↔ ((n ≡ length hosts.now) × (256 < n)) }
     ensures types { (node : List ℕ) (n : ℕ) → (result ≡ Err (TableError.TooManyTypes node n)) ↔ ((length hosts.now ≤ 256) × (types_fault hosts.now ≡ Some (TableError.TooManyTypes node n))) }
     ensures same { (name : List ℕ) → (result ≡ Err (TableError.SameNode name)) ↔ ((length hosts.now ≤ 256) × (types_fault hosts.now ≡ None) × (same_node_fault [] hosts.now ≡ Some (TableError.SameNode name))) }
+    ensures other { (node : List ℕ) → (result ≡ Err (TableError.OtherSpace node)) ↔ ((length hosts.now ≤ 256) × (types_fault hosts.now ≡ None) × (same_node_fault [] hosts.now ≡ None) × (other_space_fault space.now hosts.now ≡ Some (TableError.OtherSpace node))) }
 {
-    make_table(alloc, version, hosts)
+    make_table(alloc, space, version, hosts)
 }
 
 // The host that owns the actor, looked up with a counter of the ledger that the blank stands for.
@@ -159,7 +191,7 @@ fn fresh_owner<'a, L: Ledger>(
     requires parts { blank.parts ≡ L.parts }
     requires some { 0 < blank.parts }
     ensures owner { option_copied result ≡ table_owner table.now key.now }
-    ensures node { option_map node_of (option_copied result) ≡ owner_of table.now.hosts key.now }
+    ensures node { option_map node_of (option_copied result) ≡ given_owner table.now.space table.now.hosts key.now }
 {
     let mut steps = Steps::<L>::new(blank);
     table.owner(key, &mut steps)

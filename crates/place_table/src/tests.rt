@@ -1,8 +1,8 @@
 use super::*;
 use crate::hash::point_place;
 use actor_names::{
-    ActorKey, ActorType, read_actor_id, read_actor_type, read_address, read_app_id, read_key,
-    read_member, read_node,
+    ActorKey, ActorType, default_space, read_actor_id, read_actor_type, read_address, read_app_id,
+    read_key, read_member, read_node,
 };
 use std::alloc::Global;
 use std::test::Fail;
@@ -86,7 +86,7 @@ fn build_table_refuses_same_node(rt: HostRuntime) -> Result<(), Fail> {
     let mut hosts = some_hosts(alloc)?;
     hosts.push(host(alloc, b"c/2", &[])?)?;
     hosts.push(host(alloc, b"a/2", &[])?)?;
-    let fault = build_table(alloc, 1, hosts.as_slice())
+    let fault = build_table(alloc, &default_space(), 1, hosts.as_slice())
         .err()
         .ok_or("a table")?;
     assert_eq!(rt; same_node(&fault), b"c".as_slice());
@@ -98,7 +98,7 @@ fn first_host_takes_every_key(rt: HostRuntime) -> Result<(), Fail> {
     let alloc = rt.alloc();
     let first = host(alloc, b"a/1", &[b"counter"])?;
     let key = read_key(alloc, b"counter/7")?;
-    assert!(rt; moved_law(alloc, &[], &first, &key)?);
+    assert!(rt; moved_law(alloc, &default_space(), &[], &first, &key)?);
     Ok(())
 }
 
@@ -109,7 +109,7 @@ type Owners = (&'static [u8], &'static [u8], &'static [u8]);
 #[test]
 fn owners_are_those_of_another_sha256(rt: HostRuntime) -> Result<(), Fail> {
     let alloc = rt.alloc();
-    let table = build_table(alloc, 3, some_hosts(alloc)?.as_slice())?;
+    let table = build_table(alloc, &default_space(), 3, some_hosts(alloc)?.as_slice())?;
     let rows: [Owners; 6] = [
         (b"abc", b"node-3", b"a"),
         (b"hello", b"b", b"a"),
@@ -120,11 +120,13 @@ fn owners_are_those_of_another_sha256(rt: HostRuntime) -> Result<(), Fail> {
     ];
     for (id, counter, timer) in rows {
         let counter_key = ActorKey {
+            space: default_space(),
             kind: read_actor_type(alloc, b"counter")?,
             id: read_actor_id(alloc, id)?,
         };
         assert_eq!(rt; owner_node(&table, &counter_key), counter);
         let timer_key = ActorKey {
+            space: default_space(),
             kind: read_actor_type(alloc, b"timer")?,
             id: read_actor_id(alloc, id)?,
         };
@@ -163,6 +165,7 @@ fn compare_owners(alloc: Global, table: &Table, kind: &[u8], ids: u32) -> Result
     for number in 0..ids {
         let id = format!(in alloc; "{number}")?;
         let key = ActorKey {
+            space: default_space(),
             kind: kind.copy(alloc)?,
             id: read_actor_id(alloc, id.as_bytes())?,
         };
@@ -183,7 +186,7 @@ fn compare_owners(alloc: Global, table: &Table, kind: &[u8], ids: u32) -> Result
 #[test]
 fn search_gives_what_a_scan_gives(rt: HostRuntime) -> Result<(), Fail> {
     let alloc = rt.alloc();
-    let table = build_table(alloc, 1, some_hosts(alloc)?.as_slice())?;
+    let table = build_table(alloc, &default_space(), 1, some_hosts(alloc)?.as_slice())?;
     assert_eq!(rt; compare_owners(alloc, &table, b"counter", 1000)?, (1, 0));
     assert_eq!(rt; compare_owners(alloc, &table, b"timer", 5000)?, (5, 0));
     Ok(())
@@ -209,7 +212,7 @@ fn moved_table<T: Send>(table: T) -> T {
 #[test]
 fn copied_table_has_the_owners(rt: HostRuntime) -> Result<(), Fail> {
     let alloc = rt.alloc();
-    let table = build_table(alloc, 3, some_hosts(alloc)?.as_slice())?;
+    let table = build_table(alloc, &default_space(), 3, some_hosts(alloc)?.as_slice())?;
     let copy = moved_table(table.copy()?);
     let key = read_key(alloc, b"counter/abc")?;
     assert_eq!(rt; copy.version(), table.version());

@@ -11,21 +11,21 @@ use Rattle.round_core.specs.declared.event.PlaceReply.{PlaceReply}
 use Rattle.round_core.specs.declared.event.PlaceReply.TheVariants as replies
 use Rattle.round_core.specs.declared.phase.RoundPhase.{RoundPhase}
 use Rattle.round_core.specs.declared.phase.RoundPhase.TheVariants.{Quiet, Running}
-use Rattle.member_roster.specs.Members.{Joined, joined_node, hosts_of, of_node, has_boot, is_here, is_before, is_late, with_node, without_node, put_joined, late_of, heard_of, any_pending, entered, targeted, heard_at, acked_at, new_joined}
-use Rattle.round_core.specs.Placement.{PlacementState, Membership, Conclusion, Stays, Says, Tells, SameDurableState, next_stage, advance_round, may_start, start_round, advance_fully, settle_round, conclude, unchanged, not_member, with_member, with_joined, join_node, ack_change, remove_member, drop_late, apply_membership, placement_step}
+use Rattle.member_roster.specs.Members.{Joined, joined_node, hosts_of, of_node, is_the, is_here, is_before, is_late, with_node, without_node, put_joined, late_of, heard_of, any_pending, entered, targeted, heard_at, acked_at, new_joined}
+use Rattle.round_core.specs.Room.{RoomState, Membership, Conclusion, Stays, Says, Tells, SameDurableState, next_stage, advance_round, may_start, start_round, advance_fully, settle_round, conclude, unchanged, not_member, with_member, with_joined, join_node, ack_change, remove_member, drop_late, apply_membership, room_step}
 use Rattle.round_core.specs.Records.{RecordOf, changes_record, step_record}
-use Rattle.round_core.specs.Views.{PlacementView, Gives, GivesInMemory}
+use Rattle.round_core.specs.Views.{RoomView, Gives, GivesInMemory}
 use Rattle.round_core.proofs.Giving.{counted}
 
 -- greatest boots and members are the same
-pub record Keeps (s t : PlacementState) : Type 0 where
+pub record Keeps (s t : RoomState) : Type 0 where
   pub boots : t.boots ≡ s.boots
   pub hosts : hosts_of t.members ≡ hosts_of s.members
 
-pub keeps_all : (s : PlacementState) → Keeps s s
+pub keeps_all : (s : RoomState) → Keeps s s
 keeps_all s = record { boots = refl; hosts = refl }
 
-pub keeps_on : (s t u : PlacementState) → Keeps s t → Keeps t u → Keeps s u
+pub keeps_on : (s t u : RoomState) → Keeps s t → Keeps t u → Keeps s u
 keeps_on s t u a b = record { boots = b.boots ∙ a.boots; hosts = b.hosts ∙ a.hosts }
 
 -- ---- hosts through a change of marks
@@ -48,39 +48,39 @@ hosts_length (j ∷ js) = let e = hosts_length js in omega arith
 
 -- ---- rounds
 
-next_keeps : (s : PlacementState) (phase : RoundPhase) → Keeps s (next_stage s phase)
+next_keeps : (s : RoomState) (phase : RoundPhase) → Keeps s (next_stage s phase)
 next_keeps s Quiet = keeps_all s
 next_keeps s (Running stages.Lock) = record { boots = refl; hosts = hosts_map entered s.members (λ j. refl) }
 next_keeps s (Running stages.Update) = record { boots = refl; hosts = hosts_map entered s.members (λ j. refl) }
 next_keeps s (Running stages.Unlock) = record { boots = refl; hosts = refl }
 
-advance_keeps : (s : PlacementState) → Keeps s (advance_round s)
+advance_keeps : (s : RoomState) → Keeps s (advance_round s)
 advance_keeps s = go (any_pending s.members)
   where
     go : (b : Bool) → Keeps s (cond b s (next_stage s s.phase))
     go true = keeps_all s
     go false = next_keeps s s.phase
 
-start_keeps : (s : PlacementState) → Keeps s (start_round s)
+start_keeps : (s : RoomState) → Keeps s (start_round s)
 start_keeps s = go (may_start s)
   where
     go : (b : Bool) → Keeps s (cond b (record s { next_version = s.next_version + 1; members = map targeted s.members; phase = Running stages.Lock; dirty = false }) s)
     go true = record { boots = refl; hosts = hosts_map targeted s.members (λ j. refl) }
     go false = keeps_all s
 
-fully_keeps : (s : PlacementState) → Keeps s (advance_fully s)
+fully_keeps : (s : RoomState) → Keeps s (advance_fully s)
 fully_keeps s =
     let t = advance_round s in
     let u = advance_round t in
     keeps_on s t (advance_round u) (advance_keeps s) (keeps_on t u (advance_round u) (advance_keeps t) (advance_keeps u))
 
-pub settle_keeps : (s : PlacementState) → Keeps s (settle_round s)
+pub settle_keeps : (s : RoomState) → Keeps s (settle_round s)
 settle_keeps s =
     let t = advance_fully s in
     let u = start_round t in
     keeps_on s t (advance_fully u) (fully_keeps s) (keeps_on t u (advance_fully u) (start_keeps t) (fully_keeps u))
 
-pub conclude_keeps : (s : PlacementState) (k : Conclusion) → Keeps s (conclude s k).state
+pub conclude_keeps : (s : RoomState) (k : Conclusion) → Keeps s (conclude s k).state
 conclude_keeps s (Stays reply) = keeps_all s
 conclude_keeps s (Says reply) = settle_keeps s
 conclude_keeps s (Tells m) = settle_keeps s
@@ -110,9 +110,9 @@ without_shorter (j ∷ js) node e = go (bytes_eq node (joined_node j)) (without_
     go true ih e = omega arith
     go false ih e = let h = ih e in omega arith
 
-here_node : (boot : ℕ) (o : Option Joined) → has_boot boot o ≡ true → is_some o ≡ true
-here_node boot None e = absurd (cc)
-here_node boot (Some j) e = refl
+here_node : (m : Member) (o : Option Joined) → is_the m o ≡ true → is_some o ≡ true
+here_node m None e = absurd (cc)
+here_node m (Some j) e = refl
 
 heard_all : (js : List Joined) (now : ℕ) → length (late_of js now) ≡ 0 → heard_of js now ≡ js
 heard_all [] now e = refl
@@ -125,30 +125,30 @@ heard_all (j ∷ js) now e = go (is_late now j) (heard_all js now) e
 -- ---- the change of the members
 
 -- where nobody joined or was removed it keeps what a restart keeps, and otherwise the count of members differs
-record IsNoted (s : PlacementState) (t : Membership) : Type 0 where
+record IsNoted (s : RoomState) (t : Membership) : Type 0 where
   kept : is_some t.joined ≡ false → nat_lt 0 (length t.removed) ≡ false → Keeps s t.state
   told : length t.state.members ≡ length s.members → (is_some t.joined ≡ false) × (nat_lt 0 (length t.removed) ≡ false)
 
-unchanged_noted : (s : PlacementState) (reply : PlaceReply) → IsNoted s (unchanged s reply)
+unchanged_noted : (s : RoomState) (reply : PlaceReply) → IsNoted s (unchanged s reply)
 unchanged_noted s reply = record { kept = λ a b. keeps_all s; told = λ e. (refl, refl) }
 
-with_noted : (s : PlacementState) (m : Member) (f : Joined → Joined) → ((j : Joined) → (f j).host ≡ j.host) → IsNoted s (with_member s m f)
+with_noted : (s : RoomState) (m : Member) (f : Joined → Joined) → ((j : Joined) → (f j).host ≡ j.host) → IsNoted s (with_member s m f)
 with_noted s m f same = record { kept = λ a b. record { boots = refl; hosts = hosts_with s.members m.node f same }; told = λ e. (refl, refl) }
 
-join_noted : (s : PlacementState) (host : HostInfo) (now : ℕ) (full : PlaceReply) (b : Bool) → IsNoted s (cond b (unchanged s full) (record { state = with_joined s host now; joined = Some host; removed = []; conclusion = Tells host.member }))
+join_noted : (s : RoomState) (host : HostInfo) (now : ℕ) (full : PlaceReply) (b : Bool) → IsNoted s (cond b (unchanged s full) (record { state = with_joined s host now; joined = Some host; removed = []; conclusion = Tells host.member }))
 join_noted s host now full true = unchanged_noted s full
 join_noted s host now full false = record { kept = λ a b. absurd (cc); told = λ e. let l = put_longer s.members (new_joined host now) in absurd (omega arith) }
 
-node_noted : (s : PlacementState) (host : HostInfo) (now : ℕ) (o : Option Joined) → IsNoted s (join_node s host now o)
+node_noted : (s : RoomState) (host : HostInfo) (now : ℕ) (o : Option Joined) → IsNoted s (join_node s host now o)
 node_noted s host now None = join_noted s host now _ _
 node_noted s host now (Some j) = unchanged_noted s (replies.NodeBusy j.host.member.boot)
 
-register_noted : (s : PlacementState) (host : HostInfo) (now : ℕ) (stale : PlaceReply) (here old : Bool) → IsNoted s (cond here (with_member s host.member (heard_at now)) (cond old (unchanged s stale) (join_node s host now (of_node s.members host.member.node))))
+register_noted : (s : RoomState) (host : HostInfo) (now : ℕ) (stale : PlaceReply) (here old : Bool) → IsNoted s (cond here (with_member s host.member (heard_at now)) (cond old (unchanged s stale) (join_node s host now (of_node s.members host.member.node))))
 register_noted s host now stale true old = with_noted s host.member (heard_at now) (λ j. refl)
 register_noted s host now stale false true = unchanged_noted s stale
 register_noted s host now stale false false = node_noted s host now (of_node s.members host.member.node)
 
-heard_noted : (s : PlacementState) (m : Member) (f : Joined → Joined) (b : Bool) → ((j : Joined) → (f j).host ≡ j.host) → IsNoted s (cond b (with_member s m f) (not_member s m))
+heard_noted : (s : RoomState) (m : Member) (f : Joined → Joined) (b : Bool) → ((j : Joined) → (f j).host ≡ j.host) → IsNoted s (cond b (with_member s m f) (not_member s m))
 heard_noted s m f true same = with_noted s m f same
 heard_noted s m f false same = unchanged_noted s _
 
@@ -156,21 +156,21 @@ pub ack_same : (now : ℕ) (b : Bool) (j : Joined) → (cond b (acked_at now) (h
 ack_same now true j = refl
 ack_same now false j = refl
 
-remove_noted : (s : PlacementState) (m : Member) → IsNoted s (remove_member s m)
+remove_noted : (s : RoomState) (m : Member) → IsNoted s (remove_member s m)
 remove_noted s m = go (is_here s.members m) refl
   where
     go : (b : Bool) → is_here s.members m ≡ b → IsNoted s (cond b (record { state = record s { members = without_node s.members m.node; dirty = true }; joined = None; removed = m ∷ []; conclusion = Says replies.Gone }) (not_member s m))
-    go true h = record { kept = λ a b. absurd (cc); told = λ e. let l = without_shorter s.members m.node (here_node m.boot (of_node s.members m.node) h) in absurd (omega arith) }
+    go true h = record { kept = λ a b. absurd (cc); told = λ e. let l = without_shorter s.members m.node (here_node m (of_node s.members m.node) h) in absurd (omega arith) }
     go false h = unchanged_noted s _
 
-late_noted : (s : PlacementState) (now : ℕ) → IsNoted s (drop_late s now)
+late_noted : (s : RoomState) (now : ℕ) → IsNoted s (drop_late s now)
 late_noted s now =
     record {
       kept = λ a b. record { boots = refl; hosts = ap hosts_of (heard_all s.members now (none_of (length (late_of s.members now)) b)) };
       told = λ e. let l = counted s.members now in (refl, of_none (length (late_of s.members now)) (omega arith));
     }
 
-noted : (s : PlacementState) (event : PlaceEvent) (now : ℕ) → IsNoted s (apply_membership s event now)
+noted : (s : RoomState) (event : PlaceEvent) (now : ℕ) → IsNoted s (apply_membership s event now)
 noted s (events.Register host) now = register_noted s host now _ _ _
 noted s (events.Beat m) now = heard_noted s m (heard_at now) _ (λ j. refl)
 noted s (events.Ack m stage version) now = heard_noted s m (ack_change s stage version now) _ (ack_same now _)
@@ -190,7 +190,7 @@ none_parts r false false false e = absurd (cc)
 parts_none : (r : RecordOf) (a b c : Bool) → a ≡ false → b ≡ false → c ≡ true → cond (a || (b || not c)) (Some r) None ≡ None
 parts_none r a b c x y z = rw (x, y, z) refl
 
-noted_durable : (s : PlacementState) (t : Membership) → IsNoted s t → (changes_record t.joined t.removed s.next_version (conclude t.state t.conclusion).state.next_version ≡ None) ↔ SameDurableState s (conclude t.state t.conclusion).state
+noted_durable : (s : RoomState) (t : Membership) → IsNoted s t → (changes_record t.joined t.removed s.next_version (conclude t.state t.conclusion).state.next_version ≡ None) ↔ SameDurableState s (conclude t.state t.conclusion).state
 noted_durable s t n =
     let u = (conclude t.state t.conclusion).state in
     let k = conclude_keeps t.state t.conclusion in
@@ -204,13 +204,13 @@ noted_durable s t n =
           parts_none r (is_some t.joined) (nat_lt 0 (length t.removed)) (u.next_version == s.next_version) p.0 p.1 (eq-eqb u.next_version s.next_version d.next_version),
     )
 
-pub recorded_durable : (s : PlacementState) (event : PlaceEvent) (now : ℕ) → (step_record s event now ≡ None) ↔ SameDurableState s (placement_step s event now).state
+pub recorded_durable : (s : RoomState) (event : PlaceEvent) (now : ℕ) → (step_record s event now ≡ None) ↔ SameDurableState s (room_step s event now).state
 recorded_durable s event now = noted_durable s (apply_membership s event now) (noted s event now)
 
-pub gives_durable : (event : PlaceEvent) (now : ℕ) (reply : PlaceReply) (old new : PlacementView) → Gives event now reply old new → (new.recent ≡ None) ↔ SameDurableState old.state new.state
-gives_durable event now reply old new g = subst (λ (v : PlacementView). (v.recent ≡ None) ↔ SameDurableState old.state v.state) (sym g.1) (recorded_durable old.state event now)
+pub gives_durable : (event : PlaceEvent) (now : ℕ) (reply : PlaceReply) (old new : RoomView) → Gives event now reply old new → (new.recent ≡ None) ↔ SameDurableState old.state new.state
+gives_durable event now reply old new g = subst (λ (v : RoomView). (v.recent ≡ None) ↔ SameDurableState old.state v.state) (sym g.1) (recorded_durable old.state event now)
 
-pub memory_durable : (event : PlaceEvent) (now : ℕ) (reply : PlaceReply) (old new : PlacementView) → GivesInMemory event now reply old new → (new.recent ≡ None) ↔ SameDurableState old.state new.state
+pub memory_durable : (event : PlaceEvent) (now : ℕ) (reply : PlaceReply) (old new : RoomView) → GivesInMemory event now reply old new → (new.recent ≡ None) ↔ SameDurableState old.state new.state
 memory_durable event now (replies.Lock v) old new g = gives_durable event now (replies.Lock v) old new g
 memory_durable event now (replies.Update v) old new g = gives_durable event now (replies.Update v) old new g
 memory_durable event now (replies.Unlock v) old new g = gives_durable event now (replies.Unlock v) old new g
@@ -221,6 +221,7 @@ memory_durable event now replies.Looked old new g = gives_durable event now repl
 memory_durable event now (replies.StaleBoot n) old new g = gives_durable event now (replies.StaleBoot n) old new g
 memory_durable event now (replies.NodeBusy n) old new g = gives_durable event now (replies.NodeBusy n) old new g
 memory_durable event now (replies.NotMember n) old new g = gives_durable event now (replies.NotMember n) old new g
+memory_durable event now (replies.SpacesFull n) old new g = gives_durable event now (replies.SpacesFull n) old new g
 memory_durable event now (replies.Full n m) old new g = gives_durable event now (replies.Full n m) old new g
 memory_durable event now replies.OutOfMemory old new g =
-    subst (λ (v : PlacementView). (v.recent ≡ None) ↔ SameDurableState old.state v.state) (sym g) (λ e. record { next_version = refl; boots = refl; members = refl }, λ d. refl)
+    subst (λ (v : RoomView). (v.recent ≡ None) ↔ SameDurableState old.state v.state) (sym g) (λ e. record { next_version = refl; boots = refl; members = refl }, λ d. refl)

@@ -10,17 +10,17 @@ use Rattle.round_core.specs.declared.event.PlaceReply.TheVariants as replies
 use Rattle.place_table.specs.declared.ack_stage.AckStage.TheVariants as stages
 use Rattle.round_core.specs.declared.phase.RoundPhase.{RoundPhase}
 use Rattle.round_core.specs.declared.phase.RoundPhase.TheVariants.{Quiet, Running}
-use Rattle.round_core.specs.declared.record.PlacementRecord as declared
+use Rattle.round_core.specs.declared.record.RoomRecord as declared
 use Rattle.member_roster.specs.Members.{Joined, boot_of, is_here, is_pending, is_late, heard_of, late_of}
-use Rattle.round_core.specs.Placement.{PlacementState, Membership, Conclusion, apply_membership, conclude, settle_round, placement_restarted, reply_for, phase_reply, last_version}
+use Rattle.round_core.specs.Room.{RoomState, Membership, Conclusion, apply_membership, conclude, settle_round, room_restarted, reply_for, phase_reply, last_version}
 use Rattle.round_core.specs.Records.{record_of, changes_record, restart_record}
-use Rattle.round_core.specs.Views.{RoundState, with_state, PlacementView, Gives, GivesInMemory}
+use Rattle.round_core.specs.Views.{RoundState, with_state, RoomView, Gives, GivesInMemory}
 
-gives : (event : PlaceEvent) (now : ℕ) (old new : PlacementView) (reply : PlaceReply) (t : Membership) → apply_membership old.state event now ≡ t → reply ≡ (conclude t.state t.conclusion).reply → new.state ≡ (conclude t.state t.conclusion).state → new.recent ≡ changes_record t.joined t.removed old.state.next_version (conclude t.state t.conclusion).state.next_version → Gives event now reply old new
+gives : (event : PlaceEvent) (now : ℕ) (old new : RoomView) (reply : PlaceReply) (t : Membership) → apply_membership old.state event now ≡ t → reply ≡ (conclude t.state t.conclusion).reply → new.state ≡ (conclude t.state t.conclusion).state → new.recent ≡ changes_record t.joined t.removed old.state.next_version (conclude t.state t.conclusion).state.next_version → Gives event now reply old new
 gives event now old new reply t e a b c = rw e (a, rw (← c, ← b) refl)
 
 -- a step after which rounds go on
-pub settled_gives : (old : PlacementView) (event : PlaceEvent) (now : ℕ) (changed rounds : RoundState) (t : PlacementState) (before after : declared.PlacementRecord) (b : Bool) (reply : PlaceReply) (joined : Option HostInfo) (removed : List Member) (k : Conclusion)
+pub settled_gives : (old : RoomView) (event : PlaceEvent) (now : ℕ) (changed rounds : RoundState) (t : RoomState) (before after : declared.RoomRecord) (b : Bool) (reply : PlaceReply) (joined : Option HostInfo) (removed : List Member) (k : Conclusion)
     → apply_membership old.state event now ≡ record { state = t; joined = joined; removed = removed; conclusion = k }
     → t.next_version ≡ old.state.next_version
     → (conclude t k).state ≡ settle_round t
@@ -60,7 +60,7 @@ here_some (j ∷ js) m e = omega arith
 
 -- ---- a Register that had memory
 
-pub told_memory : (s : PlacementState) (m : Member) → reply_for s m ≡ replies.OutOfMemory → ⊥
+pub told_memory : (s : RoomState) (m : Member) → reply_for s m ≡ replies.OutOfMemory → ⊥
 told_memory s m = go (is_pending s.members m) s.phase
   where
     go : (b : Bool) (phase : RoundPhase) → cond b (phase_reply phase (last_version s)) replies.Idle ≡ replies.OutOfMemory → ⊥
@@ -70,7 +70,7 @@ told_memory s m = go (is_pending s.members m) s.phase
     go true (Running stages.Update) e = absurd (cc)
     go true (Running stages.Unlock) e = absurd (cc)
 
-pub had_memory : (event : PlaceEvent) (now : ℕ) (reply : PlaceReply) (old new : PlacementView) → (reply ≡ replies.OutOfMemory → ⊥) → Gives event now reply old new → GivesInMemory event now reply old new
+pub had_memory : (event : PlaceEvent) (now : ℕ) (reply : PlaceReply) (old new : RoomView) → (reply ≡ replies.OutOfMemory → ⊥) → Gives event now reply old new → GivesInMemory event now reply old new
 had_memory event now (replies.Lock v) old new off g = g
 had_memory event now (replies.Update v) old new off g = g
 had_memory event now (replies.Unlock v) old new off g = g
@@ -81,6 +81,7 @@ had_memory event now replies.Looked old new off g = g
 had_memory event now (replies.StaleBoot n) old new off g = g
 had_memory event now (replies.NodeBusy n) old new off g = g
 had_memory event now (replies.NotMember n) old new off g = g
+had_memory event now (replies.SpacesFull n) old new off g = g
 had_memory event now (replies.Full n m) old new off g = g
 had_memory event now replies.OutOfMemory old new off g = absurd (off refl)
 
@@ -97,5 +98,5 @@ no_boot (Some j) e = absurd (cc)
 
 -- ---- a restart
 
-pub restarted_gives : (s : PlacementState) (now : ℕ) (before after : declared.PlacementRecord) (b : Bool) → after ≡ record before { next_version = (placement_restarted s now).next_version } → before.joined ≡ None → before.removed.members ≡ [] → b ≡ not ((placement_restarted s now).next_version == s.next_version) → cond b (Some (record_of after)) None ≡ restart_record s now
+pub restarted_gives : (s : RoomState) (now : ℕ) (before after : declared.RoomRecord) (b : Bool) → after ≡ record before { next_version = (room_restarted s now).next_version } → before.joined ≡ None → before.removed.members ≡ [] → b ≡ not ((room_restarted s now).next_version == s.next_version) → cond b (Some (record_of after)) None ≡ restart_record s now
 restarted_gives s now before after b ar bj br be = rw (be, ar, bj, br) refl

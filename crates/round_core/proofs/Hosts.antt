@@ -4,8 +4,9 @@ use Rattle.std.specs.Prelude.{◌==◌, is_some, bytes_eq}
 use Rattle.std.proofs.lemmas.Bool.{or_parts, or_from}
 use Rattle.std.proofs.lemmas.Slice.Eq.{bytes_eq-Decides}
 use Rattle.actor_names.specs.declared.member.Member.{Member}
+use Rattle.actor_names.specs.Same.{same_member}
 use Rattle.place_table.specs.declared.host.HostInfo.{HostInfo}
-use Rattle.member_roster.specs.Members.{Joined, joined_node, hosts_of, of_node, has_boot, is_here, is_before, is_late, without_node, put_joined, heard_of}
+use Rattle.member_roster.specs.Members.{Joined, joined_node, hosts_of, of_node, is_the, is_here, is_before, is_late, without_node, put_joined, heard_of}
 use Rattle.round_core.specs.Reached.{has_host, Distinct}
 use Rattle.round_core.specs.Runs.{HasMember}
 
@@ -119,13 +120,13 @@ without_same js ks node e = rw (without_node-host js node, without_node-host ks 
 
 abbrev host_here : List HostInfo → Member → Bool
 host_here [] m = false
-host_here (h ∷ hs) m = cond (bytes_eq m.node h.member.node) (m.boot == h.member.boot) (host_here hs m)
+host_here (h ∷ hs) m = cond (bytes_eq m.node h.member.node) (same_member m h.member) (host_here hs m)
 
 is_here-host : (js : List Joined) (m : Member) → is_here js m ≡ host_here (hosts_of js) m
 is_here-host [] m = refl
 is_here-host (j ∷ js) m = go (bytes_eq m.node (joined_node j)) (is_here-host js m)
   where
-    go : (b : Bool) → has_boot m.boot (of_node js m.node) ≡ host_here (hosts_of js) m → has_boot m.boot (cond b (Some j) (of_node js m.node)) ≡ cond b (m.boot == j.host.member.boot) (host_here (hosts_of js) m)
+    go : (b : Bool) → is_the m (of_node js m.node) ≡ host_here (hosts_of js) m → is_the m (cond b (Some j) (of_node js m.node)) ≡ cond b (same_member m j.host.member) (host_here (hosts_of js) m)
     go true ih = refl
     go false ih = ih
 

@@ -6,4 +6,5 @@ pub mod Openings
 pub mod Reached
 mod Replays
 mod Rows
+pub mod Settling
 pub mod Versions

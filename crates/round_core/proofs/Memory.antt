@@ -11,8 +11,8 @@ use Rattle.round_core.specs.declared.event.PlaceEvent.TheVariants as events
 use Rattle.round_core.specs.declared.event.PlaceReply.{PlaceReply}
 use Rattle.round_core.specs.declared.event.PlaceReply.TheVariants as replies
 use Rattle.member_roster.specs.Members.{Joined, of_node, is_here, is_before, greatest_boot, put_boot, heard_at, new_joined}
-use Rattle.round_core.specs.Placement.{PlacementState, Membership, settle_round, conclude, not_member, with_member, with_joined, join_node, is_full, ack_change, remove_member, apply_membership, placement_step, awoken}
-use Rattle.round_core.specs.Views.{PlacementView, Gives, GivesInMemory}
+use Rattle.round_core.specs.Room.{RoomState, Membership, settle_round, conclude, not_member, with_member, with_joined, join_node, is_full, ack_change, remove_member, apply_membership, room_step, awoken}
+use Rattle.round_core.specs.Views.{RoomView, Gives, GivesInMemory}
 use Rattle.round_core.specs.Runs.{HasMember, ForgetsNothing}
 use Rattle.round_core.proofs.Durable.{Keeps, hosts_map, hosts_with, settle_keeps, conclude_keeps, ack_same}
 use Rattle.round_core.proofs.Hosts.{put_member, without_member, heard_member}
@@ -59,11 +59,11 @@ boots_rise (k ∷ ks) m node h =
 
 -- ---- a change of the members
 
-pub forgets_self : (s : PlacementState) → ForgetsNothing s s
+pub forgets_self : (s : RoomState) → ForgetsNothing s s
 forgets_self s = record { greatest = λ node. omega arith; fresh = λ m i. inl i; versions = omega arith }
 
 -- boots and members stay, and no version falls
-pub forgets_on : (s t u : PlacementState) → ForgetsNothing s t → Keeps t u → Rises t u → ForgetsNothing s u
+pub forgets_on : (s t u : RoomState) → ForgetsNothing s t → Keeps t u → Rises t u → ForgetsNothing s u
 forgets_on s t u a k r =
     record {
       greatest = λ node. rw k.boots (a.greatest node);
@@ -71,7 +71,7 @@ forgets_on s t u a k r =
       versions = (let x = a.versions in let y = r.low in omega arith);
     }
 
-with_forgets : (s : PlacementState) (m : Member) (f : Joined → Joined) → ((j : Joined) → (f j).host ≡ j.host) → ForgetsNothing s (with_member s m f).state
+with_forgets : (s : RoomState) (m : Member) (f : Joined → Joined) → ((j : Joined) → (f j).host ≡ j.host) → ForgetsNothing s (with_member s m f).state
 with_forgets s m f same =
     record {
       greatest = λ node. omega arith;
@@ -79,7 +79,7 @@ with_forgets s m f same =
       versions = omega arith;
     }
 
-joined_forgets : (s : PlacementState) (host : HostInfo) (now : ℕ) → greatest_boot s.boots host.member.node < host.member.boot → ForgetsNothing s (with_joined s host now)
+joined_forgets : (s : RoomState) (host : HostInfo) (now : ℕ) → greatest_boot s.boots host.member.node < host.member.boot → ForgetsNothing s (with_joined s host now)
 joined_forgets s host now higher =
     record {
       greatest = λ node. boots_rise s.boots host.member node higher;
@@ -91,25 +91,25 @@ joined_forgets s host now higher =
     }
 
 -- a change of the members forgets nothing
-abbrev Remembers : PlacementState → Membership → Type 0
+abbrev Remembers : RoomState → Membership → Type 0
 Remembers s t = ForgetsNothing s t.state
 
-node_remembers : (s : PlacementState) (host : HostInfo) (now : ℕ) → greatest_boot s.boots host.member.node < host.member.boot → (o : Option Joined) → Remembers s (join_node s host now o)
+node_remembers : (s : RoomState) (host : HostInfo) (now : ℕ) → greatest_boot s.boots host.member.node < host.member.boot → (o : Option Joined) → Remembers s (join_node s host now o)
 node_remembers s host now higher (Some j) = forgets_self s
 node_remembers s host now higher None =
     cond_both (is_full s host.member.node) _ _ (Remembers s) (λ _. forgets_self s) (λ _. joined_forgets s host now higher)
 
-remove_remembers : (s : PlacementState) (m : Member) → Remembers s (remove_member s m)
+remove_remembers : (s : RoomState) (m : Member) → Remembers s (remove_member s m)
 remove_remembers s m =
     cond_both (is_here s.members m) _ _ (Remembers s)
     (λ _. record { greatest = λ node. omega arith; fresh = λ x i. inl (without_member s.members m.node x i); versions = omega arith })
     (λ _. forgets_self s)
 
-heard_remembers : (s : PlacementState) (m : Member) (f : Joined → Joined) (b : Bool) → ((j : Joined) → (f j).host ≡ j.host) → Remembers s (cond b (with_member s m f) (not_member s m))
+heard_remembers : (s : RoomState) (m : Member) (f : Joined → Joined) (b : Bool) → ((j : Joined) → (f j).host ≡ j.host) → Remembers s (cond b (with_member s m f) (not_member s m))
 heard_remembers s m f true same = with_forgets s m f same
 heard_remembers s m f false same = forgets_self s
 
-remembers : (s : PlacementState) (event : PlaceEvent) (now : ℕ) → Remembers s (apply_membership s event now)
+remembers : (s : RoomState) (event : PlaceEvent) (now : ℕ) → Remembers s (apply_membership s event now)
 remembers s (events.Register host) now =
     cond_both (is_here s.members host.member) _ _ (Remembers s)
     (λ _. with_forgets s host.member (heard_at now) (λ j. refl))
@@ -126,15 +126,15 @@ remembers s events.Look now = forgets_self s
 
 -- ---- the step
 
-pub step_forgets : (s : PlacementState) (event : PlaceEvent) (now : ℕ) → ForgetsNothing s (placement_step s event now).state
+pub step_forgets : (s : RoomState) (event : PlaceEvent) (now : ℕ) → ForgetsNothing s (room_step s event now).state
 step_forgets s event now =
     let t = apply_membership s event now in
     forgets_on s t.state (conclude t.state t.conclusion).state (remembers s event now) (conclude_keeps t.state t.conclusion) (conclude_rises t.state t.conclusion)
 
-pub gives_forgets : (event : PlaceEvent) (now : ℕ) (reply : PlaceReply) (old new : PlacementView) → Gives event now reply old new → ForgetsNothing old.state new.state
-gives_forgets event now reply old new g = subst (λ (v : PlacementView). ForgetsNothing old.state v.state) (sym g.1) (step_forgets old.state event now)
+pub gives_forgets : (event : PlaceEvent) (now : ℕ) (reply : PlaceReply) (old new : RoomView) → Gives event now reply old new → ForgetsNothing old.state new.state
+gives_forgets event now reply old new g = subst (λ (v : RoomView). ForgetsNothing old.state v.state) (sym g.1) (step_forgets old.state event now)
 
-pub memory_forgets : (event : PlaceEvent) (now : ℕ) (reply : PlaceReply) (old new : PlacementView) → GivesInMemory event now reply old new → ForgetsNothing old.state new.state
+pub memory_forgets : (event : PlaceEvent) (now : ℕ) (reply : PlaceReply) (old new : RoomView) → GivesInMemory event now reply old new → ForgetsNothing old.state new.state
 memory_forgets event now (replies.Lock v) old new g = gives_forgets event now (replies.Lock v) old new g
 memory_forgets event now (replies.Update v) old new g = gives_forgets event now (replies.Update v) old new g
 memory_forgets event now (replies.Unlock v) old new g = gives_forgets event now (replies.Unlock v) old new g
@@ -145,15 +145,16 @@ memory_forgets event now replies.Looked old new g = gives_forgets event now repl
 memory_forgets event now (replies.StaleBoot n) old new g = gives_forgets event now (replies.StaleBoot n) old new g
 memory_forgets event now (replies.NodeBusy n) old new g = gives_forgets event now (replies.NodeBusy n) old new g
 memory_forgets event now (replies.NotMember n) old new g = gives_forgets event now (replies.NotMember n) old new g
+memory_forgets event now (replies.SpacesFull n) old new g = gives_forgets event now (replies.SpacesFull n) old new g
 memory_forgets event now (replies.Full n m) old new g = gives_forgets event now (replies.Full n m) old new g
-memory_forgets event now replies.OutOfMemory old new g = subst (λ (v : PlacementView). ForgetsNothing old.state v.state) (sym g) (forgets_self old.state)
+memory_forgets event now replies.OutOfMemory old new g = subst (λ (v : RoomView). ForgetsNothing old.state v.state) (sym g) (forgets_self old.state)
 
 -- ---- the restart, where a round was ever started
 
-pub awoken_keeps : (s : PlacementState) (now : ℕ) → Keeps s (settle_round (awoken s now))
+pub awoken_keeps : (s : RoomState) (now : ℕ) → Keeps s (settle_round (awoken s now))
 awoken_keeps s now =
     let k = settle_keeps (awoken s now) in
     record { boots = k.boots; hosts = k.hosts ∙ hosts_map _ s.members (λ j. refl) }
 
-pub awoken_rises : (s : PlacementState) (now : ℕ) → Rises s (settle_round (awoken s now))
+pub awoken_rises : (s : RoomState) (now : ℕ) → Rises s (settle_round (awoken s now))
 awoken_rises s now = let r = settle_rises (awoken s now) in record { low = r.low; high = r.high }

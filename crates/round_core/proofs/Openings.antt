@@ -6,15 +6,15 @@ use Rattle.actor_names.specs.declared.member.Member.{Member}
 use Rattle.place_table.specs.declared.host.HostInfo.{HostInfo}
 use Rattle.member_roster.specs.Members.{is_here}
 use Rattle.round_core.specs.Openings.{IsNewOrUsed}
-use Rattle.round_core.specs.Placement.{PlacementState, new_placement, settle_round, with_joined, drop_late, placement_restarted, awoken}
+use Rattle.round_core.specs.Room.{RoomState, new_room, settle_round, with_joined, drop_late, room_restarted, awoken}
 use Rattle.round_core.proofs.Memory.{awoken_rises}
 use Rattle.round_core.proofs.Versions.{Rises, rises_all, rises_on, settle_rises}
 
-pub new_kept : IsNewOrUsed new_placement
+pub new_kept : IsNewOrUsed new_room
 new_kept = record { used = omega arith; unused = λ _. refl }
 
 -- where a round has used a version it stays so
-pub used_kept : (s t : PlacementState) → 1 < s.next_version → Rises s t → IsNewOrUsed t
+pub used_kept : (s t : RoomState) → 1 < s.next_version → Rises s t → IsNewOrUsed t
 used_kept s t h r =
     record { used = (let l = r.low in omega arith); unused = λ e. (let l = r.low in absurd (omega arith)) }
 
@@ -22,34 +22,34 @@ above_one : (n : ℕ) → 1 ≤ n → (n ≡ 1 → ⊥) → 1 < n
 above_one n a off = omega arith
 
 -- what holds of the opening state, and of those whose version was used
-pub by_use : (P : PlacementState → Type 0) (s : PlacementState) → IsNewOrUsed s → P new_placement → (1 < s.next_version → P s) → P s
+pub by_use : (P : RoomState → Type 0) (s : RoomState) → IsNewOrUsed s → P new_room → (1 < s.next_version → P s) → P s
 by_use P s k new used = elim (cases_eq s.next_version 1) [
   | inl e ↦ subst P (sym (k.unused e)) new
   | inr off ↦ used (above_one s.next_version k.used off)
 ]
 
 -- a member is heard, acknowledges or is removed
-pub told_kept : (s t : PlacementState) (m : Member) → IsNewOrUsed s → is_here s.members m ≡ true → t.next_version ≡ s.next_version → IsNewOrUsed (settle_round t)
+pub told_kept : (s t : RoomState) (m : Member) → IsNewOrUsed s → is_here s.members m ≡ true → t.next_version ≡ s.next_version → IsNewOrUsed (settle_round t)
 told_kept s t m k here same =
-    let l : 1 < s.next_version = by_use (λ (u : PlacementState). is_here u.members m ≡ true → 1 < u.next_version) s k (λ e. absurd (cc)) (λ l _. l) here in
+    let l : 1 < s.next_version = by_use (λ (u : RoomState). is_here u.members m ≡ true → 1 < u.next_version) s k (λ e. absurd (cc)) (λ l _. l) here in
     used_kept t (settle_round t) (omega arith) (settle_rises t)
 
-pub dropped_kept : (s : PlacementState) (now : ℕ) → IsNewOrUsed s → IsNewOrUsed (settle_round (drop_late s now).state)
+pub dropped_kept : (s : RoomState) (now : ℕ) → IsNewOrUsed s → IsNewOrUsed (settle_round (drop_late s now).state)
 dropped_kept s now k =
     let t = (drop_late s now).state in
-    by_use (λ (u : PlacementState). IsNewOrUsed (settle_round (drop_late u now).state)) s k
+    by_use (λ (u : RoomState). IsNewOrUsed (settle_round (drop_late u now).state)) s k
     (record { used = omega arith; unused = λ _. refl })
     (λ l. used_kept s (settle_round t) l (rises_on s t (settle_round t) (rises_all s t refl) (settle_rises t)))
 
-pub joined_kept : (s : PlacementState) (host : HostInfo) (now : ℕ) → IsNewOrUsed s → IsNewOrUsed (settle_round (with_joined s host now))
+pub joined_kept : (s : RoomState) (host : HostInfo) (now : ℕ) → IsNewOrUsed s → IsNewOrUsed (settle_round (with_joined s host now))
 joined_kept s host now k =
     let t = with_joined s host now in
-    by_use (λ (u : PlacementState). IsNewOrUsed (settle_round (with_joined u host now))) s k
+    by_use (λ (u : RoomState). IsNewOrUsed (settle_round (with_joined u host now))) s k
     (record { used = omega arith; unused = λ e. absurd (cc) })
     (λ l. used_kept s (settle_round t) l (rises_on s t (settle_round t) (rises_all s t refl) (settle_rises t)))
 
-pub restart_kept : (s : PlacementState) (now : ℕ) → 1 ≤ s.next_version → IsNewOrUsed (placement_restarted s now)
+pub restart_kept : (s : RoomState) (now : ℕ) → 1 ≤ s.next_version → IsNewOrUsed (room_restarted s now)
 restart_kept s now h =
-    cond_both (s.next_version == 1) new_placement (settle_round (awoken s now)) IsNewOrUsed
+    cond_both (s.next_version == 1) new_room (settle_round (awoken s now)) IsNewOrUsed
     (λ _. new_kept)
     (λ f. used_kept s (settle_round (awoken s now)) (above_one s.next_version h (λ e. true≢false (sym (eq-eqb s.next_version 1 e) ∙ f))) (awoken_rises s now))

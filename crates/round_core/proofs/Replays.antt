@@ -11,8 +11,8 @@ use Rattle.round_core.specs.declared.event.PlaceReply.TheVariants as replies
 use Rattle.round_core.specs.declared.restore.RestoreError.{RestoreError}
 use Rattle.round_core.specs.declared.restore.RestoreError.TheVariants.{BadRecord, OutOfMemory}
 use Rattle.member_roster.specs.Members.{Joined, joined_node, hosts_of, of_node, is_here, is_late, greatest_boot, put_boot, without_node, late_of, heard_of, heard_at, new_joined, restarted_at, removes_all}
-use Rattle.round_core.specs.Placement.{PlacementState, Membership, new_placement, version_limit, settle_round, conclude, unchanged, not_member, with_member, with_joined, join_node, is_full, ack_change, remove_member, drop_late, apply_membership, placement_restarted, awoken, SameDurableState}
-use Rattle.round_core.specs.Records.{RecordOf, may_join, after_removal, after_record, after_records, placement_restored, IsBadAt}
+use Rattle.round_core.specs.Room.{RoomState, Membership, new_room, version_limit, settle_round, conclude, unchanged, not_member, with_member, with_joined, join_node, is_full, ack_change, remove_member, drop_late, apply_membership, room_restarted, awoken, SameDurableState}
+use Rattle.round_core.specs.Records.{RecordOf, may_join, after_removal, after_record, after_records, room_restored, IsBadAt}
 use Rattle.round_core.specs.Runs.{RunEvent, Steps, Restarts, state_after, record_after, and_then, run_state, run_records}
 use Rattle.round_core.proofs.Durable.{Keeps, hosts_with, hosts_length, conclude_keeps, ack_same, none_parts, recorded_durable}
 use Rattle.round_core.specs.Reached.{has_host, Distinct, IsReached}
@@ -66,8 +66,9 @@ late_removed (j ∷ js) (k ∷ ks) now e d =
     go : (b : Bool) → k.host ≡ j.host → IsRemoved (heard_of js now) ks (late_of js now) → IsRemoved (cond b (heard_of js now) (j ∷ heard_of js now)) (k ∷ ks) (cond b (j.host.member ∷ late_of js now) (late_of js now))
     go true h ih =
         let same : bytes_eq j.host.member.node (joined_node k) ≡ true = subst (λ (x : HostInfo). bytes_eq j.host.member.node x.member.node ≡ true) (sym h) (same_bytes j.host.member.node) in
+        let space : bytes_eq j.host.member.space k.host.member.space ≡ true = subst (λ (x : HostInfo). bytes_eq j.host.member.space x.member.space ≡ true) (sym h) (same_bytes j.host.member.space) in
         let boot : (j.host.member.boot == k.host.member.boot) ≡ true = eq-eqb j.host.member.boot k.host.member.boot (ap (λ (x : HostInfo). x.member.boot) (sym h)) in
-        record { rest = ih.rest; removed = rw (same, boot) ih.removed; hosts = ih.hosts }
+        record { rest = ih.rest; removed = rw (same, space, same, boot) ih.removed; hosts = ih.hosts }
     go false h ih =
         record {
           rest = k ∷ ih.rest;
@@ -78,13 +79,13 @@ late_removed (j ∷ js) (k ∷ ks) now e d =
 -- ---- a change of the members, replayed from its record
 
 -- from a state of which a restart keeps the same, who was removed and joined leads to the same boots and hosts
-record Replays (t : PlacementState) (m : Membership) : Type 0 where
-  after : PlacementState
+record Replays (t : RoomState) (m : Membership) : Type 0 where
+  after : RoomState
   is : after_removal t m.joined (removes_all t.members m.removed) ≡ Some after
   boots : after.boots ≡ m.state.boots
   hosts : hosts_of after.members ≡ hosts_of m.state.members
 
-module _ (s t : PlacementState) (d : SameDurableState s t) where
+module _ (s t : RoomState) (d : SameDurableState s t) where
   unchanged_replays : (m : Membership) → m.joined ≡ None → m.removed ≡ [] → m.state.boots ≡ s.boots → hosts_of m.state.members ≡ hosts_of s.members → Replays t m
   unchanged_replays m j r b h = record { after = t; is = rw (j, r) refl; boots = d.boots ∙ sym b; hosts = d.members ∙ sym h }
 
@@ -149,7 +150,7 @@ module _ (s t : PlacementState) (d : SameDurableState s t) where
   replays events.Look now f = unchanged_replays _ refl refl refl refl
 
   -- the record of the change, at the version that the step leaves
-  recorded : (m : Membership) (u : PlacementState) (r : Replays t m) → Keeps m.state u → Rises s u → s.next_version ≤ 2 ^ 62 → (v : PlacementState) × (after_record t (record { joined = m.joined; removed = m.removed; next_version = u.next_version }) ≡ Some v) × SameDurableState u v
+  recorded : (m : Membership) (u : RoomState) (r : Replays t m) → Keeps m.state u → Rises s u → s.next_version ≤ 2 ^ 62 → (v : RoomState) × (after_record t (record { joined = m.joined; removed = m.removed; next_version = u.next_version }) ≡ Some v) × SameDurableState u v
   recorded m u r k rise within =
       let low : nat_lt u.next_version t.next_version ≡ false = at_most u.next_version t.next_version (let a = rise.low in let b = d.next_version in omega arith) in
       let high : nat_lt version_limit u.next_version ≡ false = at_most version_limit u.next_version (rise.high within) in (
@@ -172,26 +173,26 @@ record_is : (b : Bool) (x r : RecordOf) → cond b (Some x) None ≡ Some r → 
 record_is true x r e = cc
 record_is false x r e = absurd (cc)
 
-same_on : (s t u : PlacementState) → SameDurableState s t → SameDurableState s u → SameDurableState u t
+same_on : (s t u : RoomState) → SameDurableState s t → SameDurableState s u → SameDurableState u t
 same_on s t u a b =
     record { next_version = a.next_version ∙ sym b.next_version; boots = a.boots ∙ sym b.boots; members = a.members ∙ sym b.members }
 
 -- no record, and nothing has changed that a restart keeps
-event_kept : (s : PlacementState) (e : RunEvent) → IsReached s → record_after s e ≡ None → SameDurableState s (state_after s e)
+event_kept : (s : RoomState) (e : RunEvent) → IsReached s → record_after s e ≡ None → SameDurableState s (state_after s e)
 event_kept s (Steps event now) r n = (recorded_durable s event now).0 n
 event_kept s (Restarts now) r n =
-    let u = placement_restarted s now in
+    let u = room_restarted s now in
     let k = restart_keeps s now r.kept in
     let p = none_parts (record { joined = None; removed = []; next_version = u.next_version }) false false (u.next_version == s.next_version) n in
     record { next_version = eqb-true u.next_version s.next_version p.2; boots = k.boots; members = k.hosts }
 
 -- the state after the record is the same as after the event in what a restart keeps
-record Follows (t u : PlacementState) (r : RecordOf) : Type 0 where
-  after : PlacementState
+record Follows (t u : RoomState) (r : RecordOf) : Type 0 where
+  after : RoomState
   is : after_record t r ≡ Some after
   same : SameDurableState u after
 
-event_replayed : (s t : PlacementState) (e : RunEvent) (r : RecordOf) → IsReached s → SameDurableState s t → record_after s e ≡ Some r → Follows t (state_after s e) r
+event_replayed : (s t : RoomState) (e : RunEvent) (r : RecordOf) → IsReached s → SameDurableState s t → record_after s e ≡ Some r → Follows t (state_after s e) r
 event_replayed s t (Steps event now) r reached d e =
     let m = apply_membership s event now in
     let u = (conclude m.state m.conclusion).state in
@@ -199,7 +200,7 @@ event_replayed s t (Steps event now) r reached d e =
     let f = recorded s t d m u (replays s t d event now reached.distinct) (conclude_keeps m.state m.conclusion) (step_rises s event now) reached.within in
     record { after = f.0; is = rw is f.1; same = f.2 }
 event_replayed s t (Restarts now) r reached d e =
-    let u = placement_restarted s now in
+    let u = room_restarted s now in
     let m = unchanged s replies.Looked in
     let is = record_is _ (record { joined = None; removed = []; next_version = u.next_version }) r e in
     let f = recorded s t d m u (unchanged_replays s t d m refl refl refl refl) (restart_keeps s now reached.kept) (restart_rises s now) reached.within in
@@ -207,17 +208,17 @@ event_replayed s t (Restarts now) r reached d e =
 
 -- ---- a run
 
-record Leads (at : ℕ) (t u : PlacementState) (rs : List RecordOf) : Type 0 where
-  after : PlacementState
+record Leads (at : ℕ) (t u : RoomState) (rs : List RecordOf) : Type 0 where
+  after : RoomState
   is : after_records at t rs ≡ Ok after
   same : SameDurableState u after
 
-run_replayed : (s t : PlacementState) (run : List RunEvent) (at : ℕ) → IsReached s → SameDurableState s t → Leads at t (run_state s run) (run_records s run)
+run_replayed : (s t : RoomState) (run : List RunEvent) (at : ℕ) → IsReached s → SameDurableState s t → Leads at t (run_state s run) (run_records s run)
 run_replayed s t [] at r d = record { after = t; is = refl; same = d }
 run_replayed s t (e ∷ es) at r d =
     go (λ v n h. run_replayed (state_after s e) v es n (event_reached s e r) h) (record_after s e) refl
   where
-    go : ((v : PlacementState) (n : ℕ) → SameDurableState (state_after s e) v → Leads n v (run_state (state_after s e) es) (run_records (state_after s e) es)) → (o : Option RecordOf) → record_after s e ≡ o → Leads at t (run_state (state_after s e) es) (and_then o (run_records (state_after s e) es))
+    go : ((v : RoomState) (n : ℕ) → SameDurableState (state_after s e) v → Leads n v (run_state (state_after s e) es) (run_records (state_after s e) es)) → (o : Option RecordOf) → record_after s e ≡ o → Leads at t (run_state (state_after s e) es) (and_then o (run_records (state_after s e) es))
     go ih None f = ih t at (same_on s t (state_after s e) d (event_kept s e r f))
     go ih (Some x) f =
         let h = event_replayed s t e x r d f in
@@ -230,31 +231,31 @@ awake_hosts : (js : List Joined) (now : ℕ) → map (restarted_at now) js ≡ m
 awake_hosts [] now = refl
 awake_hosts (j ∷ js) now = ap (λ (xs : List Joined). new_joined j.host now ∷ xs) (awake_hosts js now)
 
-pub restarted_same : (s t : PlacementState) (now : ℕ) → SameDurableState s t → placement_restarted t now ≡ placement_restarted s now
+pub restarted_same : (s t : RoomState) (now : ℕ) → SameDurableState s t → room_restarted t now ≡ room_restarted s now
 restarted_same s t now d =
     let m : map (restarted_at now) t.members ≡ map (restarted_at now) s.members = awake_hosts t.members now ∙ ap (λ (hs : List HostInfo). map (λ h. new_joined h now) hs) d.members ∙ sym (awake_hosts s.members now) in
     let a : awoken t now ≡ awoken s now = rw (d.next_version, d.boots, m) refl in
-    let f : ℕ → PlacementState → PlacementState = λ n v. cond (n == 1) new_placement (settle_round v) in
-    ap (λ (n : ℕ). f n (awoken t now)) d.next_version ∙ ap (λ (v : PlacementState). f s.next_version v) a
+    let f : ℕ → RoomState → RoomState = λ n v. cond (n == 1) new_room (settle_round v) in
+    ap (λ (n : ℕ). f n (awoken t now)) d.next_version ∙ ap (λ (v : RoomState). f s.next_version v) a
 
-pub run_restored : (run : List RunEvent) (now : ℕ) → placement_restored (run_records new_placement run) now ≡ Ok (placement_restarted (run_state new_placement run) now)
+pub run_restored : (run : List RunEvent) (now : ℕ) → room_restored (run_records new_room run) now ≡ Ok (room_restarted (run_state new_room run) now)
 run_restored run now =
-    let l = run_replayed new_placement new_placement run 0 new_reached (record { next_version = refl; boots = refl; members = refl }) in
-    rw l.is (ap (λ (s : PlacementState). Ok s) (restarted_same (run_state new_placement run) l.after now l.same))
+    let l = run_replayed new_room new_room run 0 new_reached (record { next_version = refl; boots = refl; members = refl }) in
+    rw l.is (ap (λ (s : RoomState). Ok s) (restarted_same (run_state new_room run) l.after now l.same))
 
 -- records of a run have no bad one among them
-pub run_is_good : (error : RestoreError) (run : List RunEvent) → IsBadAt error (after_records 0 new_placement (run_records new_placement run)) → error ≡ OutOfMemory
+pub run_is_good : (error : RestoreError) (run : List RunEvent) → IsBadAt error (after_records 0 new_room (run_records new_room run)) → error ≡ OutOfMemory
 run_is_good (BadRecord index) run b =
-    let l = run_replayed new_placement new_placement run 0 new_reached (record { next_version = refl; boots = refl; members = refl }) in
-    let e : after_records 0 new_placement (run_records new_placement run) ≡ Ok l.after = l.is in
-    let f : after_records 0 new_placement (run_records new_placement run) ≡ Err index = b in
+    let l = run_replayed new_room new_room run 0 new_reached (record { next_version = refl; boots = refl; members = refl }) in
+    let e : after_records 0 new_room (run_records new_room run) ≡ Ok l.after = l.is in
+    let f : after_records 0 new_room (run_records new_room run) ≡ Err index = b in
     absurd (cc)
 run_is_good OutOfMemory run b = refl
 
 -- the state after the records of a run restarts as the last state of the run does
-pub run_restarts : (run : List RunEvent) (now : ℕ) (t : PlacementState) → after_records 0 new_placement (run_records new_placement run) ≡ Ok t → placement_restarted t now ≡ placement_restarted (run_state new_placement run) now
+pub run_restarts : (run : List RunEvent) (now : ℕ) (t : RoomState) → after_records 0 new_room (run_records new_room run) ≡ Ok t → room_restarted t now ≡ room_restarted (run_state new_room run) now
 run_restarts run now t e =
-    let l = run_replayed new_placement new_placement run 0 new_reached (record { next_version = refl; boots = refl; members = refl }) in
-    let f : after_records 0 new_placement (run_records new_placement run) ≡ Ok l.after = l.is in
+    let l = run_replayed new_room new_room run 0 new_reached (record { next_version = refl; boots = refl; members = refl }) in
+    let f : after_records 0 new_room (run_records new_room run) ≡ Ok l.after = l.is in
     let same : l.after ≡ t = cc in
-    ap (λ (s : PlacementState). placement_restarted s now) (sym same) ∙ restarted_same (run_state new_placement run) l.after now l.same
+    ap (λ (s : RoomState). room_restarted s now) (sym same) ∙ restarted_same (run_state new_room run) l.after now l.same

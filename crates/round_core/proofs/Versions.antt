@@ -6,26 +6,26 @@ use Rattle.place_table.specs.declared.ack_stage.AckStage.TheVariants as stages
 use Rattle.round_core.specs.declared.phase.RoundPhase.{RoundPhase}
 use Rattle.round_core.specs.declared.phase.RoundPhase.TheVariants.{Quiet, Running}
 use Rattle.member_roster.specs.Members.{any_pending, targeted}
-use Rattle.round_core.specs.Placement.{PlacementState, Conclusion, Stays, Says, Tells, is_quiet, next_stage, advance_round, may_start, start_round, advance_fully, settle_round, conclude}
+use Rattle.round_core.specs.Room.{RoomState, Conclusion, Stays, Says, Tells, is_quiet, next_stage, advance_round, may_start, start_round, advance_fully, settle_round, conclude}
 
-pub record Rises (s t : PlacementState) : Type 0 where
+pub record Rises (s t : RoomState) : Type 0 where
   pub low : s.next_version ≤ t.next_version
   pub high : s.next_version ≤ 2 ^ 62 → t.next_version ≤ 2 ^ 62
 
-pub rises_all : (s t : PlacementState) → t.next_version ≡ s.next_version → Rises s t
+pub rises_all : (s t : RoomState) → t.next_version ≡ s.next_version → Rises s t
 rises_all s t e = record { low = omega arith; high = λ h. omega arith }
 
-pub rises_on : (s t u : PlacementState) → Rises s t → Rises t u → Rises s u
+pub rises_on : (s t u : RoomState) → Rises s t → Rises t u → Rises s u
 rises_on s t u a b =
     record { low = (let x = a.low in let y = b.low in omega arith); high = λ h. b.high (a.high h) }
 
-next_rises : (s : PlacementState) (phase : RoundPhase) → Rises s (next_stage s phase)
+next_rises : (s : RoomState) (phase : RoundPhase) → Rises s (next_stage s phase)
 next_rises s Quiet = rises_all s s refl
 next_rises s (Running stages.Lock) = rises_all s _ refl
 next_rises s (Running stages.Update) = rises_all s _ refl
 next_rises s (Running stages.Unlock) = rises_all s _ refl
 
-advance_rises : (s : PlacementState) → Rises s (advance_round s)
+advance_rises : (s : RoomState) → Rises s (advance_round s)
 advance_rises s = go (any_pending s.members)
   where
     go : (b : Bool) → Rises s (cond b s (next_stage s s.phase))
@@ -38,25 +38,25 @@ below_limit a b n e =
     let q = and_parts b (nat_lt n (2 ^ 62)) p.1 in
     ltb-true n (2 ^ 62) q.1
 
-start_rises : (s : PlacementState) → Rises s (start_round s)
+start_rises : (s : RoomState) → Rises s (start_round s)
 start_rises s =
-    cond_both (may_start s) (record s { next_version = s.next_version + 1; members = map targeted s.members; phase = Running stages.Lock; dirty = false }) s (λ (t : PlacementState). Rises s t)
+    cond_both (may_start s) (record s { next_version = s.next_version + 1; members = map targeted s.members; phase = Running stages.Lock; dirty = false }) s (λ (t : RoomState). Rises s t)
     (λ e. let l = below_limit (is_quiet s.phase) s.dirty s.next_version e in record { low = omega arith; high = λ h. omega arith })
     (λ _. rises_all s s refl)
 
-fully_rises : (s : PlacementState) → Rises s (advance_fully s)
+fully_rises : (s : RoomState) → Rises s (advance_fully s)
 fully_rises s =
     let t = advance_round s in
     let u = advance_round t in
     rises_on s t (advance_round u) (advance_rises s) (rises_on t u (advance_round u) (advance_rises t) (advance_rises u))
 
-pub settle_rises : (s : PlacementState) → Rises s (settle_round s)
+pub settle_rises : (s : RoomState) → Rises s (settle_round s)
 settle_rises s =
     let t = advance_fully s in
     let u = start_round t in
     rises_on s t (advance_fully u) (fully_rises s) (rises_on t u (advance_fully u) (start_rises t) (fully_rises u))
 
-pub conclude_rises : (s : PlacementState) (k : Conclusion) → Rises s (conclude s k).state
+pub conclude_rises : (s : RoomState) (k : Conclusion) → Rises s (conclude s k).state
 conclude_rises s (Stays reply) = rises_all s s refl
 conclude_rises s (Says reply) = settle_rises s
 conclude_rises s (Tells m) = settle_rises s

@@ -1,6 +1,7 @@
-pub mod Placement
+pub mod Room
 pub mod Openings
 pub mod Records
 pub mod Views
 pub mod Runs
 pub mod Reached
+pub mod Settled

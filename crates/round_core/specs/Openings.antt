@@ -1,8 +1,8 @@
 -- Before the first round a placement is the opening one. Own.
 use Rattle.std.specs.Prelude.{◌≡◌, ◌≤◌}
-use Rattle.round_core.specs.Placement.{PlacementState, new_placement}
+use Rattle.round_core.specs.Room.{RoomState, new_room}
 
 -- a state whose next version is 1 is the opening one: nobody is a member then, and no node is known
-pub record IsNewOrUsed (s : PlacementState) : Type 0 where
+pub record IsNewOrUsed (s : RoomState) : Type 0 where
   pub used : 1 ≤ s.next_version
-  pub unused : s.next_version ≡ 1 → s ≡ new_placement
+  pub unused : s.next_version ≡ 1 → s ≡ new_room

@@ -3,7 +3,7 @@ use Rattle.std.specs.Prelude.{◌≡◌, ◌≤◌, ◌^◌, ℕ, Bool, false, �
 use Rattle.place_table.specs.declared.host.HostInfo.{HostInfo}
 use Rattle.member_roster.specs.Members.{hosts_of}
 use Rattle.round_core.specs.Openings.{IsNewOrUsed}
-use Rattle.round_core.specs.Placement.{PlacementState}
+use Rattle.round_core.specs.Room.{RoomState}
 
 abbrev pub has_host : List HostInfo → List ℕ → Bool
 has_host [] node = false
@@ -15,7 +15,7 @@ Distinct [] = Unit {0}
 Distinct (h ∷ hs) = (has_host hs h.member.node ≡ false) × Distinct hs
 
 -- The members' nodes differ, the state is the opening one until it is used, and its versions are in range.
-pub record IsReached (s : PlacementState) : Type 0 where
+pub record IsReached (s : RoomState) : Type 0 where
   pub distinct : Distinct (hosts_of s.members)
   pub kept : IsNewOrUsed s
   pub within : s.next_version ≤ 2 ^ 62

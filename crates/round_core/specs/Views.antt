@@ -4,32 +4,32 @@ use Rattle.round_core.specs.declared.event.PlaceEvent.{PlaceEvent}
 use Rattle.round_core.specs.declared.event.PlaceEvent.TheVariants as events
 use Rattle.round_core.specs.declared.event.PlaceReply.{PlaceReply}
 use Rattle.round_core.specs.declared.event.PlaceReply.TheVariants as replies
-use Rattle.round_core.specs.Placement.{PlacementState, placement_step}
+use Rattle.round_core.specs.Room.{RoomState, room_step}
 use Rattle.round_core.specs.Records.{RecordOf, step_record}
 
 -- a state, and for how many members there is room
 pub record RoundState : Type 0 where
-  pub state : PlacementState
+  pub state : RoomState
   pub capacity : ℕ
 
-abbrev pub with_state : RoundState → PlacementState → RoundState
+abbrev pub with_state : RoundState → RoomState → RoundState
 with_state r s = record r { state = s }
 
 -- a placement: the state, and what of the last step has to be on the disk
-pub record PlacementView : Type 0 where
-  pub state : PlacementState
+pub record RoomView : Type 0 where
+  pub state : RoomState
   pub recent : Option RecordOf
 
 -- what a step gives: the reply and the state of the definition, and the record
-abbrev pub Gives : PlaceEvent → ℕ → PlaceReply → PlacementView → PlacementView → Type 0
-Gives event now reply old new = (reply ≡ (placement_step old.state event now).reply) × (new ≡ record { state = (placement_step old.state event now).state; recent = step_record old.state event now })
+abbrev pub Gives : PlaceEvent → ℕ → PlaceReply → RoomView → RoomView → Type 0
+Gives event now reply old new = (reply ≡ (room_step old.state event now).reply) × (new ≡ record { state = (room_step old.state event now).state; recent = step_record old.state event now })
 
 -- the same, but at want of memory the state is as before, and there is nothing to record
-abbrev pub GivesInMemory : PlaceEvent → ℕ → PlaceReply → PlacementView → PlacementView → Type 0
+abbrev pub GivesInMemory : PlaceEvent → ℕ → PlaceReply → RoomView → RoomView → Type 0
 GivesInMemory event now replies.OutOfMemory old new = new ≡ record { state = old.state; recent = None }
 GivesInMemory event now reply old new = Gives event now reply old new
 
 -- a Register may want memory, and no other event
-abbrev pub GivesStep : PlaceEvent → ℕ → PlaceReply → PlacementView → PlacementView → Type 0
+abbrev pub GivesStep : PlaceEvent → ℕ → PlaceReply → RoomView → RoomView → Type 0
 GivesStep (events.Register host) now reply old new = GivesInMemory (events.Register host) now reply old new
 GivesStep event now reply old new = Gives event now reply old new

@@ -1,7 +1,7 @@
 // A host takes its place among the members, with all the room that it needs.
 ghost use Rattle.std.specs.Prelude.{◌≡◌, ◌≤◌, None, false, OnOk, OnErr};
 ghost use Rattle.member_roster.specs.Members.{of_node};
-ghost use Rattle.round_core.specs.Placement.{is_full, with_joined};
+ghost use Rattle.round_core.specs.Room.{is_full, with_joined};
 
 use crate::rounds::Rounds;
 use actor_names::OutOfMemory;

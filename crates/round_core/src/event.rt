@@ -56,6 +56,8 @@ pub enum PlaceReply {
     NodeBusy { boot: u64 },
     /// Refused: there is no such member; the greatest boot of its node, 0 for an unknown node.
     NotMember { greatest: u64 },
+    /// Refused: there are as many spaces as there may be, and the member is of another. No room answers so.
+    SpacesFull { spaces: u32 },
     /// Refused: there are 256 members, or 65,536 known nodes and this one is new.
     Full { members: u32, nodes: u32 },
     /// There was no memory; the placement is as before. Answered to Register alone.

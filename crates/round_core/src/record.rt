@@ -4,7 +4,7 @@ use place_table::HostInfo;
 
 /// What of a step has to be on the disk before its reply goes out.
 #[derive(Drop)]
-pub struct PlacementRecord {
+pub struct RoomRecord {
     /// The host that joined.
     pub joined: Option<HostInfo>,
     /// The members that were removed; they were removed before the host joined.

@@ -1,11 +1,11 @@
 // The members, boots and version that are read from the records of a run.
 ghost use Rattle.std.specs.Prelude.{◌≡◌, ◌≤◌, Some, None, map, IfOk, IfErr, OnOk, if◌then◌else◌};
-ghost use Rattle.round_core.specs.Placement.{PlacementState};
+ghost use Rattle.round_core.specs.Room.{RoomState};
 ghost use Rattle.round_core.specs.Records.{record_of, after_join, after_record, after_records, IsBadAt};
 ghost use Rattle.std.specs.declared.result.Result.TheVariants.{Ok};
 
 use crate::admission::admit;
-use crate::record::PlacementRecord;
+use crate::record::RoomRecord;
 use crate::rounds::{Rounds, VERSION_LIMIT};
 use actor_names::OutOfMemory;
 use member_roster::MemberList;
@@ -13,7 +13,7 @@ use place_table::HostInfo;
 use std::alloc::Global;
 use thiserror::Error;
 
-/// Why no placement is restored of some records.
+/// Why no room is restored of some records.
 #[derive(Clone, Copy, Debug, PartialEq, Eq, Error)]
 pub enum RestoreError {
     /// The record at `index`, counted from 0, is the first bad one: it removes somebody who is no member, it joins
@@ -21,7 +21,7 @@ pub enum RestoreError {
     /// known node, or its next version is below the one before it or above 2^62.
     #[error("record {index} is bad")]
     BadRecord { index: u64 },
-    /// There was no memory for the placement.
+    /// There was no memory for the room.
     #[error("out of memory")]
     OutOfMemory,
 }
@@ -67,7 +67,7 @@ fn apply_record(
     alloc: Global,
     rounds: &mut Rounds,
     removed: &mut MemberList,
-    record_: &PlacementRecord,
+    record_: &RoomRecord,
 ) -> Result<bool, OutOfMemory>
     requires { rounds.old.capacity ≤ removed.old.capacity }
     ensures after { IfOk result (λ b. after_record rounds.old.state (record_of record_.now) ≡ (if b then Some rounds.new.state else None)) }
@@ -92,7 +92,7 @@ pub(crate) fn apply_records(
     alloc: Global,
     rounds: &mut Rounds,
     removed: &mut MemberList,
-    records: &[PlacementRecord],
+    records: &[RoomRecord],
 ) -> Result<(), RestoreError>
     requires { rounds.old.capacity ≤ removed.old.capacity }
     ensures after { OnOk result (after_records 0 rounds.old.state (map record_of records.now) ≡ Ok rounds.new.state) }

@@ -5,33 +5,33 @@ use actor_names::read_member;
 use std::alloc::Global;
 use std::test::Fail;
 
-/// A run that is going on: the placement, and the records that it has pending.
+/// A run that is going on: the room, and the records that it has pending.
 #[derive(Drop)]
 struct Run {
     alloc: Global,
-    placement: Placement,
-    records: Vec<PlacementRecord>,
+    room: Room,
+    records: Vec<RoomRecord>,
 }
 
 impl Run {
     fn new(alloc: Global) -> Run {
         Run {
             alloc,
-            placement: Placement::new(alloc),
+            room: Room::new(alloc),
             records: Vec::new(alloc),
         }
     }
 
     /// Keeps the record of the last step, if there is one.
     fn keep(&mut self) -> Result<(), Fail> {
-        if let Some(record_) = self.placement.record() {
+        if let Some(record_) = self.room.record() {
             let joined = match &record_.joined {
                 Some(host) => Some(host.copy(self.alloc)?),
                 None => None,
             };
             let removed = record_.removed.copy(self.alloc)?;
             let next_version = record_.next_version;
-            self.records.push(PlacementRecord {
+            self.records.push(RoomRecord {
                 joined,
                 removed,
                 next_version,
@@ -41,13 +41,13 @@ impl Run {
     }
 
     fn step(&mut self, event: PlaceEvent, now: u64) -> Result<(), Fail> {
-        let _reply = self.placement.step(event, now);
+        let _reply = self.room.step(event, now);
         self.keep()
     }
 
     fn join_all(&mut self, members: &[&[u8]]) -> Result<(), Fail> {
         for i in 0..members.len() {
-            let _reply = register(self.alloc, &mut self.placement, members[i])?;
+            let _reply = register(self.alloc, &mut self.room, members[i])?;
             self.keep()?;
         }
         Ok(())
@@ -64,7 +64,7 @@ impl Run {
     }
 
     fn restart(&mut self) -> Result<(), Fail> {
-        self.placement.restarted(2000);
+        self.room.restarted(2000);
         self.keep()
     }
 }
@@ -87,13 +87,13 @@ fn go_through(run: &mut Run) -> Result<(), Fail> {
 }
 
 /// The answer to a Beat.
-fn told(placement: &mut Placement, member: &[u8]) -> Result<PlaceReply, Fail> {
+fn told(room: &mut Room, member: &[u8]) -> Result<PlaceReply, Fail> {
     let member = read_member(member)?;
-    Ok(placement.step(PlaceEvent::Beat { member }, 20_001))
+    Ok(room.step(PlaceEvent::Beat { member }, 20_001))
 }
 
 /// Whether both answer a Beat of each member with the Lock of `version`, and those of strangers as they have to.
-fn tell_same(restored: &mut Placement, live: &mut Placement, version: u64) -> Result<bool, Fail> {
+fn tell_same(restored: &mut Room, live: &mut Room, version: u64) -> Result<bool, Fail> {
     let table: [(&[u8], PlaceReply); 9] = [
         (b"a/1", PlaceReply::Lock { version }),
         (b"b/2", PlaceReply::Lock { version }),
@@ -118,12 +118,12 @@ fn records_of_run_restore_its_restart(rt: HostRuntime) -> Result<(), Fail> {
     let mut run = Run::new(rt.alloc());
     go_through(&mut run)?;
     assert_eq!(rt; run.records.len(), 21);
-    let mut restored = Placement::restore(rt.alloc(), run.records.as_slice(), 20_000)?;
-    run.placement.restarted(20_000);
-    let version = run.placement.last_version();
+    let mut restored = Room::restore(rt.alloc(), run.records.as_slice(), 20_000)?;
+    run.room.restarted(20_000);
+    let version = run.room.last_version();
     assert_eq!(rt; restored.last_version(), version);
     assert_eq!(rt; restored.members().len(), 6);
-    let same = tell_same(&mut restored, &mut run.placement, version)?;
+    let same = tell_same(&mut restored, &mut run.room, version)?;
     assert!(rt; same);
     Ok(())
 }
@@ -131,16 +131,16 @@ fn records_of_run_restore_its_restart(rt: HostRuntime) -> Result<(), Fail> {
 #[test]
 fn no_records_restore_opening_state(rt: HostRuntime) -> Result<(), Fail> {
     let records = Vec::new(rt.alloc());
-    let placement = Placement::restore(rt.alloc(), records.as_slice(), 5000)?;
-    assert_eq!(rt; placement.last_version(), 0);
-    assert_eq!(rt; placement.members().len(), 0);
-    assert!(rt; placement.record().is_none());
+    let room = Room::restore(rt.alloc(), records.as_slice(), 5000)?;
+    assert_eq!(rt; room.last_version(), 0);
+    assert_eq!(rt; room.members().len(), 0);
+    assert!(rt; room.record().is_none());
     Ok(())
 }
 
 /// Puts a record at the end: a member that joins or is removed, and the next version.
 fn note(
-    records: &mut Vec<PlacementRecord>,
+    records: &mut Vec<RoomRecord>,
     alloc: Global,
     joins: bool,
     member: &[u8],
@@ -153,7 +153,7 @@ fn note(
     } else {
         removed.push(read_member(member)?)?;
     }
-    records.push(PlacementRecord {
+    records.push(RoomRecord {
         joined,
         removed: MemberList::from_vec(removed),
         next_version,
@@ -162,8 +162,8 @@ fn note(
 }
 
 /// The index of the bad record, where there is one.
-fn bad_index(alloc: Global, records: &[PlacementRecord]) -> Option<u64> {
-    match &Placement::restore(alloc, records, 5000) {
+fn bad_index(alloc: Global, records: &[RoomRecord]) -> Option<u64> {
+    match &Room::restore(alloc, records, 5000) {
         Ok(_) => None,
         Err(RestoreError::BadRecord { index }) => Some(*index),
         Err(RestoreError::OutOfMemory) => None,
@@ -222,14 +222,14 @@ fn numbered(alloc: Global, number: u32) -> Result<String, Fail> {
 }
 
 /// Puts a record at the end by which a node joins and the one before it is removed.
-fn pass_on(records: &mut Vec<PlacementRecord>, alloc: Global, number: u32) -> Result<(), Fail> {
+fn pass_on(records: &mut Vec<RoomRecord>, alloc: Global, number: u32) -> Result<(), Fail> {
     let mut removed = Vec::new(alloc);
     if number > FIRST {
         let before = numbered(alloc, number - 1)?;
         removed.push(read_member(before.as_bytes())?)?;
     }
     let member = numbered(alloc, number)?;
-    records.push(PlacementRecord {
+    records.push(RoomRecord {
         joined: Some(host(alloc, member.as_bytes())?),
         removed: MemberList::from_vec(removed),
         next_version: u64::from(number),
@@ -238,7 +238,7 @@ fn pass_on(records: &mut Vec<PlacementRecord>, alloc: Global, number: u32) -> Re
 }
 
 /// The records of 65,537 nodes, each of which takes the place of the one before it.
-fn many_records(alloc: Global) -> Result<Vec<PlacementRecord>, Fail> {
+fn many_records(alloc: Global) -> Result<Vec<RoomRecord>, Fail> {
     let mut records = Vec::new(alloc);
     for number in FIRST..LAST + 1 {
         pass_on(&mut records, alloc, number)?;
@@ -247,18 +247,18 @@ fn many_records(alloc: Global) -> Result<Vec<PlacementRecord>, Fail> {
 }
 
 /// What is restored of all records but the last.
-fn restored_before_last(alloc: Global, records: &[PlacementRecord]) -> Result<Placement, Fail> {
+fn restored_before_last(alloc: Global, records: &[RoomRecord]) -> Result<Room, Fail> {
     if records.is_empty() {
         return Err("no records")?;
     }
     let front = &records[..records.len() - 1];
-    Ok(Placement::restore(alloc, front, 5000)?)
+    Ok(Room::restore(alloc, front, 5000)?)
 }
 
 /// Whether nobody else is a member.
-fn is_alone(placement: &Placement, member: &[u8]) -> Result<bool, Fail> {
+fn is_alone(room: &Room, member: &[u8]) -> Result<bool, Fail> {
     let member = read_member(member)?;
-    let hosts = placement.members();
+    let hosts = room.members();
     if hosts.len() != 1 {
         return Ok(false);
     }

@@ -2,7 +2,7 @@
 ghost use Rattle.std.specs.Prelude.{◌≡◌, ◌==◌, ◌&&◌, true, ◌+◌, ◌<◌, ◌≤◌, ◌^◌, ◌++◌, length, IfOk, OnOk, OnErr, Some, None, false, max, option_map, IsTrue, IsFalse};
 ghost use Rattle.std.specs.List.{slice_get};
 ghost use Rattle.member_roster.specs.Members.{is_here, is_pending, with_node, without_node, heard_at, hosts_of, boot_of, of_node, greatest_boot, Joined, is_late, late_of, removes_all};
-ghost use Rattle.round_core.specs.Placement.{placement_restarted, new_placement, advance_round, start_round, settle_round, advance_fully, may_start, is_in_stage, is_full, with_joined, drop_late, reply_for, last_version, ack_change};
+ghost use Rattle.round_core.specs.Room.{room_restarted, new_room, advance_round, start_round, settle_round, advance_fully, may_start, is_in_stage, is_full, with_joined, drop_late, reply_for, last_version, ack_change};
 ghost use Rattle.member_roster.specs.Places.{Ascends, host_node};
 ghost use Rattle.round_core.specs.Records.{may_join};
 ghost use Rattle.round_core.specs.Views.{with_state};
@@ -42,7 +42,7 @@ impl Model for Rounds {
 impl Rounds {
     /// Nobody, and no round.
     pub(crate) fn new(alloc: Global) -> Rounds
-        ensures { result ≡ record { state = new_placement; capacity = 0 } }
+        ensures { result ≡ record { state = new_room; capacity = 0 } }
     {
         Rounds {
             next_version: 1,
@@ -241,6 +241,7 @@ impl Rounds {
     /// How many members there are.
     pub(crate) fn len(&self) -> u32
         ensures count { result ≡ length self.now.state.members }
+        ensures within { result ≤ 256 }
         ensures capacity { result ≤ self.now.capacity }
     {
         self.roster.len()
@@ -353,7 +354,7 @@ impl Rounds {
 
     /// The restart; where no round has ever started it is the opening state.
     pub(crate) fn restart(&mut self, now: u64)
-        ensures { self.new ≡ with_state self.old (placement_restarted self.old.state now) }
+        ensures { self.new ≡ with_state self.old (room_restarted self.old.state now) }
     {
         if self.next_version == 1 {
             self.roster.clear();

@@ -18,23 +18,15 @@ pub(crate) fn host(alloc: Global, member: &[u8]) -> Result<HostInfo, Fail> {
 }
 
 /// The answer to a Register at the moment 1,000.
-pub(crate) fn register(
-    alloc: Global,
-    placement: &mut Placement,
-    member: &[u8],
-) -> Result<PlaceReply, Fail> {
+pub(crate) fn register(alloc: Global, room: &mut Room, member: &[u8]) -> Result<PlaceReply, Fail> {
     let host = host(alloc, member)?;
-    Ok(placement.step(PlaceEvent::Register { host }, 1000))
+    Ok(room.step(PlaceEvent::Register { host }, 1000))
 }
 
 /// The answer to an acknowledgement of `a/1`.
-fn acknowledge(
-    placement: &mut Placement,
-    stage: AckStage,
-    version: u64,
-) -> Result<PlaceReply, Fail> {
+fn acknowledge(room: &mut Room, stage: AckStage, version: u64) -> Result<PlaceReply, Fail> {
     let member = read_member(b"a/1")?;
-    Ok(placement.step(
+    Ok(room.step(
         PlaceEvent::Ack {
             member,
             stage,
@@ -44,13 +36,13 @@ fn acknowledge(
     ))
 }
 
-/// A placement whose one member `a/1` has gone through a round.
-fn after_one_round(alloc: Global) -> Result<Placement, Fail> {
-    let mut placement = Placement::new(alloc);
+/// A room whose one member `a/1` has gone through a round.
+fn after_one_round(alloc: Global) -> Result<Room, Fail> {
+    let mut room = Room::new(alloc);
     let mut replies = Vec::new(alloc);
-    replies.push(register(alloc, &mut placement, b"a/1")?)?;
+    replies.push(register(alloc, &mut room, b"a/1")?)?;
     for stage in [AckStage::Lock, AckStage::Update, AckStage::Unlock] {
-        replies.push(acknowledge(&mut placement, stage, 1)?)?;
+        replies.push(acknowledge(&mut room, stage, 1)?)?;
     }
     let wanted = [
         PlaceReply::Lock { version: 1 },
@@ -59,7 +51,7 @@ fn after_one_round(alloc: Global) -> Result<Placement, Fail> {
         PlaceReply::Idle,
     ];
     if replies.as_slice() == wanted.as_slice() {
-        Ok(placement)
+        Ok(room)
     } else {
         Err("other replies of the first round")?
     }
@@ -67,7 +59,7 @@ fn after_one_round(alloc: Global) -> Result<Placement, Fail> {
 
 #[test]
 fn member_257_is_refused(rt: HostRuntime) -> Result<(), Fail> {
-    let mut placement = Placement::new(rt.alloc());
+    let mut room = Room::new(rt.alloc());
     for i in 0..257u32 {
         let member = format!(in rt.alloc(); "m{i}/1")?;
         let wanted = match i {
@@ -78,42 +70,42 @@ fn member_257_is_refused(rt: HostRuntime) -> Result<(), Fail> {
             },
             _ => PlaceReply::Idle,
         };
-        let reply = register(rt.alloc(), &mut placement, member.as_bytes())?;
+        let reply = register(rt.alloc(), &mut room, member.as_bytes())?;
         assert_eq!(rt; reply, wanted);
     }
-    assert_eq!(rt; placement.members().len(), 256);
-    assert!(rt; placement.record().is_none());
+    assert_eq!(rt; room.members().len(), 256);
+    assert!(rt; room.record().is_none());
     Ok(())
 }
 
 #[test]
 fn silent_member_is_dropped_at_ten_seconds(rt: HostRuntime) -> Result<(), Fail> {
-    let mut placement = Placement::new(rt.alloc());
-    let reply = register(rt.alloc(), &mut placement, b"m0/1")?;
+    let mut room = Room::new(rt.alloc());
+    let reply = register(rt.alloc(), &mut room, b"m0/1")?;
     assert_eq!(rt; reply, PlaceReply::Lock { version: 1 });
-    let early = placement.step(PlaceEvent::Tick, 10_999);
+    let early = room.step(PlaceEvent::Tick, 10_999);
     assert_eq!(rt; early, PlaceReply::Ticked { dropped: 0 });
-    let late = placement.step(PlaceEvent::Tick, 11_000);
+    let late = room.step(PlaceEvent::Tick, 11_000);
     assert_eq!(rt; late, PlaceReply::Ticked { dropped: 1 });
-    assert_eq!(rt; placement.last_version(), 2);
+    assert_eq!(rt; room.last_version(), 2);
     Ok(())
 }
 
 #[test]
 fn late_ack_only_beats(rt: HostRuntime) -> Result<(), Fail> {
-    let mut placement = after_one_round(rt.alloc())?.copy(rt.alloc())?;
-    assert_eq!(rt; placement.table_hosts().len(), 1);
-    placement.restarted(3000);
-    let reply = acknowledge(&mut placement, AckStage::Unlock, 1)?;
+    let mut room = after_one_round(rt.alloc())?.copy(rt.alloc())?;
+    assert_eq!(rt; room.table_hosts().len(), 1);
+    room.restarted(3000);
+    let reply = acknowledge(&mut room, AckStage::Unlock, 1)?;
     assert_eq!(rt; reply, PlaceReply::Lock { version: 2 });
     Ok(())
 }
 
 #[test]
 fn stopped_member_boots_again(rt: HostRuntime) -> Result<(), Fail> {
-    let mut placement = after_one_round(rt.alloc())?;
+    let mut room = after_one_round(rt.alloc())?;
     let member = read_member(b"a/1")?;
-    let lost = placement.step(PlaceEvent::Lost { member }, 3000);
+    let lost = room.step(PlaceEvent::Lost { member }, 3000);
     assert_eq!(rt; lost, PlaceReply::Gone);
     let table: [(&[u8], PlaceReply); 4] = [
         (b"a/1", PlaceReply::StaleBoot { greatest: 1 }),
@@ -122,11 +114,11 @@ fn stopped_member_boots_again(rt: HostRuntime) -> Result<(), Fail> {
         (b"a/1", PlaceReply::StaleBoot { greatest: 2 }),
     ];
     for (member, wanted) in table {
-        let reply = register(rt.alloc(), &mut placement, member)?;
+        let reply = register(rt.alloc(), &mut room, member)?;
         assert_eq!(rt; reply, wanted);
     }
     let stranger = read_member(b"b/1")?;
-    let reply = placement.step(PlaceEvent::Beat { member: stranger }, 3000);
+    let reply = room.step(PlaceEvent::Beat { member: stranger }, 3000);
     assert_eq!(rt; reply, PlaceReply::NotMember { greatest: 0 });
     Ok(())
 }

@@ -1,15 +1,14 @@
 -- A line that comes late sets nothing.
 use Rattle.std.proofs.Common.{◌≡◌, ℕ, Bool, true, List, [], ◌∷◌, length, Ok, Err}
-use Rattle.std.specs.Prelude.{Result, Option, nat_lt, bytes_eq, codes, if◌then◌else◌}
+use Rattle.std.specs.Prelude.{Result, nat_lt, bytes_eq, codes, if◌then◌else◌}
 use Rattle.std.proofs.lemmas.Bool.{cond_both}
 use Rattle.world_events.specs.Solo.{SoloEvent}
 use Rattle.world_events.specs.declared.event.WorldEvent.{WorldEvent}
-use Rattle.world_events.specs.declared.event.WorldEvent.TheVariants as lines
 use Rattle.actor_names.specs.declared.actor_key.ActorKey.{ActorKey}
 use Rattle.actor_names.specs.declared.member.Member.{Member}
 use Rattle.script_text.specs.Lines.{Word, words_from}
 use Rattle.script_text.specs.Reading.{◌>>=◌, Setting, longest_script_line, is_blank, by_first_word, ending_with, next_as, number_in, key_in, chain_clause}
-use Rattle.script_text.specs.ClusterWords.{member_in, least_clause}
+use Rattle.script_text.specs.ClusterWords.{member_in, node_in, boot_types_in, space_clause, least_clause}
 use Rattle.script_text.specs.SoloLines as solo
 use Rattle.script_text.specs.ClusterLines as cluster
 
@@ -82,6 +81,11 @@ call_not past words =
     after cluster.Sets (next_as number_in past words) _ (λ call. after cluster.Sets (next_as member_in past call.1) _ (λ member. after cluster.Sets (next_as key_in past member.1) _ (λ key.
     after cluster.Sets (least_clause past key.1) _ (λ least. after cluster.Sets (chain_clause past least.1) _ (λ chain. ends cluster.Sets _ chain.1 (happens_not _ _))))))
 
+boot_not : (past : ℕ) (words : List Word) → IsNone cluster.Sets (cluster.boot_line past words)
+boot_not past words =
+    after cluster.Sets (next_as node_in past words) _ (λ node. after cluster.Sets (next_as boot_types_in past node.1) _ (λ kinds.
+    after cluster.Sets (space_clause past kinds.1) _ (λ space. happens_not _ _)))
+
 other_not : (past : ℕ) (first : List ℕ) (words : List Word) → IsNone cluster.Sets (cluster.other_line_by true past first words)
 other_not past first words =
     either cluster.Sets (bytes_eq first (codes "at")) _ _ (after cluster.Sets _ _ (λ moment. happens_not _ _))
@@ -93,7 +97,7 @@ of_actor_not past first words =
     either cluster.Sets (bytes_eq first (codes "hold")) _ _ (actor_not _ past words)
     (either cluster.Sets (bytes_eq first (codes "release")) _ _ (actor_not _ past words)
     (either cluster.Sets (bytes_eq first (codes "closed")) _ _ (actor_not _ past words)
-    (either cluster.Sets (bytes_eq first (codes "boot")) _ _ (after cluster.Sets _ _ (λ w. happens_not _ _)) (other_not past first words))))
+    (either cluster.Sets (bytes_eq first (codes "boot")) _ _ (boot_not past words) (other_not past first words))))
 
 of_member_not : (past : ℕ) (first : List ℕ) (words : List Word) → IsNone cluster.Sets (cluster.member_line_by true past first words)
 of_member_not past first words =

@@ -2,6 +2,7 @@
 use Rattle.std.proofs.Common.{◌≡◌, [], ◌∷◌, None, Some, Ok, Err, true, false, refl}
 use Rattle.std.specs.Prelude.{codes}
 use Rattle.std.specs.Fmt.{digits}
+use Rattle.actor_names.specs.Names.{default_space}
 use Rattle.actor_names.specs.declared.actor_key.ActorKey.{ActorKey}
 use Rattle.actor_names.specs.declared.member.Member.{Member}
 use Rattle.place_table.specs.declared.ack_stage.AckStage.TheVariants as stage
@@ -17,10 +18,16 @@ use Rattle.script_text.specs.ClusterLines.{cluster_line, parts_line, Blank, Sets
 use Rattle.script_text.specs.Outcomes.{outcome_text}
 
 abbrev a/1 : Member
-a/1 = record { node = codes "a"; boot = 1 }
+a/1 = record { space = default_space; node = codes "a"; boot = 1 }
 
 abbrev key : ActorKey
-key = record { kind = codes "counter"; id = codes "k0" }
+key = record { space = default_space; kind = codes "counter"; id = codes "k0" }
+
+abbrev blue:a/1 : Member
+blue:a/1 = record { space = codes "blue"; node = codes "a"; boot = 1 }
+
+abbrev blue_key : ActorKey
+blue_key = record { space = codes "blue"; kind = codes "counter"; id = codes "a:b" }
 
 -- lines of a solo script, with the column at which a wrong number or a second depth is refused
 solo_call : solo_line true (codes "call 2 counter/k0 chain x") ≡ Ok (says.Does 6 (solo.Call 2 (codes "counter/k0") (Some (codes "x"))))
@@ -36,7 +43,7 @@ solo_end_of_two : solo_line true (codes "end 1 2") ≡ Err 7
 solo_end_of_two = refl
 
 -- lines of a cluster script
-boot_of_two : cluster_line true (codes "boot a counter,nested") ≡ Ok (Does 1 (lines.Boot (codes "a") (codes "counter" ∷ codes "nested" ∷ [])))
+boot_of_two : cluster_line true (codes "boot a counter,nested") ≡ Ok (Does 1 (lines.Boot default_space (codes "a") (codes "counter" ∷ codes "nested" ∷ [])))
 boot_of_two = refl
 
 call_in_full : cluster_line true (codes "call 1 a/1 counter/k0 least 2 chain x") ≡ Ok (Does 6 (lines.Call 1 a/1 key 2 (Some (codes "x"))))
@@ -47,6 +54,18 @@ call_without_least = refl
 
 call_alone : cluster_line false (codes "call 1 a/1 counter/k0") ≡ Ok (Does 6 (lines.Call 1 a/1 key 0 None))
 call_alone = refl
+
+boot_in_space : cluster_line true (codes "boot a counter space blue") ≡ Ok (Does 1 (lines.Boot (codes "blue") (codes "a") (codes "counter" ∷ [])))
+boot_in_space = refl
+
+call_in_space : cluster_line true (codes "call 1 blue:a/1 counter/a:b least 2") ≡ Ok (Does 6 (lines.Call 1 blue:a/1 blue_key 2 None))
+call_in_space = refl
+
+hold_in_space : cluster_line true (codes "hold blue:a/1 counter/a:b") ≡ Ok (Does 1 (lines.Hold blue:a/1 blue_key))
+hold_in_space = refl
+
+solo_colon_in_id : solo_line true (codes "hold counter/a:b") ≡ Ok (says.Does 1 (solo.Hold (codes "counter/a:b")))
+solo_colon_in_id = refl
 
 at_moment : cluster_line true (codes "at 999999999999") ≡ Ok (Does 4 (lines.At 999999999999))
 at_moment = refl
@@ -69,6 +88,18 @@ least_behind_chain = refl
 
 type_twice : cluster_line true (codes "boot a counter,counter") ≡ Err 8
 type_twice = refl
+
+boot_without_its_space : cluster_line true (codes "boot a counter space") ≡ Err 21
+boot_without_its_space = refl
+
+boot_in_no_space : cluster_line true (codes "boot a counter space Blue") ≡ Err 22
+boot_in_no_space = refl
+
+key_with_a_space : cluster_line true (codes "hold blue:a/1 blue:counter/k0") ≡ Err 15
+key_with_a_space = refl
+
+solo_key_with_a_space : solo_line true (codes "hold blue:counter/k0") ≡ Err 6
+solo_key_with_a_space = refl
 
 missing_part : cluster_line true (codes "part 2") ≡ Err 7
 missing_part = refl
@@ -103,6 +134,22 @@ elsewhere_line = refl
 booted_line : outcome_text (out.Booted a/1 12) ≡ codes "boot a/1 msg 12\n"
 unfolding digits
 booted_line = refl
+
+booted_in_space : outcome_text (out.Booted blue:a/1 12) ≡ codes "boot blue:a/1 msg 12\n"
+unfolding digits
+booted_in_space = refl
+
+spaces_full_line : outcome_text (out.Answered 4 (reply.SpacesFull 64)) ≡ codes "msg 4 spaces-full 64\n"
+unfolding digits
+spaces_full_line = refl
+
+restart_line : outcome_text (out.Restarted (3 ∷ 0 ∷ [])) ≡ codes "restart 3 0\n"
+unfolding digits
+restart_line = refl
+
+restart_of_one : outcome_text (out.Restarted (12 ∷ [])) ≡ codes "restart 12\n"
+unfolding digits
+restart_of_one = refl
 
 ack_line : outcome_text (out.AckAdded 4 stage.Update 2) ≡ codes "msg 4 ack update 2\n"
 unfolding digits

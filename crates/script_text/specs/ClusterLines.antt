@@ -6,7 +6,7 @@ use Rattle.world_events.specs.declared.event.WorldEvent.{WorldEvent}
 use Rattle.world_events.specs.declared.event.WorldEvent.TheVariants as lines
 use Rattle.script_text.specs.Lines.{Word, words_from}
 use Rattle.script_text.specs.Reading.{◌>>=◌, Setting, greatest_number, longest_script_line, number_in, key_in, next_as, next_column, ending_with, only_as, chain_clause, setting_unless, by_first_word, line_by_words}
-use Rattle.script_text.specs.ClusterWords.{node_in, member_in, key_of, are_different, boot_types_in, parts_in, least_clause}
+use Rattle.script_text.specs.ClusterWords.{node_in, member_in, key_of, are_different, boot_types_in, space_clause, parts_in, least_clause}
 
 -- what a line says
 pub data ClusterLine : Type 0 where
@@ -28,9 +28,9 @@ number_line event past words = only_as number_in past words >>= λ n. Ok (does (
 abbrev pub member_line : (Member → WorldEvent) → ℕ → List Word → Result ClusterLine ℕ
 member_line event past words = only_as member_in past words >>= λ member. Ok (does (event member))
 
--- a member and the key of an actor
+-- a member and the key of an actor of its space
 abbrev pub actor_words : ℕ → List Word → Result (Member × ActorKey) ℕ
-actor_words past words = two_as member_in key_in past words >>= λ w. Ok (w.0, key_of w.1)
+actor_words past words = two_as member_in key_in past words >>= λ w. Ok (w.0, key_of w.0.space w.1)
 
 abbrev pub actor_line : (Member → ActorKey → WorldEvent) → ℕ → List Word → Result ClusterLine ℕ
 actor_line event past words = actor_words past words >>= λ w. Ok (does (event w.0 w.1))
@@ -46,8 +46,12 @@ deliver_line past words = two_as number_in number_in past words >>= λ w. Ok (do
 abbrev pub at_line : ℕ → List Word → Result ClusterLine ℕ
 at_line past words = only_as number_in past words >>= λ moment. Ok (Does (next_column past words) (lines.At moment))
 
+-- `boot NODE TYPES`, then maybe `space S`
 abbrev pub boot_line : ℕ → List Word → Result ClusterLine ℕ
-boot_line past words = two_as node_in boot_types_in past words >>= λ w. Ok (does (lines.Boot w.0 w.1))
+boot_line past words =
+    next_as node_in past words >>= λ node.
+    next_as boot_types_in past node.1 >>= λ kinds.
+    space_clause past kinds.1 >>= λ space. Ok (does (lines.Boot space node.0 kinds.0))
 
 -- `call N M TYPE/ID`, then maybe `least V`, then maybe `chain X`
 abbrev pub call_line : ℕ → List Word → Result ClusterLine ℕ
@@ -57,7 +61,7 @@ call_line past words =
     next_as key_in past member.1 >>= λ key.
     least_clause past key.1 >>= λ least.
     chain_clause past least.1 >>= λ chain.
-    ending_with (Does (next_column past words) (lines.Call call.0 member.0 (key_of key.0) least.0 chain.0)) chain.1
+    ending_with (Does (next_column past words) (lines.Call call.0 member.0 (key_of member.0.space key.0) least.0 chain.0)) chain.1
 
 -- an event that is its first word alone
 abbrev pub bare_line : WorldEvent → List Word → Result ClusterLine ℕ
@@ -109,7 +113,7 @@ cluster_line late line = line_by_words Blank (cluster_line_by late) line
 -- whether an event has a key, a chain or types, which take memory
 abbrev pub event_has_names : WorldEvent → Bool
 event_has_names (lines.At moment) = false
-event_has_names (lines.Boot node kinds) = true
+event_has_names (lines.Boot space node kinds) = true
 event_has_names (lines.Beat member) = false
 event_has_names (lines.Collect member) = false
 event_has_names (lines.Leave member) = false
@@ -144,7 +148,7 @@ pub record AreBootTypes (kinds : List (List ℕ)) : Type 0 where
 -- what a world asks of an event beside its line's order
 abbrev pub IsWithinLimits : WorldEvent → Type 0
 IsWithinLimits (lines.At moment) = moment ≤ greatest_number
-IsWithinLimits (lines.Boot node kinds) = AreBootTypes kinds
+IsWithinLimits (lines.Boot space node kinds) = AreBootTypes kinds
 IsWithinLimits (lines.Beat member) = Unit {0}
 IsWithinLimits (lines.Collect member) = Unit {0}
 IsWithinLimits (lines.Leave member) = Unit {0}

@@ -1,27 +1,27 @@
 -- The words that only lines of cluster scripts have. Own: docs/scripts.md.
-use Rattle.std.specs.Prelude.{ℕ, ◌+◌, ◌^◌, Bool, true, not, ◌&&◌, ◌==◌, nat_le, if◌then◌else◌, List, [], ◌∷◌, length, bytes_eq, codes, Option, None, Some, is_none, unwrap_or, option_map, option_and_then, Result, Ok}
+use Rattle.std.specs.Prelude.{ℕ, ◌+◌, ◌^◌, Bool, true, not, ◌&&◌, ◌==◌, nat_le, if◌then◌else◌, List, [], ◌∷◌, length, bytes_eq, codes, Option, None, Some, is_none, unwrap_or, option_map, option_and_then, Result, Ok, Err}
 use Rattle.std.specs.List.{list_any, list_all}
 use Rattle.actor_names.specs.declared.actor_key.ActorKey.{ActorKey}
 use Rattle.actor_names.specs.declared.member.Member.{Member}
-use Rattle.actor_names.specs.Names.{node_fault, actor_type_fault, before_slash, after_slash}
+use Rattle.actor_names.specs.Names.{node_fault, space_fault, actor_type_fault, before_slash, after_slash, default_space, space_in, local_in}
 use Rattle.actor_names.specs.Numerals.{member_fault}
 use Rattle.lists_and_limits.specs.Decimals.{number_of}
 use Rattle.script_text.specs.Lines.{Word}
-use Rattle.script_text.specs.Reading.{number_in, some_number, next_as}
+use Rattle.script_text.specs.Reading.{number_in, some_number, next_as, only_as}
 
 abbrev pub node_in : List ℕ → Option (List ℕ)
 node_in text = if is_none (node_fault text) then Some text else None
 
--- `NODE/BOOT`, of a boot from 1 to 2^62
+-- `NODE/BOOT` of the space `default`, or `SPACE:NODE/BOOT`; of a boot from 1 to 2^62
 abbrev pub member_of : List ℕ → Option ℕ → Option Member
-member_of text boot = option_map (λ n. record { node = before_slash text; boot = n }) boot
+member_of text boot = option_map (λ n. record { space = space_in text; node = before_slash (local_in text); boot = n }) boot
 
 abbrev pub member_in : List ℕ → Option Member
-member_in text = if is_none (member_fault text) then member_of text (option_and_then (number_of (2 ^ 62)) (after_slash text)) else None
+member_in text = if is_none (member_fault text) then member_of text (option_and_then (number_of (2 ^ 62)) (after_slash (local_in text))) else None
 
--- the key that a text `TYPE/ID` names
-abbrev pub key_of : List ℕ → ActorKey
-key_of text = record { kind = before_slash text; id = unwrap_or (after_slash text) [] }
+-- the key that a text `TYPE/ID` names in a space
+abbrev pub key_of : List ℕ → List ℕ → ActorKey
+key_of space text = record { space = space; kind = before_slash text; id = unwrap_or (after_slash text) [] }
 
 -- the pieces between commas
 abbrev pub onto_first_piece : ℕ → List (List ℕ) → List (List ℕ)
@@ -49,6 +49,14 @@ are_boot_types text = are_types_behind 0 (pieces_of text)
 
 abbrev pub boot_types_in : List ℕ → Option (List (List ℕ))
 boot_types_in text = if are_boot_types text then Some (pieces_of text) else None
+
+abbrev pub space_named : List ℕ → Option (List ℕ)
+space_named text = if is_none (space_fault text) then Some text else None
+
+-- nothing, which stands for the space `default`, or `space` and a space; and nothing more
+abbrev pub space_clause : ℕ → List Word → Result (List ℕ) ℕ
+space_clause past [] = Ok default_space
+space_clause past (word ∷ words) = if bytes_eq word.text (codes "space") then only_as space_named past words else Err word.column
 
 -- how many parts a member has: 1 to 16
 abbrev pub parts_in : List ℕ → Option ℕ

@@ -1,5 +1,6 @@
 -- The lines that outcomes print. Own: docs/scripts.md has the tables.
-use Rattle.std.specs.Prelude.{ℕ, List, ◌++◌, codes, decimal, true, false, None, Some}
+use Rattle.std.specs.Prelude.{ℕ, List, [], ◌∷◌, ◌++◌, bytes_eq, codes, decimal, if◌then◌else◌, true, false, None, Some}
+use Rattle.actor_names.specs.Names.{default_space}
 use Rattle.actor_names.specs.declared.actor_key.ActorKey.{ActorKey}
 use Rattle.actor_names.specs.declared.member.Member.{Member}
 use Rattle.place_table.specs.declared.ack_stage.AckStage.{AckStage}
@@ -27,10 +28,15 @@ turn_text NotActive = codes "not-active\n"
 turn_text Released = codes "released\n"
 turn_text NotHeld = codes "not-held\n"
 
--- `NODE/BOOT` and `TYPE/ID`
-abbrev pub member_text : Member → List ℕ
-member_text m = m.node ++ codes "/" ++ decimal m.boot
+-- a space before the name of a member; `default` isn't printed
+abbrev pub space_text : List ℕ → List ℕ
+space_text space = if bytes_eq space default_space then [] else space ++ codes ":"
 
+-- `NODE/BOOT` or `SPACE:NODE/BOOT`
+abbrev pub member_text : Member → List ℕ
+member_text m = space_text m.space ++ m.node ++ codes "/" ++ decimal m.boot
+
+-- `TYPE/ID`: the space of a key is that of the member at which it is named
 abbrev pub key_text : ActorKey → List ℕ
 key_text key = key.kind ++ codes "/" ++ key.id
 
@@ -53,10 +59,16 @@ reply_text reply.Gone = codes " gone"
 reply_text (reply.StaleBoot greatest) = codes " stale-boot " ++ decimal greatest
 reply_text (reply.NodeBusy boot) = codes " node-busy " ++ decimal boot
 reply_text (reply.NotMember greatest) = codes " not-member " ++ decimal greatest
+reply_text (reply.SpacesFull spaces) = codes " spaces-full " ++ decimal spaces
 reply_text (reply.Full members nodes) = codes " full"
 reply_text (reply.Ticked dropped) = codes " none"
 reply_text reply.Looked = codes " none"
 reply_text reply.OutOfMemory = codes " none"
+
+-- the versions of the rounds that a restart starts
+abbrev pub versions_text : List ℕ → List ℕ
+versions_text [] = []
+versions_text (v ∷ vs) = codes " " ++ decimal v ++ versions_text vs
 
 abbrev pub outcome_text : Outcome → List ℕ
 outcome_text (out.Turn outcome) = turn_text outcome
@@ -89,7 +101,7 @@ outcome_text out.NotClosing = codes "not-closing\n"
 outcome_text (out.Lost m) = codes "lost " ++ member_text m ++ codes "\n"
 outcome_text (out.NotMember greatest) = codes "not-member " ++ decimal greatest ++ codes "\n"
 outcome_text (out.Dropped members) = codes "ptick dropped " ++ decimal members ++ codes "\n"
-outcome_text (out.Restarted version) = codes "restart " ++ decimal version ++ codes "\n"
+outcome_text (out.Restarted versions) = codes "restart" ++ versions_text versions ++ codes "\n"
 
 -- the line of a refused line
 abbrev pub bad_line_text : ℕ → ℕ → List ℕ

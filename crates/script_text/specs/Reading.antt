@@ -1,6 +1,6 @@
 -- The words of a line, read one after another, and the lines that set what holds for a whole script. Own: docs/scripts.md.
 use Rattle.std.specs.Prelude.{ℕ, ◌+◌, Bool, true, ◌==◌, nat_lt, if◌then◌else◌, List, [], ◌∷◌, length, bytes_eq, codes, Option, None, Some, is_none, option_and_then, Result, Ok, Err}
-use Rattle.actor_names.specs.Names.{actor_type_fault, chain_id_fault, key_fault}
+use Rattle.actor_names.specs.Names.{actor_type_fault, chain_id_fault, local_key_fault}
 use Rattle.lists_and_limits.specs.Decimals.{number_of}
 use Rattle.script_text.specs.Lines.{Word, words_from}
 
@@ -27,9 +27,9 @@ some_number n = if n == 0 then None else Some n
 abbrev pub depth_in : List ℕ → Option ℕ
 depth_in text = option_and_then some_number (number_of 1024 text)
 
--- a text that has no fault stands for itself
+-- a text that has no fault stands for itself; a key is written without its space
 abbrev pub key_in : List ℕ → Option (List ℕ)
-key_in text = if is_none (key_fault text) then Some text else None
+key_in text = if is_none (local_key_fault text) then Some text else None
 
 abbrev pub kind_in : List ℕ → Option (List ℕ)
 kind_in text = if is_none (actor_type_fault text) then Some text else None

@@ -6,9 +6,10 @@ ghost use Rattle.script_text.specs.declared.cluster.ClusterLine.TheVariants.{Doe
 ghost use Rattle.world_events.specs.declared.event.WorldEvent.TheVariants.{End as end_of, Poll as poll_of, To as to_of};
 ghost use Rattle.script_text.specs.ClusterLines.{call_line, number_line, at_line, boot_line, deliver_line, member_line_by, actor_line_by, other_line_by, cluster_line_by, cluster_line};
 
+use crate::boot_types::make_boot_types;
 use crate::cluster_words::{
     least_clause, make_chain, make_key, member_and_key, member_and_number, member_at,
-    node_and_types, only_member, two_numbers,
+    next_boot_types, node_at, only_member, space_clause, two_numbers,
 };
 use crate::error::LineError;
 use crate::numbers::next_number;
@@ -39,7 +40,7 @@ fn does<'a>(event: WorldEvent) -> ClusterLine<'a>
     ClusterLine::Does { column: 1, event }
 }
 
-/// Behind `call`: a number, a member, a key and what may follow them.
+/// Behind `call`: a number, a member, a key of its space and what may follow them.
 fn call_line<'a>(alloc: Global, past: u64, words: Words<'a>) -> Result<ClusterLine<'a>, LineError>
     ensures reads { ReadsLine result (call_line past (words_left words.entry)) }
     ensures limits { IfOk result (λ line. LineIsWithinLimits line) }
@@ -52,7 +53,7 @@ fn call_line<'a>(alloc: Global, past: u64, words: Words<'a>) -> Result<ClusterLi
     let (least, words) = least_clause(past, words)?;
     let (chain, words) = chain_clause(past, words)?;
     no_more(words)?;
-    let key = make_key(alloc, key)?;
+    let key = make_key(alloc, &member.space, key)?;
     let chain = make_chain(alloc, chain)?;
     let event = WorldEvent::Call {
         call,
@@ -100,13 +101,17 @@ fn to_line<'a>(past: u64, words: Words<'a>) -> Result<ClusterLine<'a>, LineError
     Ok(does(WorldEvent::To { message }))
 }
 
-/// Behind `boot`: a node and its types.
+/// Behind `boot`: a node, its types and perhaps its space.
 fn boot_line<'a>(alloc: Global, past: u64, words: Words<'a>) -> Result<ClusterLine<'a>, LineError>
     ensures reads { ReadsLine result (boot_line past (words_left words.entry)) }
     ensures limits { IfOk result (λ line. LineIsWithinLimits line) }
 {
-    let (node, kinds) = node_and_types(alloc, past, words)?;
-    Ok(does(WorldEvent::Boot { node, kinds }))
+    let (word, words) = words.next().ok_or(past)?;
+    let node = node_at(word)?;
+    let (kinds, words) = next_boot_types(past, words)?;
+    let space = space_clause(past, words)?;
+    let kinds = make_boot_types(alloc, kinds)?;
+    Ok(does(WorldEvent::Boot { space, node, kinds }))
 }
 
 /// Behind `at`: a moment.

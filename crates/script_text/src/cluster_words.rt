@@ -1,22 +1,22 @@
 // The words that only lines of cluster scripts have.
 ghost use Rattle.std.specs.Prelude.{◌≡◌, None, Some, true, IfOk, IfErr};
 ghost use Rattle.std.specs.Option.{option_copied, ForSome};
-ghost use Rattle.actor_names.specs.Names.{key_fault, chain_id_fault};
+ghost use Rattle.actor_names.specs.Names.{local_key_fault, chain_id_fault};
 ghost use Rattle.script_text.specs.Told.{Gives, GivesValue, words_left};
 ghost use Rattle.script_text.specs.LinesTold.{Reads};
 ghost use Rattle.script_text.specs.Reading.{number_in, key_in, next_as, only_as};
-ghost use Rattle.script_text.specs.ClusterWords.{member_in, node_in, boot_types_in, are_boot_types, pieces_of, key_of, least_clause};
-ghost use Rattle.script_text.specs.ClusterLines.{two_as, actor_words, AreBootTypes};
+ghost use Rattle.script_text.specs.ClusterWords.{member_in, node_in, space_named, space_clause, boot_types_in, are_boot_types, pieces_of, key_of, least_clause};
+ghost use Rattle.script_text.specs.ClusterLines.{two_as, actor_words};
 
-use crate::boot_types::{are_boot_types, make_boot_types};
+use crate::boot_types::are_boot_types;
 use crate::error::LineError;
 use crate::numbers::next_number;
 use crate::setting::{next_key, no_more, only_number};
 use crate::words::{Token, Words};
 use actor_names::{
-    ActorKey, ChainId, Member, Node, OutOfMemory, read_chain_id, read_key, read_member, read_node,
+    ActorKey, ChainId, Member, Node, OutOfMemory, Space, default_space, read_chain_id,
+    read_local_key, read_member, read_node, read_space,
 };
-use place_table::ActorTypes;
 use std::alloc::Global;
 
 /// A word as a member.
@@ -31,7 +31,7 @@ pub(crate) fn member_at(word: Token<'_>) -> Result<Member, u64>
 }
 
 /// A word as a node.
-fn node_at(word: Token<'_>) -> Result<Node, u64>
+pub(crate) fn node_at(word: Token<'_>) -> Result<Node, u64>
     ensures read { IfOk result (λ node. node_in word.entry.text.now ≡ Some node) }
     ensures refused { IfErr result (λ column. (node_in word.entry.text.now ≡ None) × (column ≡ word.entry.column)) }
 {
@@ -41,8 +41,44 @@ fn node_at(word: Token<'_>) -> Result<Node, u64>
     }
 }
 
+/// A word as a space.
+fn space_at(word: Token<'_>) -> Result<Space, u64>
+    ensures read { IfOk result (λ space. space_named word.entry.text.now ≡ Some space) }
+    ensures refused { IfErr result (λ column. (space_named word.entry.text.now ≡ None) × (column ≡ word.entry.column)) }
+{
+    match read_space(word.text) {
+        Ok(space) => Ok(space),
+        Err(_) => Err(word.column),
+    }
+}
+
+/// A space and nothing more.
+fn only_space(past: u64, words: Words<'_>) -> Result<Space, u64>
+    ensures { GivesValue (λ space. space) result (only_as space_named past (words_left words.entry)) }
+{
+    let (word, words) = words.next().ok_or(past)?;
+    let space = space_at(word)?;
+    no_more(words)?;
+    Ok(space)
+}
+
+/// Nothing, which stands for the space `default`, or `space` and a space; and nothing more.
+pub(crate) fn space_clause(past: u64, words: Words<'_>) -> Result<Space, u64>
+    ensures { GivesValue (λ space. space) result (space_clause past (words_left words.entry)) }
+{
+    match words.next() {
+        None => Ok(default_space()),
+        Some((word, words)) => {
+            let [b's', b'p', b'a', b'c', b'e'] = word.text else {
+                return Err(word.column);
+            };
+            only_space(past, words)
+        }
+    }
+}
+
 /// The next word as the types of a `boot` line.
-fn next_boot_types<'a>(past: u64, words: Words<'a>) -> Result<(&'a [u8], Words<'a>), u64>
+pub(crate) fn next_boot_types<'a>(past: u64, words: Words<'a>) -> Result<(&'a [u8], Words<'a>), u64>
     ensures reads { Gives (λ kinds. pieces_of kinds.now) result (next_as boot_types_in past (words_left words.entry)) }
     ensures types { IfOk result (λ r. are_boot_types r.0.now ≡ true) }
 {
@@ -82,21 +118,11 @@ pub(crate) fn only_member(past: u64, words: Words<'_>) -> Result<Member, u64>
 /// A key and nothing more.
 fn only_key<'a>(past: u64, words: Words<'a>) -> Result<&'a [u8], u64>
     ensures reads { GivesValue (λ key. key.now) result (only_as key_in past (words_left words.entry)) }
-    ensures sound { IfOk result (λ key. key_fault key.now ≡ None) }
+    ensures sound { IfOk result (λ key. local_key_fault key.now ≡ None) }
 {
     let (key, words) = next_key(past, words)?;
     no_more(words)?;
     Ok(key)
-}
-
-/// The types of a `boot` line and nothing more.
-fn only_boot_types<'a>(past: u64, words: Words<'a>) -> Result<&'a [u8], u64>
-    ensures reads { GivesValue (λ kinds. pieces_of kinds.now) result (only_as boot_types_in past (words_left words.entry)) }
-    ensures types { IfOk result (λ kinds. are_boot_types kinds.now ≡ true) }
-{
-    let (kinds, words) = next_boot_types(past, words)?;
-    no_more(words)?;
-    Ok(kinds)
 }
 
 /// Two numbers and nothing more.
@@ -119,12 +145,12 @@ pub(crate) fn member_and_number(past: u64, words: Words<'_>) -> Result<(Member, 
     Ok((member, number))
 }
 
-/// The key of this text.
-pub(crate) fn make_key(alloc: Global, text: &[u8]) -> Result<ActorKey, OutOfMemory>
-    requires { key_fault text.now ≡ None }
-    ensures { IfOk result (λ key. key ≡ key_of text.now) }
+/// The key of this text in a space.
+pub(crate) fn make_key(alloc: Global, space: &Space, text: &[u8]) -> Result<ActorKey, OutOfMemory>
+    requires { local_key_fault text.now ≡ None }
+    ensures { IfOk result (λ key. key ≡ key_of space.now text.now) }
 {
-    match read_key(alloc, text) {
+    match read_local_key(alloc, space, text) {
         Ok(key) => Ok(key),
         Err(_) => Err(OutOfMemory),
     }
@@ -144,7 +170,7 @@ pub(crate) fn make_chain(alloc: Global, text: Option<&[u8]>) -> Result<Option<Ch
     }
 }
 
-/// A member, the key of an actor and nothing more.
+/// A member, the key of an actor of its space and nothing more.
 pub(crate) fn member_and_key(
     alloc: Global,
     past: u64,
@@ -155,22 +181,6 @@ pub(crate) fn member_and_key(
     let (word, words) = words.next().ok_or(past)?;
     let member = member_at(word)?;
     let key = only_key(past, words)?;
-    let key = make_key(alloc, key)?;
+    let key = make_key(alloc, &member.space, key)?;
     Ok((member, key))
-}
-
-/// A node, the types of a `boot` line and nothing more.
-pub(crate) fn node_and_types(
-    alloc: Global,
-    past: u64,
-    words: Words<'_>,
-) -> Result<(Node, ActorTypes), LineError>
-    ensures reads { Reads result (two_as node_in boot_types_in past (words_left words.entry)) }
-    ensures types { IfOk result (λ w. AreBootTypes w.1) }
-{
-    let (word, words) = words.next().ok_or(past)?;
-    let node = node_at(word)?;
-    let kinds = only_boot_types(past, words)?;
-    let kinds = make_boot_types(alloc, kinds)?;
-    Ok((node, kinds))
 }

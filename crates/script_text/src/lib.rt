@@ -16,11 +16,13 @@ mod line_buffer;
 #[cfg(test)]
 mod line_tests;
 mod lines;
+mod members;
 mod names;
 mod numbers;
 #[cfg(test)]
 mod outcome_tests;
 mod outcomes;
+mod restarts;
 mod setting;
 mod solo;
 mod transcript;

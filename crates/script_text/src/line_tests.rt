@@ -92,6 +92,28 @@ fn refused_cluster_calls_are_named_by_column(rt: HostRuntime) -> Result<(), Fail
 }
 
 #[test]
+fn refused_spaces_are_named_by_column(rt: HostRuntime) -> Result<(), Fail> {
+    let table: [(&[u8], u64); 12] = [
+        (b"boot blue:a counter", 6),
+        (b"boot a counter space", 21),
+        (b"boot a counter space ", 22),
+        (b"boot a counter space Blue", 22),
+        (b"boot a counter space blue x", 27),
+        (b"boot a space blue", 14),
+        (b"beat :a/1", 6),
+        (b"beat Blue:a/1", 6),
+        (b"beat blue:a", 6),
+        (b"call 1 blue:a/1 blue:counter/k", 17),
+        (b"hold blue:a/1 counter", 15),
+        (b"closed blue:a/1 counter/a:b x", 29),
+    ];
+    for (line, column) in table {
+        assert_eq!(rt; refused_at(rt.alloc(), line, true)?, column, "{line:?}");
+    }
+    Ok(())
+}
+
+#[test]
 fn settings_stand_before_events(rt: HostRuntime) -> Result<(), Fail> {
     let table: [(&[u8], u64, u64); 7] = [
         (b"reentrant counter 2", 0, 1),
@@ -190,7 +212,7 @@ fn is_call_in_full(event: &WorldEvent) -> bool {
 /// Whether an event is the boot of node `a` with the types `counter` and `nested`.
 fn is_boot_of_two(event: &WorldEvent) -> bool {
     match event {
-        WorldEvent::Boot { node, kinds } => match kinds.as_slice() {
+        WorldEvent::Boot { node, kinds, .. } => match kinds.as_slice() {
             [first, second] => {
                 node.as_slice() == b"a".as_slice()
                     && first.as_slice() == b"counter".as_slice()
@@ -215,6 +237,60 @@ fn names_of_line_are_read(rt: HostRuntime) -> Result<(), Fail> {
         panic!(rt; "no event");
     };
     assert!(rt; is_boot_of_two(&event));
+    Ok(())
+}
+
+/// Whether an event is the boot of a node in a space.
+fn is_boot_in(event: &WorldEvent, place: &[u8]) -> bool {
+    match event {
+        WorldEvent::Boot { space, node, .. } => {
+            space.as_slice() == place && node.as_slice() == b"a".as_slice()
+        }
+        _ => false,
+    }
+}
+
+/// Whether an event is the hold of `counter/a:b` at `a/1`, both of one space.
+fn is_hold_in(event: &WorldEvent, place: &[u8]) -> bool {
+    match event {
+        WorldEvent::Hold { member, key } => {
+            member.space.as_slice() == place
+                && member.node.as_slice() == b"a".as_slice()
+                && member.boot == 1
+                && key.space == member.space
+                && key.kind.as_slice() == b"counter".as_slice()
+                && key.id.as_slice() == b"a:b".as_slice()
+        }
+        _ => false,
+    }
+}
+
+#[test]
+fn members_and_keys_of_line_have_one_space(rt: HostRuntime) -> Result<(), Fail> {
+    let boots: [(&[u8], &[u8]); 3] = [
+        (b"boot a counter", b"default"),
+        (b"boot a counter space default", b"default"),
+        (b"boot a counter,nested space blue-2", b"blue-2"),
+    ];
+    for (text, space) in boots {
+        let line = read_cluster_line(rt.alloc(), text, true)?;
+        let ClusterLine::Does { event, .. } = line else {
+            panic!(rt; "no event");
+        };
+        assert!(rt; is_boot_in(&event, space));
+    }
+    let holds: [(&[u8], &[u8]); 3] = [
+        (b"hold a/1 counter/a:b", b"default"),
+        (b"hold default:a/1 counter/a:b", b"default"),
+        (b"hold blue:a/1 counter/a:b", b"blue"),
+    ];
+    for (text, space) in holds {
+        let line = read_cluster_line(rt.alloc(), text, true)?;
+        let ClusterLine::Does { event, .. } = line else {
+            panic!(rt; "no event");
+        };
+        assert!(rt; is_hold_in(&event, space));
+    }
     Ok(())
 }
 
@@ -303,6 +379,22 @@ fn solo_call_tells_column_of_number(rt: HostRuntime) {
             assert!(rt; is_solo_call(event));
         }
         _ => panic!(rt; "no event"),
+    }
+}
+
+#[test]
+fn solo_key_has_colon_in_its_id_alone(rt: HostRuntime) {
+    let lines: [(&[u8], u64); 4] = [
+        (b"call 1 counter/a:b", 0),
+        (b"call 1 blue:counter/a", 8),
+        (b"hold blue:counter/a", 6),
+        (b"release counter/a:b", 0),
+    ];
+    for (line, column) in lines {
+        match read_solo_line(line, true) {
+            Ok(_) => assert_eq!(rt; 0, column),
+            Err(place) => assert_eq!(rt; place, column),
+        }
     }
 }
 

@@ -1,4 +1,4 @@
-// Texts that have a name of two pieces, of a length that isn't known.
+// Texts that have a name of two pieces, of a length that isn't known, and how a text comes whole or not at all.
 ghost use Rattle.std.specs.Prelude.{◌≡◌, ◌++◌, length, take, codes, OnOk, OnErr};
 
 use std::alloc::AllocError;
@@ -21,6 +21,22 @@ fn append_pieces(
     into.extend_from_slice(back)
 }
 
+/// What an appending behind `start` answered; where there was no memory for all of it, what it appended is taken away.
+pub(crate) fn whole_or_none(
+    into: &mut Vec<u8>,
+    start: usize,
+    appended: Result<(), AllocError>,
+) -> Result<(), AllocError>
+    ensures whole { OnOk result (into.new.items ≡ into.old.items) }
+    ensures none { OnErr result (into.new.items ≡ take start into.old.items) }
+    ensures answer { result ≡ appended }
+{
+    if appended.is_err() {
+        into.truncate(start);
+    }
+    appended
+}
+
 /// Appends the pieces, with a slash behind the second; where there is no memory for all of them, nothing.
 pub(crate) fn append_pair(
     into: &mut Vec<u8>,
@@ -33,11 +49,6 @@ pub(crate) fn append_pair(
     ensures unchanged { OnErr result (into.new.items ≡ into.old.items) }
 {
     let start = into.len();
-    match append_pieces(into, front, first, second, back) {
-        Ok(()) => Ok(()),
-        Err(e) => {
-            into.truncate(start);
-            Err(e)
-        }
-    }
+    let appended = append_pieces(into, front, first, second, back);
+    whole_or_none(into, start, appended)
 }

@@ -5,7 +5,7 @@ use place_table::AckStage;
 use round_core::PlaceReply;
 use std::alloc::Global;
 use std::test::Fail;
-use world_events::{Outcome, TurnOutcome};
+use world_events::{Outcome, TurnOutcome, Versions};
 
 /// The line of an outcome, appended to `> `.
 fn printed(alloc: Global, outcome: &Outcome) -> Result<Vec<u8>, Fail> {
@@ -64,7 +64,7 @@ fn outcomes_of_members_print_lines(rt: HostRuntime) -> Result<(), Fail> {
     let lost = Outcome::Lost {
         member: member(b"a/1")?,
     };
-    let table: [(Outcome, &[u8]); 9] = [
+    let table: [(Outcome, &[u8]); 8] = [
         (booted, b"> boot a/4611686018427387904 msg 2\n"),
         (Outcome::BeatAdded { message: 2 }, b"> msg 2 beat\n"),
         (Outcome::LeaveAdded { message: 2 }, b"> msg 2 leave\n"),
@@ -73,10 +73,63 @@ fn outcomes_of_members_print_lines(rt: HostRuntime) -> Result<(), Fail> {
         (lost, b"> lost a/1\n"),
         (Outcome::NotMember { greatest: 0 }, b"> not-member 0\n"),
         (Outcome::Dropped { members: 3 }, b"> ptick dropped 3\n"),
-        (Outcome::Restarted { version: 4 }, b"> restart 4\n"),
     ];
     for (outcome, line) in table.iter() {
         assert_eq!(rt; printed(rt.alloc(), outcome)?.as_slice(), *line);
+    }
+    Ok(())
+}
+
+#[test]
+fn spaces_are_printed_but_for_default(rt: HostRuntime) -> Result<(), Fail> {
+    let elsewhere = Outcome::Elsewhere {
+        call: 1,
+        version: 2,
+        member: member(b"blue:node-3/7")?,
+    };
+    let booted = Outcome::Booted {
+        member: member(b"blue:a/2")?,
+        message: 2,
+    };
+    let lost = Outcome::Lost {
+        member: member(b"blue:a/2")?,
+    };
+    let default = Outcome::Lost {
+        member: member(b"default:a/2")?,
+    };
+    let closing = Outcome::Closing {
+        key: read_key(rt.alloc(), b"blue:counter/a:b")?,
+    };
+    let table: [(Outcome, &[u8]); 5] = [
+        (elsewhere, b"> elsewhere 1 2 blue:node-3/7\n"),
+        (booted, b"> boot blue:a/2 msg 2\n"),
+        (lost, b"> lost blue:a/2\n"),
+        (default, b"> lost a/2\n"),
+        (closing, b"> closing counter/a:b\n"),
+    ];
+    for (outcome, line) in table.iter() {
+        assert_eq!(rt; printed(rt.alloc(), outcome)?.as_slice(), *line);
+    }
+    Ok(())
+}
+
+#[test]
+fn restart_prints_version_of_each_room(rt: HostRuntime) -> Result<(), Fail> {
+    let table: [(&[u64], &[u8]); 3] = [
+        (&[4], b"> restart 4\n"),
+        (&[0], b"> restart 0\n"),
+        (
+            &[7, 0, 4611686018427387904],
+            b"> restart 7 0 4611686018427387904\n",
+        ),
+    ];
+    for (versions, line) in table {
+        let mut items = Vec::new(rt.alloc());
+        items.extend_from_slice(versions)?;
+        let outcome = Outcome::Restarted {
+            versions: Versions::from_vec(items),
+        };
+        assert_eq!(rt; printed(rt.alloc(), &outcome)?.as_slice(), line);
     }
     Ok(())
 }
@@ -105,7 +158,7 @@ fn answers_of_placement_print_lines(rt: HostRuntime) -> Result<(), Fail> {
         members: 256,
         nodes: 300,
     };
-    let table: [(PlaceReply, &[u8]); 9] = [
+    let table: [(PlaceReply, &[u8]); 10] = [
         (PlaceReply::Lock { version: 3 }, b"> msg 2 lock 3\n"),
         (PlaceReply::Update { version: 3 }, b"> msg 2 update 3\n"),
         (PlaceReply::Unlock { version: 3 }, b"> msg 2 unlock 3\n"),
@@ -119,6 +172,10 @@ fn answers_of_placement_print_lines(rt: HostRuntime) -> Result<(), Fail> {
         (
             PlaceReply::NotMember { greatest: 3 },
             b"> msg 2 not-member 3\n",
+        ),
+        (
+            PlaceReply::SpacesFull { spaces: 64 },
+            b"> msg 2 spaces-full 64\n",
         ),
         (full, b"> msg 2 full\n"),
     ];

@@ -4,7 +4,9 @@ ghost use Rattle.script_text.specs.Outcomes.{outcome_text, message_text, member_
 ghost use Rattle.world_events.specs.declared.outcome.Outcome.TheVariants.{Updated as updated, Closed as closed};
 
 use crate::line_buffer::OutcomeLine;
+use crate::members::append_member;
 use crate::names::append_pair;
+use crate::restarts::add_restart;
 use crate::turn_outcomes::{write_number, write_turn_outcome, write_two};
 use actor_names::{ActorKey, Member};
 use place_table::AckStage;
@@ -175,6 +177,9 @@ fn add_answer(
         PlaceReply::NotMember { greatest } => {
             add_message(line, into, message, " not-member ", greatest)
         }
+        PlaceReply::SpacesFull { spaces } => {
+            add_message(line, into, message, " spaces-full ", spaces as u64)
+        }
         PlaceReply::Full { .. } => add_note(line, into, message, " full"),
         PlaceReply::Ticked { .. } | PlaceReply::Looked | PlaceReply::OutOfMemory => {
             add_note(line, into, message, " none")
@@ -195,7 +200,7 @@ fn add_member(
     line.clear();
     line.put_word("\n");
     line.put_number(member.boot);
-    append_pair(into, front, member.node.as_slice(), line.as_slice(), b"")
+    append_member(into, front, member, line.as_slice())
 }
 
 /// Adds the line of a call that belongs to another member.
@@ -230,7 +235,7 @@ fn add_booted(
 {
     write_number(line, " msg ", message);
     line.put_number(member.boot);
-    append_pair(into, b"boot ", member.node.as_slice(), line.as_slice(), b"")
+    append_member(into, b"boot ", member, line.as_slice())
 }
 
 /// Adds a word, a key and the rest of the line.
@@ -315,7 +320,7 @@ pub(crate) fn add_outcome(
         Outcome::Lost { member } => add_member(line, into, b"lost ", member),
         Outcome::NotMember { greatest } => add_number(line, into, "not-member ", *greatest),
         Outcome::Dropped { members } => add_number(line, into, "ptick dropped ", *members as u64),
-        Outcome::Restarted { version } => add_number(line, into, "restart ", *version),
+        Outcome::Restarted { versions } => add_restart(line, into, versions.as_slice()),
     }
 }
 

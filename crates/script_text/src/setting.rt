@@ -1,7 +1,7 @@
 // The lines that set what holds for a whole script, and what the lines of both kinds have in common.
 ghost use Rattle.std.specs.Prelude.{◌≡◌, None, IfOk, option_copied};
 ghost use Rattle.std.specs.Option.{ForSome};
-ghost use Rattle.actor_names.specs.Names.{actor_type_fault, key_fault, chain_id_fault};
+ghost use Rattle.actor_names.specs.Names.{actor_type_fault, local_key_fault, chain_id_fault};
 ghost use Rattle.script_text.specs.Told.{Gives, GivesValue, Ends, words_left};
 ghost use Rattle.script_text.specs.LinesTold.{setting_told, SettingIsSound};
 ghost use Rattle.script_text.specs.Reading.{next_as, next_column, only_as, number_in, depth_in, key_in, kind_in, chain_in, chain_clause, reentrant_line, setting_by, setting_unless};
@@ -9,7 +9,7 @@ ghost use Rattle.script_text.specs.Reading.{next_as, next_column, only_as, numbe
 use crate::depth::Depth;
 use crate::numbers::next_number;
 use crate::words::Words;
-use actor_names::{actor_type_fault, chain_id_fault, key_fault, read_decimal};
+use actor_names::{actor_type_fault, chain_id_fault, local_key_fault, read_decimal};
 
 const GREATEST_DEPTH: u64 = 1024;
 
@@ -63,13 +63,13 @@ fn next_depth<'a>(past: u64, words: Words<'a>) -> Result<(Depth, Words<'a>), u64
     }
 }
 
-/// The next word as a key.
+/// The next word as a key, which is written without its space.
 pub(crate) fn next_key<'a>(past: u64, words: Words<'a>) -> Result<(&'a [u8], Words<'a>), u64>
-    ensures sound { IfOk result (λ r. key_fault r.0.now ≡ None) }
+    ensures sound { IfOk result (λ r. local_key_fault r.0.now ≡ None) }
     ensures reads { Gives (λ key. key.now) result (next_as key_in past (words_left words.entry)) }
 {
     let (word, words) = words.next().ok_or(past)?;
-    match key_fault(word.text) {
+    match local_key_fault(word.text) {
         None => Ok((word.text, words)),
         Some(_) => Err(word.column),
     }

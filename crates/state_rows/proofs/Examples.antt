@@ -1,5 +1,6 @@
 -- Worked examples of the definitions.
 use Rattle.std.proofs.Common.{◌≡◌, ℕ, List, [], ◌∷◌, Some, None, refl}
+use Rattle.actor_names.specs.Names.{default_space}
 use Rattle.std.specs.Prelude.{codes}
 use Rattle.actor_names.specs.declared.actor_key.ActorKey.{ActorKey}
 use Rattle.state_rows.specs.declared.entry.StateEntry.{StateEntry}
@@ -9,10 +10,10 @@ use Rattle.state_rows.specs.Checks.{ops_fault}
 use Rattle.state_rows.specs.Entries.{after_ops, new_entry, value_at}
 
 cart : ActorKey
-cart = record { kind = codes "cart"; id = codes "1" }
+cart = record { space = default_space; kind = codes "cart"; id = codes "1" }
 
 other : ActorKey
-other = record { kind = codes "cart"; id = codes "10" }
+other = record { space = default_space; kind = codes "cart"; id = codes "10" }
 
 a : List ℕ
 a = codes "a"

@@ -15,28 +15,38 @@ use Rattle.timer_book.proofs.Maps.{eq-is}
 abbrev order : ActorKey → TimerEntry → Ordering
 order key e = place_cmp (actor_place e.key) (actor_place key)
 
-both_equal : (a b : Ordering) → is_eq (ordering_then a (ordering_then b Equal)) ≡ (is_eq a && is_eq b)
-both_equal Less b = refl
-both_equal Equal Less = refl
-both_equal Equal Equal = refl
-both_equal Equal Greater = refl
-both_equal Greater b = refl
+all_equal : (a b c : Ordering) → is_eq (ordering_then a (ordering_then b (ordering_then c Equal))) ≡ (is_eq a && (is_eq b && is_eq c))
+all_equal Less b c = refl
+all_equal Equal Less c = refl
+all_equal Equal Equal Less = refl
+all_equal Equal Equal Equal = refl
+all_equal Equal Equal Greater = refl
+all_equal Equal Greater c = refl
+all_equal Greater b c = refl
 
 -- a timer is the actor's exactly where it is neither before nor after it
 pub is_of-order : (key : ActorKey) (e : TimerEntry) → is_of key e ≡ is_eq (order key e)
-is_of-order key e = rw (both_equal (slice_cmp nat_cmp e.key.kind key.kind) (slice_cmp nat_cmp e.key.id key.id), is_eq-slice_cmp e.key.kind key.kind, is_eq-slice_cmp e.key.id key.id) refl
+is_of-order key e =
+    rw (
+      all_equal (slice_cmp nat_cmp e.key.space key.space) (slice_cmp nat_cmp e.key.kind key.kind) (slice_cmp nat_cmp e.key.id key.id),
+      is_eq-slice_cmp e.key.space key.space,
+      is_eq-slice_cmp e.key.kind key.kind,
+      is_eq-slice_cmp e.key.id key.id,
+    ) refl
 
-not_greater : (a b c : Ordering) → ordering_then a (ordering_then b (ordering_then c Equal)) ≡ Less → ordering_then a (ordering_then b Equal) ≡ Greater → ⊥
-not_greater Less b c h g = cc
-not_greater Equal Less c h g = cc
-not_greater Equal Equal c h g = cc
-not_greater Equal Greater c h g = cc
-not_greater Greater b c h g = cc
+not_greater : (a b c d : Ordering) → ordering_then a (ordering_then b (ordering_then c (ordering_then d Equal))) ≡ Less → ordering_then a (ordering_then b (ordering_then c Equal)) ≡ Greater → ⊥
+not_greater Less b c d h g = cc
+not_greater Equal Less c d h g = cc
+not_greater Equal Equal Less d h g = cc
+not_greater Equal Equal Equal d h g = cc
+not_greater Equal Equal Greater d h g = cc
+not_greater Equal Greater c d h g = cc
+not_greater Greater b c d h g = cc
 
 -- actors of timers in order
 module _ (x y : TimerEntry) (h : place_cmp (entry_place x) (entry_place y) ≡ Less) where
   actors_rise : order y.key x ≡ Greater → ⊥
-  actors_rise g = not_greater (slice_cmp nat_cmp x.key.kind y.key.kind) (slice_cmp nat_cmp x.key.id y.key.id) (slice_cmp nat_cmp x.name y.name) h g
+  actors_rise g = not_greater (slice_cmp nat_cmp x.key.space y.key.space) (slice_cmp nat_cmp x.key.kind y.key.kind) (slice_cmp nat_cmp x.key.id y.key.id) (slice_cmp nat_cmp x.name y.name) h g
 
   module _ (key : ActorKey) where
     pub before_on : order key y ≡ Less → order key x ≡ Less
@@ -60,16 +70,18 @@ module _ (x y : TimerEntry) (h : place_cmp (entry_place x) (entry_place y) ≡ L
 
 -- ---- a timer's place names its actor
 
-same_actor : (a b c : Ordering) → ordering_then a (ordering_then b (ordering_then c Equal)) ≡ Equal → ordering_then a (ordering_then b Equal) ≡ Equal
-same_actor Less b c h = absurd (cc)
-same_actor Equal Less c h = absurd (cc)
-same_actor Equal Equal c h = refl
-same_actor Equal Greater c h = absurd (cc)
-same_actor Greater b c h = absurd (cc)
+same_actor : (a b c d : Ordering) → ordering_then a (ordering_then b (ordering_then c (ordering_then d Equal))) ≡ Equal → ordering_then a (ordering_then b (ordering_then c Equal)) ≡ Equal
+same_actor Less b c d h = absurd (cc)
+same_actor Equal Less c d h = absurd (cc)
+same_actor Equal Equal Less d h = absurd (cc)
+same_actor Equal Equal Equal d h = refl
+same_actor Equal Equal Greater d h = absurd (cc)
+same_actor Equal Greater c d h = absurd (cc)
+same_actor Greater b c d h = absurd (cc)
 
 module _ (key : ActorKey) (name : List ℕ) (x : TimerEntry) where
   at_is : is_at (timer_place key name) x ≡ true → order key x ≡ Equal
-  at_is h = same_actor (slice_cmp nat_cmp x.key.kind key.kind) (slice_cmp nat_cmp x.key.id key.id) (slice_cmp nat_cmp x.name name) (eq-is (place_cmp (entry_place x) (timer_place key name)) h)
+  at_is h = same_actor (slice_cmp nat_cmp x.key.space key.space) (slice_cmp nat_cmp x.key.kind key.kind) (slice_cmp nat_cmp x.key.id key.id) (slice_cmp nat_cmp x.name name) (eq-is (place_cmp (entry_place x) (timer_place key name)) h)
 
   pub at_of : is_at (timer_place key name) x ≡ true → not (is_of key x) ≡ false
   at_of h = ap not (is_of-order key x ∙ ap is_eq (at_is h))

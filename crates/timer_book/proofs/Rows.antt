@@ -1,5 +1,6 @@
 -- Worked examples of the definitions.
 use Rattle.std.proofs.Common.{◌≡◌, true, false, [], ◌∷◌, Some, None, refl}
+use Rattle.actor_names.specs.Names.{default_space}
 use Rattle.std.specs.Prelude.{codes}
 use Rattle.actor_names.specs.declared.actor_key.ActorKey.{ActorKey}
 use Rattle.schedule_text.specs.declared.advance.Schedule.{Schedule}
@@ -11,10 +12,10 @@ use Rattle.timer_book.specs.Entries.{due_of, new_entry}
 use Rattle.timer_book.specs.Book.{BookState, new_book, set_timer, has_timer, due_timer, start_timer, is_registered, finish_next, finish_timer, drop_timers}
 
 bell : ActorKey
-bell = record { kind = codes "bell"; id = codes "1" }
+bell = record { space = default_space; kind = codes "bell"; id = codes "1" }
 
 gong : ActorKey
-gong = record { kind = codes "bell"; id = codes "10" }
+gong = record { space = default_space; kind = codes "bell"; id = codes "10" }
 
 -- due after a second, then every five
 every_five : Schedule

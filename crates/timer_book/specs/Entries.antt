@@ -1,9 +1,10 @@
--- Timers in order of type, id and name. Own; timers follow the Actors API reference of Dapr.
+-- Timers in order of space, type, id and name. Own; timers follow the Actors API reference of Dapr.
 use Rattle.std.specs.Prelude.{true, ◌⊎◌, ◌≡◌, ℕ, suc, Bool, false, not, ◌&&◌, ◌||◌, ◌==◌, nat_lt, nat_le, if◌then◌else◌, List, [], ◌∷◌, filter, bytes_eq, Option, None, Some}
 use Rattle.std.specs.declared.cmp.Ordering.{Ordering}
 use Rattle.std.specs.declared.cmp.Ordering.TheVariants.{Less, Equal, Greater}
 use Rattle.std.specs.Ordering.{nat_cmp, is_eq, is_lt}
 use Rattle.std.specs.Cmp.Lexicographic.{slice_cmp}
+use Rattle.actor_names.specs.Same.{same_key}
 use Rattle.actor_names.specs.declared.actor_key.ActorKey.{ActorKey}
 use Rattle.schedule_text.specs.declared.advance.Next.{Next}
 use Rattle.schedule_text.specs.Firing.{next_firing}
@@ -11,9 +12,9 @@ use Rattle.timer_book.specs.declared.timer.Timer.{Timer}
 use Rattle.timer_book.specs.declared.entry.TimerEntry.{TimerEntry}
 use Rattle.timer_book.specs.declared.entry.DueTimer.{DueTimer}
 
--- what a timer is ordered by: the type, the id and the name
+-- what a timer is ordered by: the space, the type, the id and the name
 abbrev pub timer_place : ActorKey → List ℕ → List (List ℕ)
-timer_place key name = key.kind ∷ key.id ∷ name ∷ []
+timer_place key name = key.space ∷ key.kind ∷ key.id ∷ name ∷ []
 
 abbrev pub entry_place : TimerEntry → List (List ℕ)
 entry_place e = timer_place e.key e.name
@@ -26,11 +27,11 @@ abbrev pub is_at : List (List ℕ) → TimerEntry → Bool
 is_at place e = is_eq (place_cmp (entry_place e) place)
 
 abbrev pub is_of : ActorKey → TimerEntry → Bool
-is_of key e = bytes_eq e.key.kind key.kind && bytes_eq e.key.id key.id
+is_of key e = same_key e.key key
 
 -- what the timers of an actor are ordered by first
 abbrev pub actor_place : ActorKey → List (List ℕ)
-actor_place key = key.kind ∷ key.id ∷ []
+actor_place key = key.space ∷ key.kind ∷ key.id ∷ []
 
 -- ---- one timer
 

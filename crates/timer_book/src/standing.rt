@@ -1,4 +1,4 @@
-// How timers stand in a search tree: in order of type, id and name, with the first moment below each node.
+// How timers stand in a search tree: in order of space, type, id and name, with the first moment below each node.
 ghost use Rattle.std.specs.Prelude.{◌≡◌, refl};
 ghost use Rattle.std.proofs.lemmas.Cmp.{nat_list_cmp_total, lists_total, on_total};
 ghost use Rattle.timer_book.specs.Entries.{entry_place, timer_place, actor_place, place_cmp};

@@ -23,6 +23,7 @@ use Rattle.cluster_model.proofs.Counts.{begun_turns-append, begun_turns-tagged}
 use Rattle.cluster_model.proofs.Histories.{some_same}
 use Rattle.cluster_model.specs.Invariant.{IsSafeWorld}
 use Rattle.cluster_model.proofs.Lines.{AreQuietKept, quiet_line}
+use Rattle.cluster_model.proofs.SpaceParts.{backed}
 use Rattle.cluster_model.proofs.Named.{ask_heard}
 use Rattle.cluster_model.proofs.Worlds.{step_safe, safe_kept, new_world_safe}
 use Rattle.world_drill.proofs.Waits.{waits_in, asked_by, step_begins}
@@ -61,7 +62,7 @@ module _ (owner : PlacementTable → ActorKey → Option HostInfo) (part_of : Ac
       → begun_turns (w.marks ++ tagged p.member (part_step owner p e).marks) + waiting_in (set w.parts at (part_step owner p e).part) ≤ n + asked_by e
   few_step n w at p e t found =
       let s = part_step owner p e in
-      let a = step_begins owner p e (t.safe.safe.parts p (In-slice_get w.parts at p found)).sound in
+      let a = step_begins owner p e (backed owner w t.safe p (In-slice_get w.parts at p found)).sound in
       let b = waiting_in-set w.parts at p s.part found in
       let c = begun_turns-append w.marks (tagged p.member s.marks) in
       let f = begun_turns-tagged p.member s.marks in

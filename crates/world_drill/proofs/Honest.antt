@@ -1,5 +1,6 @@
 -- No event of a drill declares a member lost that runs: only `lost` can, and it stands behind the stops of both parts.
 use Rattle.std.proofs.Common.{◌≡◌, ◌⊎◌, ℕ, Bool, true, false, ◌+◌, ◌||◌, cond, List, [], ◌∷◌, ◌++◌, Option, None, Some, refl, ap, inl, inr}
+use Rattle.actor_names.specs.Names.{default_space}
 use Rattle.std.specs.Prelude.{zero, suc, nat_le, nat_lt, length, slice_get, ◌==◌, ◌%◌, ◌/◌, ◌-◌, min, Result, Ok, Err, codes, decimal, if◌then◌else◌}
 use Rattle.std.proofs.lemmas.Bool.{cond_both}
 use Rattle.actor_names.specs.declared.member.Member.{Member}
@@ -22,6 +23,7 @@ use Rattle.cluster_model.proofs.Lines.{run_kept, step_kept}
 use Rattle.world_run.specs.Looks.{asks_at}
 use Rattle.world_drill.specs.Drill as drill
 use Rattle.world_drill.specs.Drill.{AreHonest, is_dishonest, drill_settings, drill_events, draw_of, first_of, second_of, third_of, events_from, step_events}
+use Rattle.world_run.proofs.RingSpaces.{ring_keeps}
 use Rattle.world_drill.proofs.Losses.{HasTwoEach, two_kept, new_two, stop_stops, stop_keeps, both_stopped}
 
 -- ---- events that can't be dishonest
@@ -85,7 +87,7 @@ fair_polled w call (Some c) = fair_part w c.place (events.Poll c.call) (world.ca
 
 quiet_fair : (w : ClusterState) (e : WorldEvent) → IsQuiet e → IsFair (happens w e)
 quiet_fair w (lines.At moment) q = refl
-quiet_fair w (lines.Boot node kinds) q = refl
+quiet_fair w (lines.Boot space node kinds) q = refl
 quiet_fair w (lines.Beat m) q = cond_both (world.was_booted w.parts m) _ _ IsFair (λ _. refl) (λ _. refl)
 quiet_fair w (lines.Collect m) q =
     cond_both (world.was_booted w.parts m) _ _ IsFair (λ _. elim (collected (world.receipts_of ring_owner key_part w.parts m)) as (λ o. IsFair (world.add_ack ring_owner key_part w m o)) [ None ↦ refl | Some a ↦ refl ]) (λ _. refl)
@@ -151,7 +153,7 @@ abbrev IsDrill : ClusterState → Type 0
 IsDrill w = HasTwoEach ring_owner key_part w
 
 drill_kept : (w : ClusterState) (e : WorldEvent) → IsDrill w → IsDrill (cluster_step ring_owner key_part w e).world
-drill_kept = step_kept ring_owner key_part (HasTwoEach ring_owner key_part) (two_kept ring_owner key_part)
+drill_kept = step_kept ring_owner key_part (HasTwoEach ring_owner key_part) (two_kept ring_owner key_part ring_keeps)
 
 honest_loss : (w : ClusterState) (m : Member) → IsDrill w → AreHonest w (drill.loss_of m)
 honest_loss w m t =
@@ -163,7 +165,7 @@ honest_loss w m t =
     false_or _ _ (step_fair w (lines.Stop m 0) tt) (false_or _ _ (step_fair one (lines.Stop m 1) tt) (false_or _ _ (lost_fair two m stopped) refl))
 
 honest_boot : (w : ClusterState) (a : ℕ) → AreHonest w (drill.boot_of w a)
-honest_boot w a = cond_both (nat_lt w.boots 64) _ _ (AreHonest w) (λ _. honest_one w (lines.Boot (codes "n" ++ decimal (a % 4)) (drill.counter ∷ [])) tt) (λ _. refl)
+honest_boot w a = cond_both (nat_lt w.boots 64) _ _ (AreHonest w) (λ _. honest_one w (lines.Boot default_space (codes "n" ++ decimal (a % 4)) (drill.counter ∷ [])) tt) (λ _. refl)
 
 honest_member : (w : ClusterState) (n : ℕ) (events : Member → List WorldEvent) → ((m : Member) → AreHonest w (events m)) → AreHonest w (drill.at_member w n events)
 honest_member w n events h = go (drill.member_numbered w n)
@@ -201,7 +203,7 @@ honest_closing w part m =
 
 honest_called : (w : ClusterState) (b : ℕ) (m : Member) → AreHonest w (drill.call_of w b m)
 honest_called w b m =
-    honest_one w (lines.Call (suc (length w.calls)) m (record { kind = drill.counter; id = codes "k" ++ decimal (b % 8) }) 0 (Some (codes "c" ++ decimal (b / 8 % 4)))) tt
+    honest_one w (lines.Call (suc (length w.calls)) m (record { space = default_space; kind = drill.counter; id = codes "k" ++ decimal (b % 8) }) 0 (Some (codes "c" ++ decimal (b / 8 % 4)))) tt
 
 honest_picked : (w : ClusterState) (r a b : ℕ) → IsDrill w → AreHonest w (drill.picked w r a b)
 honest_picked w r a b t =
@@ -223,7 +225,7 @@ honest_picked w r a b t =
 honest_from : (n x : ℕ) (w : ClusterState) → IsDrill w → AreHonest w (events_from n x w)
 honest_from zero x w t = refl
 honest_from (suc n) x w t =
-    let after = run_kept ring_owner key_part (HasTwoEach ring_owner key_part) (two_kept ring_owner key_part) w (step_events w x) t in
+    let after = run_kept ring_owner key_part (HasTwoEach ring_owner key_part) (two_kept ring_owner key_part ring_keeps) w (step_events w x) t in
     let fair = honest_picked w (draw_of (first_of x) % 16) (draw_of (second_of x)) (draw_of (third_of x)) t in
     honest-append w (step_events w x) (events_from n (third_of x) (cluster_run ring_owner key_part w (step_events w x))) fair
     (honest_from n (third_of x) (cluster_run ring_owner key_part w (step_events w x)) after)

@@ -12,7 +12,7 @@ use Rattle.part_core.specs.declared.settings.TypeSettings.{TypeSettings}
 use Rattle.part_core.specs.declared.event.PartEvent.TheVariants as events
 use Rattle.part_core.specs.declared.stage.Stage.{Stage}
 use Rattle.part_core.specs.declared.stage.Stage.TheVariants.{Locked, Updated, Open, Stopped}
-use Rattle.part_core.specs.Keys.{same_member}
+use Rattle.actor_names.specs.Same.{same_member}
 use Rattle.part_core.specs.Part.{PartState, is_stopped, part_step, step_at}
 use Rattle.part_core.proofs.PartTables.{part_stepped}
 use Rattle.world_events.specs.declared.settings.WorldSettings.{WorldSettings}
@@ -22,6 +22,8 @@ use Rattle.cluster_model.specs.World.{ClusterState, is_part, place_of_part, all_
 use Rattle.cluster_model.proofs.Basics.{same_member-true, same_member-self, In-append, In-set, In-slice_get}
 use Rattle.cluster_model.proofs.Histories.{get-set, some_same}
 use Rattle.cluster_model.proofs.Lines.{AreKept}
+use Rattle.cluster_model.specs.Spaces.{KeepsToSpace}
+use Rattle.cluster_model.proofs.SpaceParts.{backed}
 use Rattle.cluster_model.proofs.Named.{same_place}
 use Rattle.cluster_model.proofs.Runs.{IsToldWorld, told_kept, new_world_told}
 use Rattle.cluster_model.proofs.Worlds.{new_world_safe}
@@ -72,15 +74,15 @@ module _ (owner : PlacementTable → ActorKey → Option HostInfo) (part_of : Ac
     pub two : w.settings.parts ≡ 2
     pub below : (p : PartState) → In p w.parts → p.number < 2
 
-  pub two_kept : AreKept owner part_of HasTwoEach
-  two_kept =
-      let kept = told_kept owner part_of in
+  pub two_kept : KeepsToSpace owner → AreKept owner part_of HasTwoEach
+  two_kept keeps =
+      let kept = told_kept owner part_of keeps in
       record {
         safe = λ w t. t.told.safe;
         other = λ w now calls events t. record { told = kept.other w now calls events t.told; two = t.two; below = t.below };
         step = λ w n p e t at heard asked.
             let i = In-slice_get w.parts n p at in
-            let st = part_stepped owner p e (t.told.safe.safe.parts p i).sound in
+            let st = part_stepped owner p e (backed owner w t.told.safe p i).sound in
             record {
               told = kept.step w n p e t.told at heard asked;
               two = t.two;
@@ -138,7 +140,7 @@ module _ (owner : PlacementTable → ActorKey → Option HostInfo) (part_of : Ac
   halts_at : (w : ClusterState) (m : Member) (i n : ℕ) (p : PartState) → HasTwoEach w → place_of_part w.parts m i ≡ Some n → slice_get w.parts n ≡ Some p → Halts w m i (set w.parts n (part_step owner p events.StopPart).part)
   halts_at w m i n p t is at x j =
       let q : PartState = (part_step owner p events.StopPart).part in
-      let st = part_stepped owner p events.StopPart (t.told.safe.safe.parts p (In-slice_get w.parts n p at)).sound in
+      let st = part_stepped owner p events.StopPart (backed owner w t.told.safe p (In-slice_get w.parts n p at)).sound in
       let k = place-In (set w.parts n q) x j in
       elim (get-set w.parts n k.0 q x p at k.1) [
         | inl h ↦ (

@@ -1,5 +1,6 @@
 -- Worked drills, as tests of the definitions: each closes by computing. No owner of an actor is asked in them.
 use Rattle.std.specs.Prelude.{◌≡◌, [], ◌∷◌, codes}
+use Rattle.actor_names.specs.Names.{default_space}
 use Rattle.std.specs.Fmt.{digits}
 use Rattle.std.proofs.Common.{refl}
 use Rattle.actor_names.specs.declared.member.Member.{Member}
@@ -20,13 +21,13 @@ drill_step_without_member_does_nothing : counts_of 1 (drill_world 1 1) ≡ recor
 drill_step_without_member_does_nothing = refl
 
 abbrev n3/1 : Member
-n3/1 = record { node = codes "n3"; boot = 1 }
+n3/1 = record { space = default_space; node = codes "n3"; boot = 1 }
 
 abbrev n3/2 : Member
-n3/2 = record { node = codes "n3"; boot = 2 }
+n3/2 = record { space = default_space; node = codes "n3"; boot = 2 }
 
 drill_stops_parts_of_lost_member : drill_events 15890 12
-    ≡ Boot (codes "n3") (counter ∷ []) ∷ Boot (codes "n3") (counter ∷ []) ∷ Restart ∷ To 1 ∷ Stop n3/1 0 ∷ Stop n3/1 1 ∷ Lost n3/1 ∷ Closing n3/2 0 ∷ Collect n3/1 ∷ Collect n3/2 ∷ Part 3 1 ∷ []
+    ≡ Boot default_space (codes "n3") (counter ∷ []) ∷ Boot default_space (codes "n3") (counter ∷ []) ∷ Restart ∷ To 1 ∷ Stop n3/1 0 ∷ Stop n3/1 1 ∷ Lost n3/1 ∷ Closing n3/2 0 ∷ Collect n3/1 ∷ Collect n3/2 ∷ Part 3 1 ∷ []
 unfolding digits
 drill_stops_parts_of_lost_member = refl
 

@@ -3,7 +3,9 @@ use Rattle.std.specs.Prelude.{◌≡◌, ℕ, zero, suc, ◌+◌, ◌-◌, ◌*�
 use Rattle.std.specs.List.{list_any}
 use Rattle.actor_names.specs.declared.member.Member.{Member}
 use Rattle.part_core.specs.Part.{ring_owner}
-use Rattle.round_core.specs.Placement.{last_version}
+use Rattle.actor_names.specs.Names.{default_space}
+use Rattle.round_core.specs.Room.{last_version}
+use Rattle.placement_core.specs.Placement.{room_of}
 use Rattle.world_events.specs.declared.event.WorldEvent.{WorldEvent}
 use Rattle.world_events.specs.declared.event.WorldEvent.TheVariants as lines
 use Rattle.world_events.specs.declared.settings.WorldSettings.{WorldSettings}
@@ -72,14 +74,14 @@ delivery w a b =
     (let k = length w.messages - a % min (length w.messages) 8 in delivered k (b % 2) (asks_at w.messages k))
 
 abbrev pub boot_of : ClusterState → ℕ → List WorldEvent
-boot_of w a = if nat_lt w.boots 64 then lines.Boot (codes "n" ++ decimal (a % 4)) (counter ∷ []) ∷ [] else []
+boot_of w a = if nat_lt w.boots 64 then lines.Boot default_space (codes "n" ++ decimal (a % 4)) (counter ∷ []) ∷ [] else []
 
 -- both parts stop, and the member is lost
 abbrev pub loss_of : Member → List WorldEvent
 loss_of m = lines.Stop m 0 ∷ lines.Stop m 1 ∷ lines.Lost m ∷ []
 
 abbrev pub call_of : ClusterState → ℕ → Member → List WorldEvent
-call_of w b m = lines.Call (suc (length w.calls)) m (record { kind = counter; id = codes "k" ++ decimal (b % 8) }) 0 (Some (codes "c" ++ decimal (b / 8 % 4))) ∷ []
+call_of w b m = lines.Call (suc (length w.calls)) m (record { space = default_space; kind = counter; id = codes "k" ++ decimal (b % 8) }) 0 (Some (codes "c" ++ decimal (b / 8 % 4))) ∷ []
 
 -- a deactivation that was begun is ended
 abbrev pub closed_after : Member → Result Outcome WorldError → List WorldEvent
@@ -133,7 +135,7 @@ drill_world seed steps = cluster_run ring_owner key_part (opening_cluster drill_
 -- what is counted of it, by its messages and marks
 abbrev pub counts_of : ℕ → ClusterState → DrillCounts
 counts_of steps w =
-    record { steps = steps; boots = w.boots; messages = length w.messages; begun = begun_turns w.marks; open_turns = open_turns w.marks; version = last_version w.placement }
+    record { steps = steps; boots = w.boots; messages = length w.messages; begun = begun_turns w.marks; open_turns = open_turns w.marks; version = last_version (room_of w.placement default_space) }
 
 -- the event was refused, since it declares a member lost that runs
 abbrev pub is_dishonest : Result Outcome WorldError → Bool

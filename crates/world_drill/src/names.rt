@@ -1,10 +1,11 @@
 // The names of a drill: nodes `n0` to `n3`, actors `counter/k0` to `counter/k7`, chains `c0` to `c3`.
 ghost use Rattle.std.specs.Prelude.{◌≡◌, ◌<◌, ◌%◌, ◌/◌, ◌∷◌, ◌++◌, [], codes, decimal, IfOk, Some};
+ghost use Rattle.actor_names.specs.Names.{default_space};
 ghost use Rattle.world_drill.specs.Drill.{counter};
 
 use actor_names::{
-    ActorId, ActorKey, ActorType, ChainId, Node, OutOfMemory, read_actor_id, read_actor_type,
-    read_chain_id, read_node,
+    ActorId, ActorKey, ActorType, ChainId, Node, OutOfMemory, default_space, read_actor_id,
+    read_actor_type, read_chain_id, read_node,
 };
 use std::alloc::Global;
 
@@ -39,11 +40,15 @@ pub(crate) fn counter(alloc: Global) -> Result<ActorType, OutOfMemory>
 
 /// The actor of a draw.
 pub(crate) fn key_of(alloc: Global, b: u64) -> Result<ActorKey, OutOfMemory>
-    ensures { IfOk result (λ key. key ≡ record { kind = counter; id = codes "k" ++ decimal (b % 8) }) }
+    ensures { IfOk result (λ key. key ≡ record { space = default_space; kind = counter; id = codes "k" ++ decimal (b % 8) }) }
 {
     let kind = counter(alloc)?;
     match read_actor_id(alloc, &marked(b'k', b % 8)) {
-        Ok(id) => Ok(ActorKey { kind, id }),
+        Ok(id) => Ok(ActorKey {
+            space: default_space(),
+            kind,
+            id,
+        }),
         Err(_) => Err(OutOfMemory),
     }
 }

@@ -7,7 +7,7 @@ ghost use Rattle.world_drill.specs.Drill.{member_numbered, at_member, call_numbe
 
 use crate::choice::Choice;
 use crate::names::{chain_of, counter, key_of, node_of};
-use actor_names::{Member, OutOfMemory};
+use actor_names::{Member, OutOfMemory, default_space};
 use place_table::ActorTypes;
 use std::alloc::Global;
 use world_events::WorldEvent;
@@ -41,6 +41,7 @@ fn boot(alloc: Global, world: &World, a: u64) -> Result<Choice, OutOfMemory>
     kinds.push(counter(alloc)?)?;
     Ok(Choice::One {
         event: WorldEvent::Boot {
+            space: default_space(),
             node: node_of(a),
             kinds: ActorTypes::from_vec(kinds),
         },

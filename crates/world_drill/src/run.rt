@@ -9,7 +9,7 @@ use crate::counts::DrillCounts;
 use crate::generator::Generator;
 use crate::names::counter;
 use crate::play::step;
-use actor_names::OutOfMemory;
+use actor_names::{OutOfMemory, default_space};
 use part_core::{TypeList, TypeSettings};
 use std::alloc::Global;
 use world_events::WorldSettings;
@@ -64,7 +64,7 @@ fn counts(world: &World, steps: u32) -> DrillCounts
         messages: world.messages(),
         begun: world.begun(),
         open_turns: world.open_turns(),
-        version: world.last_version(),
+        version: world.last_version(&default_space()),
     }
 }
 

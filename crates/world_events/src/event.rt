@@ -1,5 +1,5 @@
 // What happens in the world of a script: one event for each event line.
-use actor_names::{ActorKey, ChainId, Member, Node};
+use actor_names::{ActorKey, ChainId, Member, Node, Space};
 use place_table::ActorTypes;
 
 /// What happens in the world of a solo script; keys, of the form `TYPE/ID`, and chains are lent from the script. Calls
@@ -38,8 +38,9 @@ pub enum WorldEvent {
     At {
         moment: u64,
     },
-    /// A node starts, and asks to be registered with these types.
+    /// A node of a space starts, and asks to be registered with these types.
     Boot {
+        space: Space,
         node: Node,
         kinds: ActorTypes,
     },

@@ -9,8 +9,10 @@ mod error;
 mod event;
 mod outcome;
 mod settings;
+mod versions;
 
 pub use error::WorldError;
 pub use event::{SoloEvent, WorldEvent};
 pub use outcome::{Outcome, TurnOutcome};
 pub use settings::WorldSettings;
+pub use versions::Versions;

@@ -1,4 +1,5 @@
 // What comes of an event: one outcome for each line that a replay prints.
+use crate::versions::Versions;
 use actor_names::{ActorKey, Member};
 use place_table::AckStage;
 use round_core::PlaceReply;
@@ -144,8 +145,8 @@ pub enum Outcome {
     Dropped {
         members: u32,
     },
-    /// The placement was started anew; the version of the round that it starts, 0 for none.
+    /// The placement was started anew; the version of the round that starts in each room, 0 for none.
     Restarted {
-        version: u64,
+        versions: Versions,
     },
 }

@@ -3,10 +3,11 @@ use Rattle.std.proofs.Common.{◌≡◌, ◌≢◌, ℕ, ◌+◌, ◌*◌, ◌<�
 use Rattle.std.specs.Prelude.{zero, suc, slice_get, Some}
 use Rattle.std.proofs.lemmas.List.{length-append, length-map}
 use Rattle.actor_names.specs.declared.member.Member.{Member}
-use Rattle.part_core.specs.Keys.{same_member}
+use Rattle.actor_names.specs.Same.{same_member}
 use Rattle.part_core.specs.Part.{PartState}
 use Rattle.cluster_model.proofs.Basics.{same_member-true}
-use Rattle.world_run.specs.Layout.{PartTag, tag_of, tags_of, member_tags, all_tags, HasNone, IsFirst}
+use Rattle.world_run.specs.declared.home.Home.{Home}
+use Rattle.world_run.specs.Layout.{booted_at, home_of, PartTag, tag_of, tags_of, member_tags, all_tags, HasNone, IsFirst}
 
 record Split (ps : List PartState) (xs ys : List PartTag) : Type 0 where
   front : List PartState
@@ -62,45 +63,45 @@ other_boot m o d = go (same_member m o) refl
     go false e = refl
     go true e = absurd (d (ap (λ (z : Member). z.boot) (same_member-true m o e)))
 
-other_node : (m o : Member) → m.node ≢ o.node → same_member m o ≡ false
+other_node : (m o : Member) → home_of m ≢ home_of o → same_member m o ≡ false
 other_node m o d = go (same_member m o) refl
   where
     go : (b : Bool) → same_member m o ≡ b → b ≡ false
     go false e = refl
-    go true e = absurd (d (ap (λ (z : Member). z.node) (same_member-true m o e)))
+    go true e = absurd (d (ap home_of (same_member-true m o e)))
 
 -- a member of an earlier boot has none
-pub none_earlier : (m : Member) (per boot : ℕ) (ns : List (List ℕ)) (ps : List PartState) → tags_of ps ≡ all_tags per boot ns → m.boot < boot → HasNone m ps
+pub none_earlier : (m : Member) (per boot : ℕ) (ns : List Home) (ps : List PartState) → tags_of ps ≡ all_tags per boot ns → m.boot < boot → HasNone m ps
 none_earlier m per boot [] [] e l = tt
 none_earlier m per boot [] (p ∷ ps) e l = absurd (cc)
 none_earlier m per boot (n ∷ ns) ps e l =
-    let o : Member = record { node = n; boot = boot } in
+    let o : Member = booted_at n boot in
     let s = split ps (member_tags o 0 per) (all_tags per (suc boot) ns) e in
     subst (λ (z : List PartState). HasNone m z) (sym s.whole)
     (none-append m s.front s.back (none_block m o s.front 0 per s.front_is (other_boot m o (λ q. omega arith))) (none_earlier m per (suc boot) ns s.back s.back_is (omega arith)))
 
 -- a member of a later boot has none
-pub none_later : (m : Member) (per boot k : ℕ) (ns : List (List ℕ)) (ps : List PartState) → tags_of ps ≡ all_tags per boot ns → m.boot ≡ boot + k → length ns ≤ k → HasNone m ps
+pub none_later : (m : Member) (per boot k : ℕ) (ns : List Home) (ps : List PartState) → tags_of ps ≡ all_tags per boot ns → m.boot ≡ boot + k → length ns ≤ k → HasNone m ps
 none_later m per boot k [] [] e b l = tt
 none_later m per boot k [] (p ∷ ps) e b l = absurd (cc)
 none_later m per boot zero (n ∷ ns) ps e b l = absurd (omega arith)
 none_later m per boot (suc k) (n ∷ ns) ps e b l =
-    let o : Member = record { node = n; boot = boot } in
+    let o : Member = booted_at n boot in
     let s = split ps (member_tags o 0 per) (all_tags per (suc boot) ns) e in
     subst (λ (z : List PartState). HasNone m z) (sym s.whole)
     (none-append m s.front s.back (none_block m o s.front 0 per s.front_is (other_boot m o (λ q. omega arith))) (none_later m per (suc boot) k ns s.back s.back_is (omega arith) (omega arith)))
 
 -- a member whose boot was of another node has none
-pub none_other : (m : Member) (per boot k : ℕ) (ns : List (List ℕ)) (ps : List PartState) (node : List ℕ) → tags_of ps ≡ all_tags per boot ns → m.boot ≡ boot + k → slice_get ns k ≡ Some node → m.node ≢ node → HasNone m ps
+pub none_other : (m : Member) (per boot k : ℕ) (ns : List Home) (ps : List PartState) (node : Home) → tags_of ps ≡ all_tags per boot ns → m.boot ≡ boot + k → slice_get ns k ≡ Some node → home_of m ≢ node → HasNone m ps
 none_other m per boot k [] ps node e b at d = absurd (cc)
 none_other m per boot zero (n ∷ ns) ps node e b at d =
-    let o : Member = record { node = n; boot = boot } in
+    let o : Member = booted_at n boot in
     let s = split ps (member_tags o 0 per) (all_tags per (suc boot) ns) e in
     let same : n ≡ node = cc in
     subst (λ (z : List PartState). HasNone m z) (sym s.whole)
     (none-append m s.front s.back (none_block m o s.front 0 per s.front_is (other_node m o (λ q. d (q ∙ same)))) (none_earlier m per (suc boot) ns s.back s.back_is (omega arith)))
 none_other m per boot (suc k) (n ∷ ns) ps node e b at d =
-    let o : Member = record { node = n; boot = boot } in
+    let o : Member = booted_at n boot in
     let s = split ps (member_tags o 0 per) (all_tags per (suc boot) ns) e in
     subst (λ (z : List PartState). HasNone m z) (sym s.whole)
     (none-append m s.front s.back (none_block m o s.front 0 per s.front_is (other_boot m o (λ q. omega arith))) (none_other m per (suc boot) k ns s.back node s.back_is (omega arith) at d))
@@ -119,16 +120,16 @@ behind m per first block rest none many f =
       some = f.some;
     }
 
-member_same : (m : Member) (node : List ℕ) (boot : ℕ) → m.node ≡ node → m.boot ≡ boot → record { node = node; boot = boot } ≡ m
-member_same m node boot e f = λ i. record { node = sym e i; boot = sym f i }
+member_same : (m : Member) (node : Home) (boot : ℕ) → home_of m ≡ node → m.boot ≡ boot → booted_at node boot ≡ m
+member_same m node boot e f = λ i. record { space = (sym e i).space; node = (sym e i).node; boot = sym f i }
 
 -- the parts of the member of this boot
-pub found_first : (m : Member) (per boot k : ℕ) (ns : List (List ℕ)) (ps : List PartState) → 0 < per → tags_of ps ≡ all_tags per boot ns → m.boot ≡ boot + k → slice_get ns k ≡ Some m.node → IsFirst ps m per (k * per)
+pub found_first : (m : Member) (per boot k : ℕ) (ns : List Home) (ps : List PartState) → 0 < per → tags_of ps ≡ all_tags per boot ns → m.boot ≡ boot + k → slice_get ns k ≡ Some (home_of m) → IsFirst ps m per (k * per)
 found_first m per boot k [] ps some e b at = absurd (cc)
 found_first m per boot zero (n ∷ ns) ps some e b at =
-    let o : Member = record { node = n; boot = boot } in
+    let o : Member = booted_at n boot in
     let s = split ps (member_tags o 0 per) (all_tags per (suc boot) ns) e in
-    let node : n ≡ m.node = cc in
+    let node : n ≡ home_of m = cc in
     let same : o ≡ m = member_same m n boot (sym node) (omega arith) in
     record {
       before = [];
@@ -142,18 +143,18 @@ found_first m per boot zero (n ∷ ns) ps some e b at =
       some = some;
     }
 found_first m per boot (suc k) (n ∷ ns) ps some e b at =
-    let o : Member = record { node = n; boot = boot } in
+    let o : Member = booted_at n boot in
     let s = split ps (member_tags o 0 per) (all_tags per (suc boot) ns) e in
     let more = found_first m per (suc boot) k ns s.back some s.back_is (omega arith) at in
     let here = behind m per (k * per) s.front s.back (none_block m o s.front 0 per s.front_is (other_boot m o (λ q. omega arith))) (length-block s.front o 0 per s.front_is) more in
     subst (λ (z : List PartState). IsFirst z m per (suc k * per)) (sym s.whole) (subst (λ (j : ℕ). IsFirst (s.front ++ s.back) m per j) (omega arith) here)
 
 -- as many parts as members times the parts of each
-pub length-laid : (per boot : ℕ) (ns : List (List ℕ)) (ps : List PartState) → tags_of ps ≡ all_tags per boot ns → length ps ≡ length ns * per
+pub length-laid : (per boot : ℕ) (ns : List Home) (ps : List PartState) → tags_of ps ≡ all_tags per boot ns → length ps ≡ length ns * per
 length-laid per boot [] [] e = omega arith
 length-laid per boot [] (p ∷ ps) e = absurd (cc)
 length-laid per boot (n ∷ ns) ps e =
-    let o : Member = record { node = n; boot = boot } in
+    let o : Member = booted_at n boot in
     let s = split ps (member_tags o 0 per) (all_tags per (suc boot) ns) e in
     let more = length-laid per (suc boot) ns s.back s.back_is in
     let front = length-block s.front o 0 per s.front_is in
@@ -169,23 +170,23 @@ tags-set (x ∷ ps) zero p q e f g =
 tags-set (x ∷ ps) (suc n) p q e f g = ap (λ (z : List PartTag). tag_of x ∷ z) (tags-set ps n p q e f g)
 
 -- one member more
-pub tags-boot : (per boot : ℕ) (ns : List (List ℕ)) (node : List ℕ) (ps qs : List PartState) → tags_of ps ≡ all_tags per boot ns →
-    tags_of qs ≡ member_tags (record { node = node; boot = boot + length ns }) 0 per → tags_of (ps ++ qs) ≡ all_tags per boot (ns ++ node ∷ [])
+pub tags-boot : (per boot : ℕ) (ns : List Home) (node : Home) (ps qs : List PartState) → tags_of ps ≡ all_tags per boot ns →
+    tags_of qs ≡ member_tags (booted_at node (boot + length ns)) 0 per → tags_of (ps ++ qs) ≡ all_tags per boot (ns ++ node ∷ [])
 tags-boot per boot ns node ps qs e f = tags-append ps qs ∙ ap (λ (z : List PartTag). z ++ tags_of qs) e ∙ ap (λ (z : List PartTag). all_tags per boot ns ++ z) f ∙ sym (more boot ns)
   where
     tags-append : (xs ys : List PartState) → tags_of (xs ++ ys) ≡ tags_of xs ++ tags_of ys
     tags-append [] ys = refl
     tags-append (x ∷ xs) ys = ap (λ (z : List PartTag). tag_of x ∷ z) (tags-append xs ys)
 
-    more : (boot : ℕ) (ns : List (List ℕ)) → all_tags per boot (ns ++ node ∷ []) ≡ all_tags per boot ns ++ member_tags (record { node = node; boot = boot + length ns }) 0 per
-    more boot [] = append-nil _ ∙ ap (λ (k : ℕ). member_tags (record { node = node; boot = k }) 0 per) (omega arith)
+    more : (boot : ℕ) (ns : List Home) → all_tags per boot (ns ++ node ∷ []) ≡ all_tags per boot ns ++ member_tags (booted_at node (boot + length ns)) 0 per
+    more boot [] = append-nil _ ∙ ap (λ (k : ℕ). member_tags (booted_at node k) 0 per) (omega arith)
     more boot (n ∷ ns) =
-        ap (λ (z : List PartTag). member_tags (record { node = n; boot = boot }) 0 per ++ z) (more (suc boot) ns)
-        ∙ sym (append_assoc (member_tags (record { node = n; boot = boot }) 0 per) (all_tags per (suc boot) ns) (member_tags (record { node = node; boot = suc boot + length ns }) 0 per))
-        ∙ ap (λ (k : ℕ). (member_tags (record { node = n; boot = boot }) 0 per ++ all_tags per (suc boot) ns) ++ member_tags (record { node = node; boot = k }) 0 per) (omega arith)
+        ap (λ (z : List PartTag). member_tags (booted_at n boot) 0 per ++ z) (more (suc boot) ns)
+        ∙ sym (append_assoc (member_tags (booted_at n boot) 0 per) (all_tags per (suc boot) ns) (member_tags (booted_at node (suc boot + length ns)) 0 per))
+        ∙ ap (λ (k : ℕ). (member_tags (booted_at n boot) 0 per ++ all_tags per (suc boot) ns) ++ member_tags (booted_at node k) 0 per) (omega arith)
 
 -- the place of a part is below as many parts as there are
-pub place_below : (per k : ℕ) (ns : List (List ℕ)) (ps : List PartState) → tags_of ps ≡ all_tags per 1 ns → k < length ns → k * per ≤ length ps
+pub place_below : (per k : ℕ) (ns : List Home) (ps : List PartState) → tags_of ps ≡ all_tags per 1 ns → k < length ns → k * per ≤ length ps
 place_below per k ns ps e l =
     let below : k ≤ length ns = omega arith in
     omega (arith, length-laid per 1 ns ps e, mul-le-mul_right {m = k} {n = length ns} per below)

@@ -17,7 +17,7 @@ use Rattle.turn_core.specs.declared.answer.CellPoll.TheVariants as polling
 use Rattle.turn_core.specs.Cell.{CellState, is_free, is_open_chain}
 use Rattle.part_cells.specs.declared.actor_cell.ActorCell.{ActorCell}
 use Rattle.part_cells.specs.Cells.{cell_at, cell_of_call}
-use Rattle.part_core.specs.Keys.{same_member}
+use Rattle.actor_names.specs.Same.{same_member}
 use Rattle.part_core.specs.declared.stage.Stage.{Stage}
 use Rattle.part_core.specs.declared.stage.Stage.TheVariants.{Locked, Updated, Open, Stopped}
 use Rattle.part_core.specs.declared.event.PartEvent.{PartEvent}

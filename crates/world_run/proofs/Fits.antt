@@ -1,19 +1,21 @@
 -- What the safety of a cluster gives of the next event, and of the world after it.
 use Rattle.std.proofs.Common.{◌≡◌, ℕ, ◌+◌, ◌<◌, ◌≤◌, ◌^◌, true, false, cond, List, [], ◌∷◌, ◌++◌, refl, sym, ap, ◌∙◌, subst, inl, inr, arith}
-use Rattle.std.specs.Prelude.{zero, suc, ◌==◌, nat_le, slice_get, length, Option, None, Some, Result, Ok, Err, is_ok}
+use Rattle.std.specs.Prelude.{zero, suc, bytes_eq, ◌==◌, nat_le, slice_get, length, Option, None, Some, Result, Ok, Err, is_ok}
 use Rattle.std.proofs.lemmas.Bool.{cond_both, cond-false, lt-leb}
+use Rattle.place_table.specs.declared.host.HostInfo.{HostInfo}
+use Rattle.cluster_model.proofs.SpaceParts.{in_messages, of_itself}
 use Rattle.actor_names.specs.declared.member.Member.{Member}
 use Rattle.turn_core.specs.CellSound.{In}
 use Rattle.part_core.specs.declared.event.PartEvent.{PartEvent}
 use Rattle.part_core.specs.declared.event.PartEvent.TheVariants as events_of
 use Rattle.part_core.specs.declared.event.PartReply.{PartReply}
 use Rattle.part_core.specs.Part.{PartState, ring_owner}
-use Rattle.member_roster.specs.Members.{late_of}
 use Rattle.member_core.specs.declared.ack.Ack as declared
 use Rattle.member_core.specs.Acks.{collected, are_stopped}
 use Rattle.round_core.specs.declared.event.PlaceReply.{PlaceReply}
 use Rattle.round_core.specs.declared.event.PlaceReply.TheVariants as replies
-use Rattle.round_core.specs.Placement.{PlacementStep, placement_step, last_version}
+use Rattle.round_core.specs.Room.{last_version}
+use Rattle.placement_core.specs.Placement.{PlacementStep, late_in, room_of, placement_step}
 use Rattle.world_events.specs.declared.event.WorldEvent.{WorldEvent}
 use Rattle.world_events.specs.declared.event.WorldEvent.TheVariants as lines
 use Rattle.world_events.specs.declared.outcome.Outcome.{Outcome}
@@ -22,7 +24,7 @@ use Rattle.world_events.specs.declared.error.WorldError.{WorldError}
 use Rattle.world_events.specs.declared.error.WorldError.TheVariants as refused
 use Rattle.cluster_model.specs.Messages.{Request, Answer, LockAt, UpdateTo, UnlockAt, Says, Message, Asks, Tells, table_of, answer_of, change_of, asker_of, told_event}
 use Rattle.cluster_model.specs.World as world
-use Rattle.cluster_model.specs.World.{ClusterState, WorldStep, CallPlace, key_part, most_events}
+use Rattle.cluster_model.specs.World.{ClusterState, WorldStep, CallPlace, key_part, most_events, table_in}
 use Rattle.cluster_model.specs.Invariant.{version_of}
 use Rattle.cluster_model.proofs.Basics.{In-slice_get}
 use Rattle.cluster_model.specs.Invariant.{IsSafeWorld}
@@ -50,22 +52,30 @@ In-numbered ms zero x e = absurd (cc)
 In-numbered ms (suc k) x e = In-slice_get ms k x e
 
 -- the answer to a request carries the one table of its version
+abbrev asked_space : Request → List ℕ
+asked_space r = (asker_of r).space
+
+abbrev asked_hosts : PlacementStep → Request → List HostInfo
+asked_hosts s r = table_in s.state (asked_space r)
+
 agrees : (v : WorldView) (r : Request) → IsSafeWorld ring_owner (cluster_of v) → In (Asks r) v.messages → Agrees (Some (Asks r)) v.moment (post_of v)
-agrees v r safe i = go s.reply refl
+agrees v r safe i = go (placement_step v.placement (change_of r) v.moment) ((safe_kept ring_owner key_part).answer (cluster_of v) r safe i) (placement_step v.placement (change_of r) v.moment).reply refl
   where
-    s : PlacementStep
-    s = placement_step v.placement (change_of r) v.moment
-
-    after_safe : IsSafeWorld ring_owner (world.answers (cluster_of v) r s).world
-    after_safe = (safe_kept ring_owner key_part).answer (cluster_of v) r safe i
-
-    go : (reply : PlaceReply) → s.reply ≡ reply → AgreesOn v.messages v.moment s.state.table reply
-    go (replies.Update version) e = λ m t k at version_is.
-        after_safe.safe.messages.one_table m (asker_of r) t (table_of version s.state.table) (In-left v.messages _ _ (In-slice_get v.messages k _ at))
-        (subst (λ (z : PlaceReply). In (Tells (asker_of r) (UpdateTo (table_of version s.state.table))) (v.messages ++ Tells (asker_of r) (answer_of s.state.table z) ∷ [])) (sym e) (In-last v.messages _)) version_is
-    go (replies.Lock version) e = tt
-    go (replies.Unlock version) e = tt
-    go reply e = tt
+    go : (s : PlacementStep) → IsSafeWorld ring_owner (world.answers (cluster_of v) r s).world → (reply : PlaceReply) → s.reply ≡ reply → AgreesOn v.messages v.moment (asked_space r) (asked_hosts s r) reply
+    go s safe (replies.Update version) e = λ m t k at space_is version_is.
+        let space = asked_space r in
+        let made = table_of space version (asked_hosts s r) in
+        let all = (world.answers (cluster_of v) r s).world.messages in
+        let old : In (Tells m (UpdateTo t)) all = In-left v.messages _ _ (In-slice_get v.messages k _ at) in
+        let new : In (Tells (asker_of r) (UpdateTo made)) all =
+        subst (λ (z : PlaceReply). In (Tells (asker_of r) (UpdateTo made)) (v.messages ++ Tells (asker_of r) (answer_of space (asked_hosts s r) z) ∷ [])) (sym e) (In-last v.messages _) in
+        let home : m.space ≡ space = sym (safe.tables m t old) ∙ space_is in
+        (safe.spaces space).safe.messages.one_table m (asker_of r) t made
+        (in_messages all (Tells m (UpdateTo t)) space old (subst (λ (z : List ℕ). bytes_eq space z ≡ true) (sym home) (of_itself (asker_of r))))
+        (in_messages all (Tells (asker_of r) (UpdateTo made)) space new (of_itself (asker_of r))) version_is
+    go s safe (replies.Lock version) e = tt
+    go s safe (replies.Unlock version) e = tt
+    go s safe reply e = tt
 
 fits_to : (v : WorldView) (x : Option Message) → IsSafeWorld ring_owner (cluster_of v) → ((m : Message) → x ≡ Some m → In m v.messages) → Agrees x v.moment (post_of v)
 fits_to v None safe i = tt
@@ -74,8 +84,9 @@ fits_to v (Some (Asks r)) safe i = agrees v r safe (i (Asks r) refl)
 
 in_range : (v : WorldView) (m : Member) (u : ℕ) (a : Answer) → IsSafeWorld ring_owner (cluster_of v) → In (Tells m a) v.messages → version_of a ≡ Some u → u ≤ 2 ^ 62
 in_range v m u a safe i e =
-    let below : u ≤ last_version v.placement = safe.safe.messages.told_below m u (a, i, e) in
-    let within = safe.reached.within in
+    let here = safe.spaces m.space in
+    let below : u ≤ last_version (room_of v.placement m.space) = here.safe.messages.told_below m u (a, in_messages v.messages (Tells m a) m.space i (of_itself m), e) in
+    let within = here.reached.within in
     omega arith
 
 fits_part : (v : WorldView) (x : Option Message) → IsSafeWorld ring_owner (cluster_of v) → ((m : Message) → x ≡ Some m → In m v.messages) → IsToldInRange (told_of x v.moment)
@@ -91,7 +102,7 @@ pub fits : (v : WorldView) (e : WorldEvent) → IsSafeWorld ring_owner (cluster_
 fits v (lines.To k) safe = fits_to v (numbered v.messages k) safe (In-numbered v.messages k)
 fits v (lines.Part k i) safe = fits_part v (numbered v.messages k) safe (In-numbered v.messages k)
 fits v (lines.At moment) safe = tt
-fits v (lines.Boot node kinds) safe = tt
+fits v (lines.Boot space node kinds) safe = tt
 fits v (lines.Beat m) safe = tt
 fits v (lines.Collect m) safe = tt
 fits v (lines.Leave m) safe = tt
@@ -113,10 +124,10 @@ fits v lines.Restart safe = tt
 -- the world after an event is safe, however many events are counted
 pub stays_safe : (v u : WorldView) (e : WorldEvent) (r : Result Outcome WorldError) (n : ℕ) → IsSafeWorld ring_owner (cluster_of v) → Happens r v u e → IsSafeWorld ring_owner (cluster_of (record u { events = n }))
 stays_safe v u e r n safe h = elim h [
-  | inl k ↦ subst (λ (z : WorldView). IsSafeWorld ring_owner (cluster_of (record z { events = n }))) (sym k.1) (record { reached = safe.reached; safe = safe.safe })
+  | inl k ↦ subst (λ (z : WorldView). IsSafeWorld ring_owner (cluster_of (record z { events = n }))) (sym k.1) (record { spaces = safe.spaces; tables = safe.tables })
   | inr k ↦
       let s = line_kept ring_owner key_part (IsSafeWorld ring_owner) (safe_kept ring_owner key_part) (cluster_of v) e safe in
-      subst (λ (z : WorldView). IsSafeWorld ring_owner (cluster_of (record z { events = n }))) (sym k.1) (record { reached = s.reached; safe = s.safe })
+      subst (λ (z : WorldView). IsSafeWorld ring_owner (cluster_of (record z { events = n }))) (sym k.1) (record { spaces = s.spaces; tables = s.tables })
 ]
 
 -- ---- the count of events
@@ -182,7 +193,7 @@ module _ (n : ℕ) where
   -- what happens doesn't count itself
   pub events_stay : (w : ClusterState) (e : WorldEvent) → w.events ≡ n → Stays (world.happens ring_owner key_part w e)
   events_stay w (lines.At moment) t = t
-  events_stay w (lines.Boot node kinds) t = t
+  events_stay w (lines.Boot space node kinds) t = t
   events_stay w (lines.Beat m) t = cond_both (world.was_booted w.parts m) _ _ Stays (λ _. t) (λ _. t)
   events_stay w (lines.Collect m) t = cond_both (world.was_booted w.parts m) _ _ Stays (λ _. ack_stays w m (collected (world.receipts_of ring_owner key_part w.parts m)) t) (λ _. t)
   events_stay w (lines.Leave m) t = cond_both (world.was_booted w.parts m) _ _ Stays (λ _. cond_both (are_stopped (world.receipts_of ring_owner key_part w.parts m)) _ _ Stays (λ _. t) (λ _. t)) (λ _. t)
@@ -199,7 +210,7 @@ module _ (n : ℕ) where
   events_stay w (lines.Closed m key) t = does_stays w (world.key_place_of ring_owner key_part w m key) (events_of.Closed key) (world.closed_outcome w.calls key) t
   events_stay w (lines.Stop m i) t = does_stays w (world.place_of_part w.parts m i) events_of.StopPart (λ _. world.stop_outcome) t
   events_stay w (lines.Lost m) t = cond_both (world.was_booted w.parts m) _ _ Stays (λ _. cond_both (world.all_stopped w.parts m) _ _ Stays (λ _. t) (λ _. t)) (λ _. t)
-  events_stay w lines.PlacementTick t = honest_stays w (world.running_among w.parts (late_of w.placement.members w.now)) t
+  events_stay w lines.PlacementTick t = honest_stays w (world.running_among w.parts (late_in w.placement.rooms w.now)) t
   events_stay w lines.Restart t = t
 
 -- ---- the step

@@ -16,7 +16,8 @@ use Rattle.part_core.proofs.PartTables.{new_part_sound}
 use Rattle.world_events.specs.declared.settings.WorldSettings.{WorldSettings}
 use Rattle.cluster_model.specs.World.{unnamed_settings, settings_in, settings_for, new_parts}
 use Rattle.cluster_model.proofs.Basics.{In-append}
-use Rattle.world_run.specs.Layout.{PartTag, tags_of, member_tags, AreLaidOut}
+use Rattle.world_run.specs.declared.home.Home.{Home}
+use Rattle.world_run.specs.Layout.{booted_at, home_of, PartTag, tags_of, member_tags, AreLaidOut}
 use Rattle.world_run.specs.Views.{state_in, states_of}
 use Rattle.world_run.proofs.Blocks.{tags-boot}
 
@@ -46,14 +47,14 @@ new_sound m ks i (suc n) p (inl e) = subst (λ (z : PartState). IsPartSound ring
 new_sound m ks i (suc n) p (inr j) = new_sound m ks (suc i) n p j
 
 -- one member more keeps the layout
-pub boot_laid : (per : ℕ) (nodes : List (List ℕ)) (ps : List PartState) (m : Member) (ks : List TypeSettings) → AreLaidOut per nodes ps → m.boot ≡ suc (length nodes) → AreLaidOut per (nodes ++ m.node ∷ []) (ps ++ new_parts m ks 0 per)
+pub boot_laid : (per : ℕ) (nodes : List Home) (ps : List PartState) (m : Member) (ks : List TypeSettings) → AreLaidOut per nodes ps → m.boot ≡ suc (length nodes) → AreLaidOut per (nodes ++ home_of m ∷ []) (ps ++ new_parts m ks 0 per)
 boot_laid per nodes ps m ks laid boot =
     let same : m.boot ≡ 1 + length nodes = omega arith in
-    let own : m ≡ record { node = m.node; boot = 1 + length nodes } = (λ i. record { node = m.node; boot = same i }) in
+    let own : m ≡ booted_at (home_of m) (1 + length nodes) = (λ i. record { space = m.space; node = m.node; boot = same i }) in
     record {
       many = laid.many;
       few = laid.few;
-      laid = tags-boot per 1 nodes m.node ps (new_parts m ks 0 per) laid.laid (new_tags m ks 0 per ∙ ap (λ (z : Member). member_tags z 0 per) own);
+      laid = tags-boot per 1 nodes (home_of m) ps (new_parts m ks 0 per) laid.laid (new_tags m ks 0 per ∙ ap (λ (z : Member). member_tags z 0 per) own);
       sound = λ p i. elim (In-append ps (new_parts m ks 0 per) p i) [ inl j ↦ laid.sound p j | inr j ↦ new_sound m ks 0 per p j ];
     }
 

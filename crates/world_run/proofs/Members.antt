@@ -3,7 +3,8 @@ use Rattle.std.proofs.Common.{◌≡◌, ℕ, ◌+◌, ◌*◌, ◌<◌, ◌≤�
 use Rattle.std.specs.Prelude.{zero, suc, slice_get, Option, None, Some}
 use Rattle.actor_names.specs.declared.member.Member.{Member}
 use Rattle.part_core.specs.Part.{PartState}
-use Rattle.world_run.specs.Layout.{PartTag, tag_of, tags_of, member_tags, all_tags, IsFirst}
+use Rattle.world_run.specs.declared.home.Home.{Home}
+use Rattle.world_run.specs.Layout.{booted_at, PartTag, tag_of, tags_of, member_tags, all_tags, IsFirst}
 use Rattle.world_run.specs.Looks.{member_in}
 use Rattle.world_run.proofs.Blocks.{found_first, length-laid}
 
@@ -27,13 +28,13 @@ first-block before (p ∷ block) after m (suc per) first some at own =
     ap member_in (get-middle before first p (block ++ after) at) ∙ ap (λ (z : PartTag). Some z.member) t
 
 -- the member of each boot, from 0
-pub member_laid : (per k : ℕ) (ns : List (List ℕ)) (ps : List PartState) (node : List ℕ) → 0 < per → tags_of ps ≡ all_tags per 1 ns → slice_get ns k ≡ Some node
-    → Some (record { node = node; boot = k + 1 }) ≡ member_in (slice_get ps (k * per))
+pub member_laid : (per k : ℕ) (ns : List Home) (ps : List PartState) (node : Home) → 0 < per → tags_of ps ≡ all_tags per 1 ns → slice_get ns k ≡ Some node
+    → Some (booted_at node (k + 1)) ≡ member_in (slice_get ps (k * per))
 member_laid per k ns ps node some e at =
-    let m : Member = record { node = node; boot = k + 1 } in
+    let m : Member = booted_at node (k + 1) in
     let f = found_first m per 1 k ns ps some e (omega arith) at in
     sym (subst (λ (z : List PartState). member_in (slice_get z (k * per)) ≡ Some m) (sym f.whole) (first-block f.before f.block f.after m per (k * per) some f.at f.own))
 
 -- and there is none past the last
-pub none_laid : (per k : ℕ) (ns : List (List ℕ)) (ps : List PartState) → tags_of ps ≡ all_tags per 1 ns → length ns ≤ k → None ≡ member_in (slice_get ps (k * per))
+pub none_laid : (per k : ℕ) (ns : List Home) (ps : List PartState) → tags_of ps ≡ all_tags per 1 ns → length ns ≤ k → None ≡ member_in (slice_get ps (k * per))
 none_laid per k ns ps e l = sym (ap member_in (get-none ps (k * per) (omega (arith, length-laid per 1 ns ps e, mul-le-mul_right {m = length ns} {n = k} per l))))

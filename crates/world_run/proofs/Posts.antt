@@ -1,8 +1,9 @@
 -- Messages as they are kept, and the tables that were told.
 use Rattle.std.proofs.Common.{◌≡◌, ◌≢◌, ◌⊎◌, inl, inr, ℕ, ◌+◌, ◌-◌, ◌<◌, ◌≤◌, Bool, true, false, cond, not, List, [], ◌∷◌, ◌++◌, length, get_or, refl, sym, ap, ◌∙◌, subst, arith, append-nil}
-use Rattle.std.specs.Prelude.{zero, suc, ◌==◌, slice_get, Option, None, Some, MatchOption}
+use Rattle.std.specs.Prelude.{zero, suc, ◌==◌, take, drop, map, bytes_eq, slice_get, Option, None, Some, MatchOption}
 use Rattle.std.specs.Option.{option_to_list}
-use Rattle.std.proofs.lemmas.Bool.{eqb-true, eq-eqb, cond_both}
+use Rattle.std.proofs.lemmas.Bool.{eqb-true, eq-eqb, cond_both, and_parts}
+use Rattle.std.proofs.lemmas.Slice.Eq.{bytes_eq-Decides}
 use Rattle.std.proofs.lemmas.List.{map-append, length-append, length-map}
 use Rattle.std.proofs.lemmas.Option.{slice_get-get_or}
 use Rattle.actor_names.specs.declared.member.Member.{Member}
@@ -12,17 +13,16 @@ use Rattle.round_core.specs.declared.event.PlaceEvent.{PlaceEvent}
 use Rattle.round_core.specs.declared.event.PlaceEvent.TheVariants as changes
 use Rattle.round_core.specs.declared.event.PlaceReply.{PlaceReply}
 use Rattle.round_core.specs.declared.event.PlaceReply.TheVariants as replies
-use Rattle.round_core.specs.Placement.{PlacementState, placement_step, placement_restarted, last_version}
-use Rattle.round_core.specs.Records.{restart_record}
-use Rattle.cluster_model.specs.World.{restarted_version}
-use Rattle.round_core.specs.Views as views
-use Rattle.round_core.specs.Views.{PlacementView}
+use Rattle.placement_core.specs.Placement.{SpaceRoom, PlacementState, placement_step}
+use Rattle.placement_core.specs.Views as views
+use Rattle.cluster_model.specs.World.{table_in, restarted_versions}
 use Rattle.cluster_model.specs.Messages.{Request, UpdateTo, Message, Asks, Tells, table_of, answer_of, change_of, asker_of}
 use Rattle.world_run.specs.declared.kept.Kept.{Kept}
 use Rattle.world_run.specs.declared.kept.Kept.TheVariants as kept
 use Rattle.world_run.specs.declared.kept.Spot.{Spot}
+use Rattle.world_run.specs.declared.kept.Wanted.{Wanted}
 use Rattle.world_run.specs.declared.kept.Asked.{Asked}
-use Rattle.world_run.specs.Post.{PostView, table_or, message_in, messages_in, told_tables, names_table, brings, IsPostKept, numbered, AgreesOn, kept_answer, updated_version, has_version, spot_for, is_register, place_wants, last_for, started_version, asked_of, GivesReply, Agrees, Delivers, is_request}
+use Rattle.world_run.specs.Post.{PostView, table_or, message_in, messages_in, told_tables, names_table, brings, IsPostKept, numbered, AgreesOn, kept_answer, updated_version, is_wanted, spot_for, is_register, place_wants, last_for, version_in, started_version, asked_of, GivesReply, Agrees, Delivers, is_request}
 
 -- ---- messages by their number
 
@@ -41,25 +41,25 @@ numbered_at ts ks (suc n) x some within e =
 -- ---- steps of the placement
 
 -- another event wants no memory
-pub gives_other : (event : PlaceEvent) (now : ℕ) (reply : PlaceReply) (old new : PlacementView) → is_register event ≡ false → views.GivesStep event now reply old new → GivesReply event now reply old.state new.state
+pub gives_other : (event : PlaceEvent) (now : ℕ) (reply : PlaceReply) (old new : PlacementState) → is_register event ≡ false → views.GivesStep event now reply old new → GivesReply event now reply old new
 gives_other (changes.Register host) now reply old new e g = absurd (cc)
-gives_other (changes.Beat m) now reply old new e g = (g.0, ap (λ (v : PlacementView). v.state) g.1)
-gives_other (changes.Ack m stage version) now reply old new e g = (g.0, ap (λ (v : PlacementView). v.state) g.1)
-gives_other (changes.Leave m) now reply old new e g = (g.0, ap (λ (v : PlacementView). v.state) g.1)
-gives_other (changes.Lost m) now reply old new e g = (g.0, ap (λ (v : PlacementView). v.state) g.1)
-gives_other changes.Tick now reply old new e g = (g.0, ap (λ (v : PlacementView). v.state) g.1)
-gives_other changes.Look now reply old new e g = (g.0, ap (λ (v : PlacementView). v.state) g.1)
+gives_other (changes.Beat m) now reply old new e g = g
+gives_other (changes.Ack m stage version) now reply old new e g = g
+gives_other (changes.Leave m) now reply old new e g = g
+gives_other (changes.Lost m) now reply old new e g = g
+gives_other changes.Tick now reply old new e g = g
+gives_other changes.Look now reply old new e g = g
 
-in_memory : (event : PlaceEvent) (now : ℕ) (reply : PlaceReply) (old new : PlacementView) → place_wants reply ≡ false → views.GivesInMemory event now reply old new → GivesReply event now reply old.state new.state
+in_memory : (event : PlaceEvent) (now : ℕ) (reply : PlaceReply) (old new : PlacementState) → place_wants reply ≡ false → views.GivesInMemory event now reply old new → GivesReply event now reply old new
 in_memory event now replies.OutOfMemory old new e g = absurd (cc)
-in_memory event now reply old new e g = (g.0, ap (λ (v : PlacementView). v.state) g.1)
+in_memory event now reply old new e g = g
 
-without : (event : PlaceEvent) (now : ℕ) (reply : PlaceReply) (old new : PlacementView) → place_wants reply ≡ true → views.GivesInMemory event now reply old new → new.state ≡ old.state
-without event now replies.OutOfMemory old new e g = ap (λ (v : PlacementView). v.state) g
+without : (event : PlaceEvent) (now : ℕ) (reply : PlaceReply) (old new : PlacementState) → place_wants reply ≡ true → views.GivesInMemory event now reply old new → new ≡ old
+without event now replies.OutOfMemory old new e g = g
 without event now reply old new e g = absurd (cc)
 
 -- a Register that wanted none
-pub gives_register : (event : PlaceEvent) (now : ℕ) (reply : PlaceReply) (old new : PlacementView) → place_wants reply ≡ false → views.GivesStep event now reply old new → GivesReply event now reply old.state new.state
+pub gives_register : (event : PlaceEvent) (now : ℕ) (reply : PlaceReply) (old new : PlacementState) → place_wants reply ≡ false → views.GivesStep event now reply old new → GivesReply event now reply old new
 gives_register (changes.Register host) now reply old new e g = in_memory (changes.Register host) now reply old new e g
 gives_register (changes.Beat m) now reply old new e g = gives_other (changes.Beat m) now reply old new refl g
 gives_register (changes.Ack m stage version) now reply old new e g = gives_other (changes.Ack m stage version) now reply old new refl g
@@ -68,7 +68,7 @@ gives_register (changes.Lost m) now reply old new e g = gives_other (changes.Los
 gives_register changes.Tick now reply old new e g = gives_other changes.Tick now reply old new refl g
 gives_register changes.Look now reply old new e g = gives_other changes.Look now reply old new refl g
 
-pub gives_none : (event : PlaceEvent) (now : ℕ) (reply : PlaceReply) (old new : PlacementView) → is_register event ≡ true → place_wants reply ≡ true → views.GivesStep event now reply old new → new.state ≡ old.state
+pub gives_none : (event : PlaceEvent) (now : ℕ) (reply : PlaceReply) (old new : PlacementState) → is_register event ≡ true → place_wants reply ≡ true → views.GivesStep event now reply old new → new ≡ old
 gives_none (changes.Register host) now reply old new e f g = without (changes.Register host) now reply old new f g
 gives_none (changes.Beat m) now reply old new e f g = absurd (cc)
 gives_none (changes.Ack m stage version) now reply old new e f g = absurd (cc)
@@ -80,11 +80,11 @@ gives_none changes.Look now reply old new e f g = absurd (cc)
 -- ---- tables
 
 -- where none is pending the placement's hosts play no part
-pub settled : (ts : List PlacementTable) (p : Option ℕ) (hosts others : List HostInfo) → p ≡ None → told_tables ts p hosts ≡ told_tables ts None others
-settled ts p hosts others e = ap (λ (o : Option ℕ). told_tables ts o hosts) e
+pub settled : (ts : List PlacementTable) (p : Option Wanted) (s others : PlacementState) → p ≡ None → told_tables ts p s ≡ told_tables ts None others
+settled ts p s others e = ap (λ (o : Option Wanted). told_tables ts o s) e
 
-pub built_told : (ts : List PlacementTable) (t : PlacementTable) (version : ℕ) (hosts : List HostInfo) → t ≡ table_of version hosts → told_tables (ts ++ t ∷ []) None hosts ≡ told_tables ts (Some version) hosts
-built_told ts t version hosts e = append-nil (ts ++ t ∷ []) ∙ ap (λ (z : PlacementTable). ts ++ z ∷ []) e
+pub built_told : (ts : List PlacementTable) (t : PlacementTable) (w : Wanted) (s : PlacementState) → t ≡ table_of w.space w.version (table_in s w.space) → told_tables (ts ++ t ∷ []) None s ≡ told_tables ts (Some w) s
+built_told ts t w s e = append-nil (ts ++ t ∷ []) ∙ ap (λ (z : PlacementTable). ts ++ z ∷ []) e
 
 -- ---- one message more
 
@@ -125,11 +125,11 @@ messages-more ts us [] h = refl
 messages-more ts us (k ∷ ks) h = (λ i. message-more ts us k (h 0 k refl) i ∷ messages-more ts us ks (λ n x e. h (suc n) x e) i)
 
 -- an answer that is no Update is kept as it is
-kept_plain : (ts : List PlacementTable) (m : Member) (reply : PlaceReply) (at : ℕ) (hosts : List HostInfo) → updated_version reply ≡ None → message_in ts (kept_answer m reply at) ≡ Tells m (answer_of hosts reply)
-kept_plain ts m (replies.Lock version) at hosts e = refl
-kept_plain ts m (replies.Update version) at hosts e = absurd (cc)
-kept_plain ts m (replies.Unlock version) at hosts e = refl
-kept_plain ts m reply at hosts e = refl
+kept_plain : (ts : List PlacementTable) (m : Member) (reply : PlaceReply) (at : ℕ) (space : List ℕ) (hosts : List HostInfo) → updated_version reply ≡ None → message_in ts (kept_answer m reply at) ≡ Tells m (answer_of space hosts reply)
+kept_plain ts m (replies.Lock version) at space hosts e = refl
+kept_plain ts m (replies.Update version) at space hosts e = absurd (cc)
+kept_plain ts m (replies.Unlock version) at space hosts e = refl
+kept_plain ts m reply at space hosts e = refl
 
 names_more : (n k : ℕ) (x : Kept) → n ≤ k → names_table n x → names_table k x
 names_more n k (kept.Register host) l h = tt
@@ -201,20 +201,20 @@ messages-push ts ks x = map-append (message_in ts) ks (x ∷ [])
 -- ---- an answer
 
 -- the messages after an answer that is kept with the table of this place, and that they are kept so
-pub record AnsweredBy (spot : Spot) (next : ℕ) (ts : List PlacementTable) (ks : List Kept) (m : Member) (reply : PlaceReply) (hosts : List HostInfo) : Type 0 where
-  pub messages : messages_in (told_tables ts spot.pending hosts) (ks ++ kept_answer m reply spot.table ∷ []) ≡ messages_in ts ks ++ Tells m (answer_of hosts reply) ∷ []
-  pub kept : IsPostKept (length (told_tables ts spot.pending hosts)) (ks ++ kept_answer m reply spot.table ∷ []) next
+pub record AnsweredBy (spot : Spot) (next : ℕ) (ts : List PlacementTable) (ks : List Kept) (m : Member) (reply : PlaceReply) (s : PlacementState) : Type 0 where
+  pub messages : messages_in (told_tables ts spot.pending s) (ks ++ kept_answer m reply spot.table ∷ []) ≡ messages_in ts ks ++ Tells m (answer_of m.space (table_in s m.space) reply) ∷ []
+  pub kept : IsPostKept (length (told_tables ts spot.pending s)) (ks ++ kept_answer m reply spot.table ∷ []) next
 
 -- the last table stays told
 still_told : (n last : ℕ) (ks : List Kept) (x : Kept) → (0 < n → brings (n - 1) (slice_get ks last) ≡ true) → 0 < n → brings (n - 1) (slice_get (ks ++ x ∷ []) last) ≡ true
 still_told n last ks x h l = (let b = brings_some (n - 1) (slice_get ks last) (h l) in subst (λ (o : Option Kept). brings (n - 1) o ≡ true) (sym (slice-append_left ks (x ∷ []) last _ b.1)) (brings_same (n - 1) b.0))
 
-plain : (ts : List PlacementTable) (ks : List Kept) (last : ℕ) (m : Member) (reply : PlaceReply) (hosts : List HostInfo) → updated_version reply ≡ None → IsPostKept (length ts) ks last →
-    AnsweredBy (record { table = 0; pending = None }) last ts ks m reply hosts
-plain ts ks last m reply hosts e h =
+plain : (ts : List PlacementTable) (ks : List Kept) (last : ℕ) (m : Member) (reply : PlaceReply) (s : PlacementState) → updated_version reply ≡ None → IsPostKept (length ts) ks last →
+    AnsweredBy (record { table = 0; pending = None }) last ts ks m reply s
+plain ts ks last m reply s e h =
     let x : Kept = kept_answer m reply 0 in
     record {
-      messages = ap (λ (us : List PlacementTable). messages_in us (ks ++ x ∷ [])) (append-nil ts) ∙ messages-push ts ks x ∙ ap (λ (y : Message). messages_in ts ks ++ y ∷ []) (kept_plain ts m reply 0 hosts e);
+      messages = ap (λ (us : List PlacementTable). messages_in us (ks ++ x ∷ [])) (append-nil ts) ∙ messages-push ts ks x ∙ ap (λ (y : Message). messages_in ts ks ++ y ∷ []) (kept_plain ts m reply 0 m.space (table_in s m.space) e);
       kept = subst (λ (us : List PlacementTable). IsPostKept (length us) (ks ++ x ∷ []) last) (sym (append-nil ts))
           (record { named = named_push (length ts) (length ts) ks x (omega arith) h.named (plain_names m reply 0 (length ts) e); told = still_told (length ts) last ks x h.told });
     }
@@ -223,21 +223,21 @@ plain ts ks last m reply hosts e h =
 new_told : (n : ℕ) (ks : List Kept) (m : Member) (at : ℕ) → at ≡ n - 1 → brings (n - 1) (slice_get (ks ++ kept.Update m at ∷ []) (length ks)) ≡ true
 new_told n ks m at e = ap (λ (o : Option Kept). brings (n - 1) o) (slice-last ks (kept.Update m at)) ∙ ap (λ (k : ℕ). brings (n - 1) (Some (kept.Update m k))) e ∙ brings_same (n - 1) m
 
-version_some : (version : ℕ) (o : Option PlacementTable) → has_version version o ≡ true → (t : PlacementTable) × (o ≡ Some t) × (t.version ≡ version)
-version_some version (Some t) e = (t, refl, eqb-true t.version version e)
-version_some version None e = absurd (cc)
+wanted_some : (space : List ℕ) (version : ℕ) (o : Option PlacementTable) → is_wanted space version o ≡ true → (t : PlacementTable) × (o ≡ Some t) × (t.space ≡ space) × (t.version ≡ version)
+wanted_some space version (Some t) e = let h = and_parts (bytes_eq t.space space) (t.version == version) e in (t, refl, (bytes_eq-Decides t.space space).0 h.0, eqb-true t.version version h.1)
+wanted_some space version None e = absurd (cc)
 
-shared : (ts : List PlacementTable) (ks : List Kept) (last : ℕ) (m : Member) (version now : ℕ) (hosts : List HostInfo) → IsPostKept (length ts) ks last → AgreesOn (messages_in ts ks) now hosts (replies.Update version) →
-    has_version version (slice_get ts (length ts - 1)) ≡ true → AnsweredBy (record { table = length ts - 1; pending = None }) (length ks) ts ks m (replies.Update version) hosts
-shared ts ks last m version now hosts h agrees e =
+shared : (ts : List PlacementTable) (ks : List Kept) (last : ℕ) (m : Member) (version now : ℕ) (s : PlacementState) → IsPostKept (length ts) ks last → AgreesOn (messages_in ts ks) now m.space (table_in s m.space) (replies.Update version) →
+    is_wanted m.space version (slice_get ts (length ts - 1)) ≡ true → AnsweredBy (record { table = length ts - 1; pending = None }) (length ks) ts ks m (replies.Update version) s
+shared ts ks last m version now s h agrees e =
     let at : ℕ = length ts - 1 in
     let x : Kept = kept.Update m at in
-    let t = version_some version (slice_get ts at) e in
+    let t = wanted_some m.space version (slice_get ts at) e in
     let some : at < length ts = slice-within ts at t.0 t.1 in
     let b = brings_some at (slice_get ks last) (h.told (omega arith)) in
     let told : slice_get (messages_in ts ks) last ≡ Some (Tells b.0 (UpdateTo t.0)) =
     slice-messages ts ks last (kept.Update b.0 at) b.1 ∙ ap (λ (o : Option PlacementTable). Some (Tells b.0 (UpdateTo (table_or o)))) t.1 in
-    let same : t.0 ≡ table_of version hosts = agrees b.0 t.0 last told t.2 in
+    let same : t.0 ≡ table_of m.space version (table_in s m.space) = agrees b.0 t.0 last told t.2 t.3 in
     record {
       messages = ap (λ (us : List PlacementTable). messages_in us (ks ++ x ∷ [])) (append-nil ts) ∙ messages-push ts ks x
           ∙ ap (λ (o : Option PlacementTable). messages_in ts ks ++ Tells m (UpdateTo (table_or o)) ∷ []) (t.1 ∙ ap (λ (z : PlacementTable). Some z) same);
@@ -245,15 +245,16 @@ shared ts ks last m version now hosts h agrees e =
           (record { named = named_push (length ts) (length ts) ks x (omega arith) h.named some; told = λ l. new_told (length ts) ks m at refl });
     }
 
-fresh : (ts : List PlacementTable) (ks : List Kept) (last : ℕ) (m : Member) (version : ℕ) (hosts : List HostInfo) → IsPostKept (length ts) ks last →
-    AnsweredBy (record { table = length ts; pending = Some version }) (length ks) ts ks m (replies.Update version) hosts
-fresh ts ks last m version hosts h =
+fresh : (ts : List PlacementTable) (ks : List Kept) (last : ℕ) (m : Member) (version : ℕ) (s : PlacementState) → IsPostKept (length ts) ks last →
+    AnsweredBy (record { table = length ts; pending = Some (record { space = m.space; version = version }) }) (length ks) ts ks m (replies.Update version) s
+fresh ts ks last m version s h =
     let x : Kept = kept.Update m (length ts) in
-    let new : List PlacementTable = table_of version hosts ∷ [] in
+    let made : PlacementTable = table_of m.space version (table_in s m.space) in
+    let new : List PlacementTable = made ∷ [] in
     let count : length (ts ++ new) ≡ length ts + 1 = length-append ts new in
     record {
       messages = messages-push (ts ++ new) ks x ∙ ap (λ (z : List Message). z ++ message_in (ts ++ new) x ∷ []) (messages-more ts new ks h.named)
-          ∙ ap (λ (o : Option PlacementTable). messages_in ts ks ++ Tells m (UpdateTo (table_or o)) ∷ []) (slice-last ts (table_of version hosts));
+          ∙ ap (λ (o : Option PlacementTable). messages_in ts ks ++ Tells m (UpdateTo (table_or o)) ∷ []) (slice-last ts made);
       kept = record {
         named = named_push (length ts) (length (ts ++ new)) ks x (omega arith) h.named (omega arith);
         told = λ l. new_told (length (ts ++ new)) ks m (length ts) (omega arith);
@@ -261,12 +262,12 @@ fresh ts ks last m version hosts h =
     }
 
 -- however the answer is kept, it is the next message
-pub answered_by : (ts : List PlacementTable) (ks : List Kept) (last : ℕ) (m : Member) (reply : PlaceReply) (now : ℕ) (hosts : List HostInfo) → IsPostKept (length ts) ks last → AgreesOn (messages_in ts ks) now hosts reply →
-    AnsweredBy (spot_for ts (updated_version reply)) (last_for (updated_version reply) (length ks) last) ts ks m reply hosts
-answered_by ts ks last m (replies.Update version) now hosts h agrees =
-    cond_both (has_version version (slice_get ts (length ts - 1))) _ _ (λ (s : Spot). AnsweredBy s (length ks) ts ks m (replies.Update version) hosts)
-    (λ e. shared ts ks last m version now hosts h agrees e) (λ _. fresh ts ks last m version hosts h)
-answered_by ts ks last m reply now hosts h agrees = plain ts ks last m reply hosts refl h
+pub answered_by : (ts : List PlacementTable) (ks : List Kept) (last : ℕ) (m : Member) (reply : PlaceReply) (now : ℕ) (s : PlacementState) → IsPostKept (length ts) ks last → AgreesOn (messages_in ts ks) now m.space (table_in s m.space) reply →
+    AnsweredBy (spot_for ts m.space (updated_version reply)) (last_for (updated_version reply) (length ks) last) ts ks m reply s
+answered_by ts ks last m (replies.Update version) now s h agrees =
+    cond_both (is_wanted m.space version (slice_get ts (length ts - 1))) _ _ (λ (x : Spot). AnsweredBy x (length ks) ts ks m (replies.Update version) s)
+    (λ e. shared ts ks last m version now s h agrees e) (λ _. fresh ts ks last m version s h)
+answered_by ts ks last m reply now s h agrees = plain ts ks last m reply s refl h
 
 -- ---- requests that are delivered
 
@@ -282,7 +283,7 @@ asked_request r a e = some_same _ a e
     some_same a b e = cc
 
 pub delivered : (x : Option Message) (a : Asked) (now : ℕ) (reply : PlaceReply) (old new : PostView) → asked_of x ≡ Some a → GivesReply a.event now reply old.placement new.placement →
-    new.messages ≡ old.messages ++ Tells a.member (answer_of new.placement.table reply) ∷ [] → Delivers x now (Some reply) old new
+    new.messages ≡ old.messages ++ Tells a.member (answer_of a.member.space (table_in new.placement a.member.space) reply) ∷ [] → Delivers x now (Some reply) old new
 delivered None a now reply old new e g m = absurd (cc)
 delivered (Some (Tells n b)) a now reply old new e g m = absurd (cc)
 delivered (Some (Asks r)) a now reply old new e g m =
@@ -290,25 +291,25 @@ delivered (Some (Asks r)) a now reply old new e g m =
     let reply_is : reply ≡ (placement_step old.placement (change_of r) now).reply = g.0 ∙ ap (λ (z : Asked). (placement_step old.placement z.event now).reply) (sym same) in
     let state_is : new.placement ≡ (placement_step old.placement (change_of r) now).state = g.1 ∙ ap (λ (z : Asked). (placement_step old.placement z.event now).state) (sym same) in (
       ap (λ (z : PlaceReply). Some z) reply_is,
-      (λ i. record { placement = state_is i; messages = (m ∙ (λ j. old.messages ++ Tells (sym same j).member (answer_of (state_is j).table (reply_is j)) ∷ [])) i }),
+      (λ i. record { placement = state_is i; messages = (m ∙ (λ j. old.messages ++ Tells (sym same j).member (answer_of (sym same j).member.space (table_in (state_is j) (sym same j).member.space) (reply_is j)) ∷ [])) i }),
     )
 
-pub agrees_on : (x : Option Message) (a : Asked) (now : ℕ) (reply : PlaceReply) (old : PostView) (s : PlacementState) → asked_of x ≡ Some a → Agrees x now old → GivesReply a.event now reply old.placement s → AgreesOn old.messages now s.table reply
+pub agrees_on : (x : Option Message) (a : Asked) (now : ℕ) (reply : PlaceReply) (old : PostView) (s : PlacementState) → asked_of x ≡ Some a → Agrees x now old → GivesReply a.event now reply old.placement s → AgreesOn old.messages now a.member.space (table_in s a.member.space) reply
 agrees_on None a now reply old s e h g = absurd (cc)
 agrees_on (Some (Tells n b)) a now reply old s e h g = absurd (cc)
 agrees_on (Some (Asks r)) a now reply old s e h g =
     let same = asked_request r a e in
     let reply_is : (placement_step old.placement (change_of r) now).reply ≡ reply = sym (g.0 ∙ ap (λ (z : Asked). (placement_step old.placement z.event now).reply) (sym same)) in
     let state_is : (placement_step old.placement (change_of r) now).state ≡ s = sym (g.1 ∙ ap (λ (z : Asked). (placement_step old.placement z.event now).state) (sym same)) in
-    subst (λ (z : PlaceReply). AgreesOn old.messages now s.table z) reply_is (subst (λ (z : PlacementState). AgreesOn old.messages now z.table (placement_step old.placement (change_of r) now).reply) state_is h)
+    subst (λ (b : Asked). AgreesOn old.messages now b.member.space (table_in s b.member.space) reply) same
+    (subst (λ (z : PlaceReply). AgreesOn old.messages now (asker_of r).space (table_in s (asker_of r).space) z) reply_is
+    (subst (λ (z : PlacementState). AgreesOn old.messages now (asker_of r).space (table_in z (asker_of r).space) (placement_step old.placement (change_of r) now).reply) state_is h))
 
--- the version of the round that a restart started
-pub started_is : (s : PlacementState) (now : ℕ) → started_version (restart_record s now) ≡ restarted_version s (placement_restarted s now)
-started_is s now = go ((placement_restarted s now).next_version == s.next_version)
-  where
-    go : (b : Bool) → started_version (cond (not b) (Some (record { joined = None; removed = []; next_version = (placement_restarted s now).next_version })) None) ≡ cond b 0 (last_version (placement_restarted s now))
-    go true = refl
-    go false = refl
+-- ---- the versions of rounds that a restart started
+
+-- those of the first rooms, then the last versions of the others
+abbrev pub versions_at : List SpaceRoom → List SpaceRoom → ℕ → List ℕ
+versions_at rooms new n = restarted_versions (take n rooms) (take n new) ++ map version_in (drop n rooms)
 
 -- ---- the last message is taken back
 

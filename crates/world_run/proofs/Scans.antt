@@ -4,7 +4,7 @@ use Rattle.std.specs.Prelude.{zero, suc, map, ◌&&◌, ◌||◌, ◌==◌, slic
 use Rattle.std.proofs.lemmas.Bool.{ne_eqb, eq-eqb, eqb-true, true≢false}
 use Rattle.std.proofs.lemmas.List.{length-append, length-map}
 use Rattle.actor_names.specs.declared.member.Member.{Member}
-use Rattle.part_core.specs.Keys.{same_member}
+use Rattle.actor_names.specs.Same.{same_member}
 use Rattle.part_core.specs.Receipts.{ReceiptState}
 use Rattle.part_core.specs.declared.receipt.SeenStage.TheVariants as seen
 use Rattle.part_core.specs.declared.stage.Stage.{Stage}

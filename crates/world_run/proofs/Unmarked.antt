@@ -8,8 +8,7 @@ use Rattle.part_core.specs.declared.event.PartReply.{PartReply}
 use Rattle.part_core.specs.Marks.{PartMark, TurnBegan, TurnEnded, BecameActive, BecameInactive, PartOpened}
 use Rattle.part_core.specs.Part.{PartState, part_step, ring_owner}
 use Rattle.round_core.specs.declared.event.PlaceEvent.TheVariants as place_changes
-use Rattle.round_core.specs.Placement.{placement_step, placement_restarted}
-use Rattle.member_roster.specs.Members.{late_of}
+use Rattle.placement_core.specs.Placement.{late_in, placement_step, placement_restarted}
 use Rattle.member_core.specs.declared.ack.Ack as declared
 use Rattle.member_core.specs.Acks.{collected, are_stopped}
 use Rattle.world_events.specs.declared.event.WorldEvent.{WorldEvent}
@@ -155,7 +154,7 @@ module _ where
   -- what happens adds its marks
   pub happens_marked : (ms : List TraceMark) (w : ClusterState) (e : WorldEvent) → world.happens ring_owner key_part (marked w ms) e ≡ adds ms (world.happens ring_owner key_part (marked w []) e)
   happens_marked ms w (lines.At moment) = quiet ms (record w { now = moment }) _
-  happens_marked ms w (lines.Boot node kinds) = quiet ms (world.booted w (record { node = node; boot = suc w.boots }) kinds).world _
+  happens_marked ms w (lines.Boot space node kinds) = quiet ms (world.booted w (record { space = space; node = node; boot = suc w.boots }) kinds).world _
   happens_marked ms w (lines.Beat m) = either (world.was_booted w.parts m) _ _ _ _ ms (add_marked ms w _) (quiet ms w _)
   happens_marked ms w (lines.Collect m) = either (world.was_booted w.parts m) _ _ _ _ ms (ack_marked ms w m (collected (world.receipts_of ring_owner key_part w.parts m))) (quiet ms w _)
   happens_marked ms w (lines.Leave m) =
@@ -176,5 +175,5 @@ module _ where
       either (world.was_booted w.parts m) _ _ _ _ ms
       (either (world.all_stopped w.parts m) _ _ _ _ ms (quiet ms (record w { placement = (placement_step w.placement (place_changes.Lost m) w.now).state }) _) (quiet ms w _))
       (quiet ms w _)
-  happens_marked ms w lines.PlacementTick = honest_marked ms w (world.running_among w.parts (late_of w.placement.members w.now))
+  happens_marked ms w lines.PlacementTick = honest_marked ms w (world.running_among w.parts (late_in w.placement.rooms w.now))
   happens_marked ms w lines.Restart = quiet ms (record w { placement = placement_restarted w.placement w.now }) _

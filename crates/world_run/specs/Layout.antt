@@ -2,12 +2,13 @@
 use Rattle.std.specs.Prelude.{◌≡◌, ℕ, zero, suc, ◌<◌, ◌≤◌, Bool, true, false, ◌&&◌, List, [], ◌∷◌, ◌++◌, map, length, Option, None, Some, slice_get}
 use Rattle.actor_names.specs.declared.member.Member.{Member}
 use Rattle.turn_core.specs.CellSound.{In}
-use Rattle.part_core.specs.Keys.{same_member}
+use Rattle.actor_names.specs.Same.{same_member}
 use Rattle.part_core.specs.Part.{PartState, is_stopped, ring_owner}
 use Rattle.part_core.specs.Sound.{IsPartSound}
 use Rattle.part_core.specs.Receipts.{ReceiptState}
 use Rattle.member_core.specs.Acks.{other_place}
 use Rattle.cluster_model.specs.World.{key_part, was_booted, receipts_of}
+use Rattle.world_run.specs.declared.home.Home.{Home}
 
 -- whose part it is, and its number
 pub record PartTag : Type 0 where
@@ -25,16 +26,23 @@ abbrev pub member_tags : Member → ℕ → ℕ → List PartTag
 member_tags m i zero = []
 member_tags m i (suc n) = record { member = m; number = i } ∷ member_tags m (suc i) n
 
--- the parts of the members with these nodes, whose boots count up from this one
-abbrev pub all_tags : ℕ → ℕ → List (List ℕ) → List PartTag
+-- the member of a space's node in this boot, and the home of a member
+abbrev pub booted_at : Home → ℕ → Member
+booted_at h boot = record { space = h.space; node = h.node; boot = boot }
+
+abbrev pub home_of : Member → Home
+home_of m = record { space = m.space; node = m.node }
+
+-- the parts of the members with these homes, whose boots count up from this one
+abbrev pub all_tags : ℕ → ℕ → List Home → List PartTag
 all_tags per boot [] = []
-all_tags per boot (n ∷ ns) = member_tags (record { node = n; boot = boot }) 0 per ++ all_tags per (suc boot) ns
+all_tags per boot (h ∷ hs) = member_tags (booted_at h boot) 0 per ++ all_tags per (suc boot) hs
 
 -- The parts stand in order of boot, from 1, then number; each is sound.
-pub record AreLaidOut (per : ℕ) (nodes : List (List ℕ)) (ps : List PartState) : Type 0 where
+pub record AreLaidOut (per : ℕ) (homes : List Home) (ps : List PartState) : Type 0 where
   pub many : 0 < per
   pub few : per ≤ 16
-  pub laid : tags_of ps ≡ all_tags per 1 nodes
+  pub laid : tags_of ps ≡ all_tags per 1 homes
   pub sound : (p : PartState) → In p ps → IsPartSound ring_owner p
 
 -- none of these parts is the member's

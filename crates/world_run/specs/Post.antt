@@ -1,5 +1,5 @@
 -- The placement, and the messages that were added; a table is kept once for each version. Own.
-use Rattle.std.specs.Prelude.{◌≡◌, ℕ, zero, suc, ◌<◌, ◌-◌, Bool, true, false, ◌==◌, if◌then◌else◌, List, [], ◌∷◌, ◌++◌, length, map, slice_get, Option, None, Some}
+use Rattle.std.specs.Prelude.{◌≡◌, ℕ, zero, suc, ◌<◌, ◌-◌, Bool, true, false, ◌&&◌, ◌==◌, if◌then◌else◌, List, [], ◌∷◌, ◌++◌, length, map, bytes_eq, slice_get, Option, None, Some}
 use Rattle.actor_names.specs.declared.member.Member.{Member}
 use Rattle.place_table.specs.declared.host.HostInfo.{HostInfo}
 use Rattle.place_table.specs.Hosts.{PlacementTable}
@@ -8,22 +8,24 @@ use Rattle.round_core.specs.declared.event.PlaceEvent.{PlaceEvent}
 use Rattle.round_core.specs.declared.event.PlaceEvent.TheVariants as changes
 use Rattle.round_core.specs.declared.event.PlaceReply.{PlaceReply}
 use Rattle.round_core.specs.declared.event.PlaceReply.TheVariants as replies
-use Rattle.round_core.specs.Placement.{PlacementState, placement_step}
-use Rattle.round_core.specs.Records.{RecordOf}
+use Rattle.round_core.specs.Room.{last_version}
+use Rattle.placement_core.specs.Placement.{SpaceRoom, PlacementState, placement_step}
 use Rattle.member_roster.specs.Members.{Joined, is_late}
+use Rattle.cluster_model.specs.World.{table_in}
 use Rattle.cluster_model.specs.Messages.{Request, Register, Beat, Ack, Leave, LockAt, UpdateTo, UnlockAt, Says, Message, Asks, Tells, table_of, answer_of, change_of, asker_of, told_event}
 use Rattle.world_run.specs.declared.kept.Kept.{Kept}
 use Rattle.world_run.specs.declared.kept.Kept.TheVariants as kept
 use Rattle.world_run.specs.declared.kept.Told.{Told}
 use Rattle.world_run.specs.declared.kept.Asked.{Asked}
 use Rattle.world_run.specs.declared.kept.Spot.{Spot}
+use Rattle.world_run.specs.declared.kept.Wanted.{Wanted}
 
 pub record PostView : Type 0 where
   pub placement : PlacementState
   pub messages : List Message
 
 abbrev pub table_or : Option PlacementTable → PlacementTable
-table_or None = no_table
+table_or None = no_table []
 table_or (Some t) = t
 
 -- the message that is kept so, where the tables that were told are these
@@ -40,14 +42,14 @@ message_in ts (kept.Says m reply) = Tells m (Says reply)
 abbrev pub messages_in : List PlacementTable → List Kept → List Message
 messages_in ts ks = map (message_in ts) ks
 
--- the table that the placement fixed last and that isn't built yet, where its version was told
-abbrev pub pending_table : Option ℕ → List HostInfo → List PlacementTable
-pending_table None hosts = []
-pending_table (Some version) hosts = table_of version hosts ∷ []
+-- the table that the placement fixed last in a space and that isn't built yet, where its version was told
+abbrev pub pending_table : Option Wanted → PlacementState → List PlacementTable
+pending_table None s = []
+pending_table (Some w) s = table_of w.space w.version (table_in s w.space) ∷ []
 
 -- all tables that were told
-abbrev pub told_tables : List PlacementTable → Option ℕ → List HostInfo → List PlacementTable
-told_tables built pending hosts = built ++ pending_table pending hosts
+abbrev pub told_tables : List PlacementTable → Option Wanted → PlacementState → List PlacementTable
+told_tables built pending s = built ++ pending_table pending s
 
 -- an Update message names a table that was told
 abbrev pub names_table : ℕ → Kept → Type 0
@@ -79,20 +81,21 @@ told_of (Some (Tells m answer)) now = Some (record { member = m; event = told_ev
 abbrev pub answered : PostView → Request → ℕ → PostView
 answered v r now =
     let s = placement_step v.placement (change_of r) now in
-    record { placement = s.state; messages = v.messages ++ Tells (asker_of r) (answer_of s.state.table s.reply) ∷ [] }
+    record { placement = s.state; messages = v.messages ++ Tells (asker_of r) (answer_of (asker_of r).space (table_in s.state (asker_of r).space) s.reply) ∷ [] }
 
 -- what comes of the delivery of a message to the placement: nothing where there is no such request
 abbrev pub Delivers : Option Message → ℕ → Option PlaceReply → PostView → PostView → Type 0
 Delivers (Some (Asks r)) now result old new = (result ≡ Some (placement_step old.placement (change_of r) now).reply) × (new ≡ answered old r now)
 Delivers x now result old new = (result ≡ None) × (new ≡ old)
 
--- Where the answer is an Update, each table of its version that was told is the one that the placement fixed last.
-abbrev pub AgreesOn : List Message → ℕ → List HostInfo → PlaceReply → Type 0
-AgreesOn ms now hosts (replies.Update version) = (m : Member) (t : PlacementTable) (k : ℕ) → slice_get ms k ≡ Some (Tells m (UpdateTo t)) → t.version ≡ version → t ≡ table_of version hosts
-AgreesOn ms now hosts reply = Unit {0}
+-- Where the answer is an Update, each table of its space and version that was told is the one that the placement fixed last.
+abbrev pub AgreesOn : List Message → ℕ → List ℕ → List HostInfo → PlaceReply → Type 0
+AgreesOn ms now space hosts (replies.Update version) =
+    (m : Member) (t : PlacementTable) (k : ℕ) → slice_get ms k ≡ Some (Tells m (UpdateTo t)) → t.space ≡ space → t.version ≡ version → t ≡ table_of space version hosts
+AgreesOn ms now space hosts reply = Unit {0}
 
 abbrev pub Agrees : Option Message → ℕ → PostView → Type 0
-Agrees (Some (Asks r)) now v = (let s = placement_step v.placement (change_of r) now in AgreesOn v.messages now s.state.table s.reply)
+Agrees (Some (Asks r)) now v = (let s = placement_step v.placement (change_of r) now in AgreesOn v.messages now (asker_of r).space (table_in s.state (asker_of r).space) s.reply)
 Agrees x now v = Unit {0}
 
 -- ---- how the next message is kept
@@ -121,16 +124,16 @@ abbrev pub updated_version : PlaceReply → Option ℕ
 updated_version (replies.Update version) = Some version
 updated_version reply = None
 
-abbrev pub has_version : ℕ → Option PlacementTable → Bool
-has_version version None = false
-has_version version (Some t) = t.version == version
+abbrev pub is_wanted : List ℕ → ℕ → Option PlacementTable → Bool
+is_wanted space version None = false
+is_wanted space version (Some t) = bytes_eq t.space space && (t.version == version)
 
--- the place of the table of a version, where the last table may be it
-abbrev pub spot_for : List PlacementTable → Option ℕ → Spot
-spot_for ts None = record { table = 0; pending = None }
-spot_for ts (Some version) =
-    if has_version version (slice_get ts (length ts - 1)) then record { table = length ts - 1; pending = None }
-    else record { table = length ts; pending = Some version }
+-- the place of the table of a space and version, where the last table may be it
+abbrev pub spot_for : List PlacementTable → List ℕ → Option ℕ → Spot
+spot_for ts space None = record { table = 0; pending = None }
+spot_for ts space (Some version) =
+    if is_wanted space version (slice_get ts (length ts - 1)) then record { table = length ts - 1; pending = None }
+    else record { table = length ts; pending = Some (record { space = space; version = version }) }
 
 abbrev pub is_register : PlaceEvent → Bool
 is_register (changes.Register host) = true
@@ -148,10 +151,12 @@ late_member now j = if is_late now j then Some j.host.member else None
 abbrev pub GivesReply : PlaceEvent → ℕ → PlaceReply → PlacementState → PlacementState → Type 0
 GivesReply event now reply old new = (reply ≡ (placement_step old event now).reply) × (new ≡ (placement_step old event now).state)
 
--- the version of the round that a restart started, by its record
-abbrev pub started_version : Option RecordOf → ℕ
-started_version None = 0
-started_version (Some r) = r.next_version - 1
+abbrev pub version_in : SpaceRoom → ℕ
+version_in r = last_version r.room
+
+-- the version of the round that a restart started, where the last version was this and is that
+abbrev pub started_version : ℕ → ℕ → ℕ
+started_version before after = if after == before then 0 else after
 
 -- where the message stands that brought the last table, after one more
 abbrev pub last_for : Option ℕ → ℕ → ℕ → ℕ

@@ -3,7 +3,7 @@
 use Rattle.std.specs.Prelude.{◌≡◌, ◌⊎◌, ℕ, ◌+◌, ◌-◌, ◌<◌, length, slice_get, List, [], ◌∷◌, ◌++◌, MatchResult, Option, None, Some, IfSome, Result, Ok, Err}
 use Rattle.part_core.specs.Part.{PartState, ring_owner}
 use Rattle.part_core.specs.Rooms.{IsInRange}
-use Rattle.round_core.specs.Placement.{PlacementState}
+use Rattle.placement_core.specs.Placement.{PlacementState}
 use Rattle.world_events.specs.declared.settings.WorldSettings.{WorldSettings}
 use Rattle.world_events.specs.declared.event.WorldEvent.{WorldEvent}
 use Rattle.world_events.specs.declared.event.WorldEvent.TheVariants as lines

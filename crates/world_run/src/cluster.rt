@@ -1,7 +1,8 @@
 // The cluster of a world: the placement and the messages, the parts of all members, and the calls of the script.
 ghost use Rattle.std.specs.Prelude.{◌≡◌, ◌<◌, ◌≤◌, ◌*◌, suc, length, slice_get};
 ghost use Rattle.part_core.specs.Settings.{AreShallow};
-ghost use Rattle.round_core.specs.Placement.{last_version};
+ghost use Rattle.round_core.specs.Room.{last_version};
+ghost use Rattle.placement_core.specs.Placement.{room_of};
 ghost use Rattle.cluster_model.specs.World.{opening_cluster};
 ghost use Rattle.world_run.specs.Looks.{member_in};
 ghost use Rattle.world_run.specs.Worlds.{Happens, IsFit, view_of};
@@ -9,7 +10,7 @@ ghost use Rattle.world_run.specs.Worlds.{Happens, IsFit, view_of};
 use crate::calls::Calls;
 use crate::parts::Parts;
 use crate::post::Post;
-use actor_names::Member;
+use actor_names::{Member, Space};
 use std::alloc::Global;
 use std::marker::Model;
 use world_events::{Outcome, WorldError, WorldEvent, WorldSettings};
@@ -119,11 +120,11 @@ impl Cluster {
         self.parts.ended()
     }
 
-    /// The last version used.
-    pub(crate) fn last_version(&self) -> u64
-        ensures { result ≡ last_version self.now.placement }
+    /// The last version used in a space.
+    pub(crate) fn last_version(&self, space: &Space) -> u64
+        ensures { result ≡ last_version (room_of self.now.placement space.now) }
     {
-        self.post.last_version()
+        self.post.last_version(space)
     }
 
     /// How many events were done.
@@ -159,7 +160,7 @@ impl Cluster {
     {
         match event {
             WorldEvent::At { moment } => self.at(moment),
-            WorldEvent::Boot { node, kinds } => self.boot(alloc, node, kinds),
+            WorldEvent::Boot { space, node, kinds } => self.boot(alloc, space, node, kinds),
             WorldEvent::Beat { member } => self.beat(member),
             WorldEvent::Collect { member } => self.collect(alloc, member),
             WorldEvent::Leave { member } => self.leave(alloc, member),

@@ -1,6 +1,7 @@
 // Deliveries of messages, and what happens to the placement without one.
-ghost use Rattle.std.specs.Prelude.{◌≡◌};
+ghost use Rattle.std.specs.Prelude.{◌≡◌, ◌<◌, Some, length, slice_get};
 ghost use Rattle.member_roster.specs.Members.{late_of};
+ghost use Rattle.placement_core.specs.Placement.{SpaceRoom, late_in};
 ghost use Rattle.cluster_model.specs.World.{running_among};
 ghost use Rattle.world_run.specs.Post.{Agrees, numbered, told_of};
 ghost use Rattle.world_events.specs.declared.event.WorldEvent.TheVariants as lines;
@@ -15,16 +16,30 @@ use round_core::PlaceEvent;
 use std::alloc::Global;
 use world_events::{Outcome, WorldError};
 
-/// The first member that a Tick of the placement would drop and that has a running part.
-fn first_running(post: &Post, parts: &mut Parts, now: u64) -> Option<Member>
+/// The first member of the room at this place that a Tick of the placement would drop and that has a running part.
+fn first_running_in(post: &Post, parts: &mut Parts, room: usize, now: u64) -> Option<Member>
+    requires { room < length post.now.placement.rooms }
     ensures same { parts.new ≡ parts.old }
-    ensures first { result ≡ running_among parts.old.parts (late_of post.now.placement.members now) }
+    ensures first { (r : SpaceRoom) → slice_get post.now.placement.rooms room ≡ Some r → result ≡ running_among parts.old.parts (late_of r.room.members now) }
 {
-    for i in 0..post.members() {
-        if let Some(member) = post.late_at(i, now) {
+    for at in 0..post.members_at(room) {
+        if let Some(member) = post.late_at(room, at, now) {
             if !parts.all_stopped(&member) {
                 return Some(member);
             }
+        }
+    }
+    None
+}
+
+/// The first member that a Tick of the placement would drop and that has a running part.
+fn first_running(post: &Post, parts: &mut Parts, now: u64) -> Option<Member>
+    ensures same { parts.new ≡ parts.old }
+    ensures first { result ≡ running_among parts.old.parts (late_in post.now.placement.rooms now) }
+{
+    for room in 0..post.rooms() {
+        if let Some(member) = first_running_in(post, parts, room, now) {
+            return Some(member);
         }
     }
     None
@@ -96,7 +111,7 @@ impl Cluster {
     pub(crate) fn restart(&mut self, alloc: Global) -> Result<Outcome, WorldError>
         ensures { Happens result self.old self.new lines.Restart }
     {
-        let version = self.post.restart(alloc, self.moment)?;
-        Ok(Outcome::Restarted { version })
+        let versions = self.post.restart(alloc, self.moment)?;
+        Ok(Outcome::Restarted { versions })
     }
 }

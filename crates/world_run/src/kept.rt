@@ -1,9 +1,9 @@
 // Messages as they are kept.
-ghost use Rattle.std.specs.Prelude.{◌≡◌, ℕ, List, IfOk};
+ghost use Rattle.std.specs.Prelude.{◌≡◌, ℕ, List, Some, IfOk};
 ghost use Rattle.place_table.specs.Hosts.{PlacementTable};
-ghost use Rattle.world_run.specs.Post.{messages_in, numbered, asked_of, kept_answer, updated_version, spot_for, is_request, is_register, place_wants};
+ghost use Rattle.world_run.specs.Post.{messages_in, numbered, asked_of, kept_answer, updated_version, is_wanted, spot_for, is_request, is_register, place_wants};
 
-use actor_names::{Member, OutOfMemory};
+use actor_names::{Member, OutOfMemory, Space};
 use part_core::PartEvent;
 use place_table::{AckStage, HostInfo, Table};
 use round_core::{PlaceEvent, PlaceReply};
@@ -59,11 +59,18 @@ pub(crate) struct Asked {
     pub(crate) event: PlaceEvent,
 }
 
-/// Where the table of an answer is found among those that were told, and its version where it isn't built yet.
+/// A table that was told and isn't built yet.
+#[derive(Clone, Copy)]
+pub(crate) struct Wanted {
+    pub(crate) space: Space,
+    pub(crate) version: u64,
+}
+
+/// Where the table of an answer is found among those that were told, and what it is where it isn't built yet.
 #[derive(Clone, Copy)]
 pub(crate) struct Spot {
     pub(crate) table: usize,
-    pub(crate) pending: Option<u64>,
+    pub(crate) pending: Option<Wanted>,
 }
 
 /// The request of this number, if there is one.
@@ -131,9 +138,16 @@ pub(crate) fn updated_version(reply: PlaceReply) -> Option<u64>
     }
 }
 
-/// Where the table of the version is found: it is the last one, or isn't built yet.
-pub(crate) fn spot_for(tables: &[Table], version: Option<u64>) -> Spot
-    ensures { result ≡ spot_for tables.now version }
+/// Whether the table is that of the space and version.
+fn is_wanted(space: &Space, version: u64, table: &Table) -> bool
+    ensures { result ≡ is_wanted space.now version (Some table.now) }
+{
+    table.space() == space && table.version() == version
+}
+
+/// Where the table of the space and version is found: it is the last one, or isn't built yet.
+pub(crate) fn spot_for(tables: &[Table], space: &Space, version: Option<u64>) -> Spot
+    ensures { result ≡ spot_for tables.now space.now version }
 {
     let Some(version) = version else {
         return Spot {
@@ -142,7 +156,7 @@ pub(crate) fn spot_for(tables: &[Table], version: Option<u64>) -> Spot
         };
     };
     let count = tables.len();
-    if count > 0 && tables[count - 1].version() == version {
+    if count > 0 && is_wanted(space, version, &tables[count - 1]) {
         return Spot {
             table: count - 1,
             pending: None,
@@ -150,7 +164,10 @@ pub(crate) fn spot_for(tables: &[Table], version: Option<u64>) -> Spot
     }
     Spot {
         table: count,
-        pending: Some(version),
+        pending: Some(Wanted {
+            space: *space,
+            version,
+        }),
     }
 }
 

@@ -1,33 +1,35 @@
 // The placement, and every message that was added.
-ghost use Rattle.std.specs.Prelude.{◌≡◌, ◌<◌, ◌^◌, List, ◌++◌, ◌∷◌, [], true, false, length, None, Some, IfOk, OnOk, OnErr, MatchOption, option_map, slice_get};
-ghost use Rattle.std.specs.Option.{option_copied};
+ghost use Rattle.std.specs.Prelude.{◌≡◌, ◌<◌, ◌^◌, List, ◌++◌, ◌∷◌, [], true, false, length, None, Some, IfOk, OnOk, OnErr, MatchOption, map, slice_get};
 ghost use Rattle.member_roster.specs.Members.{Joined};
-ghost use Rattle.round_core.specs.Placement.{new_placement, last_version, placement_step, placement_restarted};
+ghost use Rattle.round_core.specs.Room.{last_version};
+ghost use Rattle.placement_core.specs.Placement.{SpaceRoom, room_of, new_placement, placement_step, placement_restarted};
 ghost use Rattle.cluster_model.specs.Messages.{Message};
-ghost use Rattle.round_core.specs.Records.{record_of};
-ghost use Rattle.cluster_model.specs.World.{restarted_version};
+ghost use Rattle.cluster_model.specs.World.{restarted_versions};
 ghost use Rattle.world_run.specs.Looks.{asks_at};
-ghost use Rattle.world_run.specs.Post.{message_in, told_tables, table_or, late_member, numbered, told_of, is_request, is_register, GivesReply, started_version, last_for, LastAsks, Delivers, Agrees};
+ghost use Rattle.placement_core.specs.Views.{IsMemberPlace};
+ghost use Rattle.world_run.specs.Post.{message_in, told_tables, table_or, late_member, numbered, told_of, is_request, is_register, GivesReply, version_in, started_version, last_for, LastAsks, Delivers, Agrees};
 
 use crate::kept::{
-    Kept, Told, asked_at, is_register, is_request, kept_answer, place_wants, spot_for,
+    Kept, Told, Wanted, asked_at, is_register, is_request, kept_answer, place_wants, spot_for,
     updated_version,
 };
-use actor_names::{Member, OutOfMemory};
+use actor_names::{Member, OutOfMemory, Space};
 use part_core::PartEvent;
 use place_table::{Table, build_table};
-use round_core::{PlaceEvent, PlaceReply, Placement, PlacementRecord};
+use placement_core::Placement;
+use round_core::{PlaceEvent, PlaceReply};
 use std::alloc::Global;
 use std::marker::Model;
+use world_events::Versions;
 
-/// The placement, and every message that was added. The table of a version is built once, when it is first wanted, and
-/// shared by all whom it is told: until then the placement has its hosts.
+/// The placement, and every message that was added. The table of a version is built when it is first wanted, and shared
+/// by all whom it is told one after the other: until then the placement has its hosts.
 #[derive(Drop)]
 pub(crate) struct Post {
     placement: Placement,
     messages: Vec<Kept>,
     tables: Vec<Table>,
-    pending: Option<u64>,
+    pending: Option<Wanted>,
     last: usize,
 }
 
@@ -37,9 +39,9 @@ impl Model for Post {
 
     ghost Value = { PostView };
 
-    ghost view = { λ a. record { placement = a.placement.state; messages = messages_in (told_tables a.tables.items a.pending a.placement.state.table) a.messages.items } };
+    ghost view = { λ a. record { placement = a.placement.state; messages = messages_in (told_tables a.tables.items a.pending a.placement.state) a.messages.items } };
 
-    ghost invariant = { λ a. IsPostKept (length (told_tables a.tables.items a.pending a.placement.state.table)) a.messages.items a.last };
+    ghost invariant = { λ a. IsPostKept (length (told_tables a.tables.items a.pending a.placement.state)) a.messages.items a.last };
 }
 
 /// The table that was told and isn't built yet is built.
@@ -47,15 +49,16 @@ fn settle(
     alloc: Global,
     placement: &Placement,
     tables: &mut Vec<Table>,
-    pending: &mut Option<u64>,
+    pending: &mut Option<Wanted>,
 ) -> Result<(), OutOfMemory>
-    ensures same { told_tables tables.new.items pending.new placement.now.state.table ≡ told_tables tables.old.items pending.old placement.now.state.table }
+    ensures same { told_tables tables.new.items pending.new placement.now.state ≡ told_tables tables.old.items pending.old placement.now.state }
     ensures settled { OnOk result (pending.new ≡ None) }
 {
-    let Some(version) = *pending else {
+    let Some(wanted) = *pending else {
         return Ok(());
     };
-    match build_table(alloc, version, placement.table_hosts()) {
+    let hosts = placement.table_hosts(&wanted.space);
+    match build_table(alloc, &wanted.space, wanted.version, hosts) {
         Err(_) => Err(OutOfMemory),
         Ok(table) => {
             tables.push(table)?;
@@ -78,13 +81,32 @@ fn step_placement(placement: &mut Placement, event: PlaceEvent, now: u64) -> Opt
     }
 }
 
-/// The version of the round that a restart started, by what it recorded.
-fn started_version(record_: Option<&PlacementRecord>) -> u64
-    ensures { result ≡ started_version (option_map record_of (option_copied record_.entry)) }
+/// The version of the round that a restart started, where the last version was this and is that; 0 for none.
+fn started_version(before: u64, after: u64) -> u64
+    ensures { result ≡ started_version before after }
 {
-    match record_ {
-        None => 0,
-        Some(record_) => record_.next_version.saturating_sub(1),
+    if after == before { 0 } else { after }
+}
+
+/// The last version of each room, in order of space.
+fn last_versions(alloc: Global, placement: &Placement) -> Result<Vec<u64>, OutOfMemory>
+    ensures { IfOk result (λ v. v.items ≡ map version_in placement.now.state.rooms) }
+{
+    let mut versions = Vec::new(alloc);
+    for at in 0..placement.rooms() {
+        versions.push(placement.last_version_at(at))?;
+    }
+    Ok(versions)
+}
+
+/// The versions of the rounds that a restart started in the rooms, in place of their last versions before it.
+fn start_versions(versions: &mut Vec<u64>, placement: &Placement)
+    requires { length versions.old.items ≡ length placement.now.state.rooms }
+    ensures { (rooms : List SpaceRoom) → versions.old.items ≡ map version_in rooms → versions.new.items ≡ restarted_versions rooms placement.now.state.rooms }
+{
+    for at in 0..placement.rooms() {
+        let before = versions[at];
+        versions[at] = started_version(before, placement.last_version_at(at));
     }
 }
 
@@ -103,12 +125,12 @@ fn told_table(
     alloc: Global,
     placement: &Placement,
     tables: &mut Vec<Table>,
-    pending: &mut Option<u64>,
+    pending: &mut Option<Wanted>,
     at: usize,
 ) -> Result<Table, OutOfMemory>
-    requires { at < length (told_tables tables.old.items pending.old placement.now.state.table) }
-    ensures same { told_tables tables.new.items pending.new placement.now.state.table ≡ told_tables tables.old.items pending.old placement.now.state.table }
-    ensures told { IfOk result (λ t. t ≡ table_or (slice_get (told_tables tables.old.items pending.old placement.now.state.table) at)) }
+    requires { at < length (told_tables tables.old.items pending.old placement.now.state) }
+    ensures same { told_tables tables.new.items pending.new placement.now.state ≡ told_tables tables.old.items pending.old placement.now.state }
+    ensures told { IfOk result (λ t. t ≡ table_or (slice_get (told_tables tables.old.items pending.old placement.now.state) at)) }
 {
     settle(alloc, placement, tables, pending)?;
     tables[at].copy()
@@ -146,11 +168,11 @@ impl Post {
         Some(is_request(&self.messages[number as usize - 1]))
     }
 
-    /// The last version used, 0 before the first round.
-    pub(crate) fn last_version(&self) -> u64
-        ensures { result ≡ last_version self.now.placement }
+    /// The last version used in a space, 0 before its first round.
+    pub(crate) fn last_version(&self, space: &Space) -> u64
+        ensures { result ≡ last_version (room_of self.now.placement space.now) }
     {
-        self.placement.last_version()
+        self.placement.last_version(space)
     }
 
     /// A request is the next message.
@@ -192,7 +214,7 @@ impl Post {
             return Err(OutOfMemory);
         };
         let version = updated_version(reply);
-        let spot = spot_for(self.tables.as_slice(), version);
+        let spot = spot_for(self.tables.as_slice(), &asked.member.space, version);
         self.last = last_for(version, self.messages.len(), self.last);
         self.pending = spot.pending;
         self.messages
@@ -263,31 +285,41 @@ impl Post {
         Ok(self.placement.step(event, now))
     }
 
-    /// The placement is started anew; the version of the round that it starts, 0 for none.
-    pub(crate) fn restart(&mut self, alloc: Global, now: u64) -> Result<u64, OutOfMemory>
-        ensures version { IfOk result (λ version. version ≡ restarted_version self.old.placement (placement_restarted self.old.placement now)) }
+    /// The placement is started anew; the version of the round that each room starts, 0 for none, in order of space.
+    pub(crate) fn restart(&mut self, alloc: Global, now: u64) -> Result<Versions, OutOfMemory>
+        ensures versions { IfOk result (λ versions. versions ≡ restarted_versions self.old.placement.rooms (placement_restarted self.old.placement now).rooms) }
         ensures ok { OnOk result (self.new ≡ record self.old { placement = placement_restarted self.old.placement now }) }
         ensures err { OnErr result (self.new ≡ self.old) }
     {
         settle(alloc, &self.placement, &mut self.tables, &mut self.pending)?;
+        let mut versions = last_versions(alloc, &self.placement)?;
         self.placement.restarted(now);
-        Ok(started_version(self.placement.record()))
+        start_versions(&mut versions, &self.placement);
+        Ok(Versions::from_vec(versions))
     }
 
-    /// How many members the placement has.
-    pub(crate) fn members(&self) -> usize
-        ensures { result ≡ length self.now.placement.members }
+    /// How many rooms the placement has.
+    pub(crate) fn rooms(&self) -> usize
+        ensures { result ≡ length self.now.placement.rooms }
     {
-        self.placement.members().len()
+        self.placement.rooms()
     }
 
-    /// The member at this place of the placement, where a Tick at this moment would drop it.
-    pub(crate) fn late_at(&self, at: usize, now: u64) -> Option<Member>
-        requires { at < length self.now.placement.members }
-        ensures { (j : Joined) → slice_get self.now.placement.members at ≡ Some j → result ≡ late_member now j }
+    /// How many members the room at this place has.
+    pub(crate) fn members_at(&self, room: usize) -> usize
+        requires { room < length self.now.placement.rooms }
+        ensures { (r : SpaceRoom) → slice_get self.now.placement.rooms room ≡ Some r → result ≡ length r.room.members }
     {
-        if self.placement.is_late(at, now) {
-            Some(self.placement.members()[at].member)
+        self.placement.members_at(room).len()
+    }
+
+    /// The member at this place of the room at that place, where a Tick at this moment would drop it.
+    pub(crate) fn late_at(&self, room: usize, at: usize, now: u64) -> Option<Member>
+        requires { IsMemberPlace self.now.placement.rooms room at }
+        ensures { (r : SpaceRoom) (j : Joined) → slice_get self.now.placement.rooms room ≡ Some r → slice_get r.room.members at ≡ Some j → result ≡ late_member now j }
+    {
+        if self.placement.is_late(room, at, now) {
+            Some(self.placement.members_at(room)[at].member)
         } else {
             None
         }

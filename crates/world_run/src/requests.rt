@@ -7,7 +7,7 @@ ghost use Rattle.world_run.specs.Worlds.{Happens};
 use crate::cluster::Cluster;
 use crate::kept::Kept;
 use crate::outcomes::nothing;
-use actor_names::{Address, Member, Node, OutOfMemory, read_app_id};
+use actor_names::{Address, Member, Node, OutOfMemory, Space, read_app_id};
 use member_core::{Ack, collect, may_leave};
 use place_table::{ActorTypes, HostInfo};
 use std::alloc::Global;
@@ -32,24 +32,25 @@ fn host_of(alloc: Global, member: Member, kinds: ActorTypes) -> Result<HostInfo,
 }
 
 impl Cluster {
-    /// The member that a start of the node makes.
-    fn next_member(&self, node: Node) -> Member
-        ensures { result ≡ record { node = node; boot = suc self.now.boots } }
+    /// The member that a start of the space's node makes.
+    fn next_member(&self, space: Space, node: Node) -> Member
+        ensures { result ≡ record { space = space; node = node; boot = suc self.now.boots } }
     {
         let boot = self.parts.boots() + 1;
-        Member { node, boot }
+        Member { space, node, boot }
     }
 
-    /// A node starts, and asks to be registered.
+    /// A node of a space starts, and asks to be registered.
     pub(crate) fn boot(
         &mut self,
         alloc: Global,
+        space: Space,
         node: Node,
         kinds: ActorTypes,
     ) -> Result<Outcome, WorldError>
-        ensures { Happens result self.old self.new (lines.Boot node kinds) }
+        ensures { Happens result self.old self.new (lines.Boot space node kinds) }
     {
-        let member = self.next_member(node);
+        let member = self.next_member(space, node);
         let list = kinds.copy(alloc)?;
         let host = host_of(alloc, member, kinds)?;
         let message = self.next_message();

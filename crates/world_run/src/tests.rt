@@ -2,7 +2,9 @@
 ghost use Rattle.std.specs.Prelude.{◌<◌};
 
 use super::*;
-use actor_names::{ActorKey, Member, read_actor_type, read_key, read_member, read_node};
+use actor_names::{
+    ActorKey, Member, default_space, read_actor_type, read_key, read_member, read_node,
+};
 use part_core::TypeList;
 use place_table::ActorTypes;
 use std::alloc::Global;
@@ -77,7 +79,15 @@ fn boot(world: &mut World, alloc: Global) -> Result<&'static str, Fail> {
     kinds.push(read_actor_type(alloc, b"counter")?)?;
     let node = read_node(b"a")?;
     let kinds = ActorTypes::from_vec(kinds);
-    Ok(step(world, alloc, WorldEvent::Boot { node, kinds }))
+    Ok(step(
+        world,
+        alloc,
+        WorldEvent::Boot {
+            space: default_space(),
+            node,
+            kinds,
+        },
+    ))
 }
 
 /// The member of the first start.
@@ -216,6 +226,6 @@ fn restart_starts_next_version(rt: HostRuntime) -> Result<(), Fail> {
     let alloc = rt.alloc();
     let mut world = open_world(alloc)?;
     assert_eq!(rt; step(&mut world, alloc, WorldEvent::Restart), "restarted");
-    assert_eq!(rt; world.last_version(), 2);
+    assert_eq!(rt; world.last_version(&default_space()), 2);
     Ok(())
 }

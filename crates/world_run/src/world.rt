@@ -2,13 +2,15 @@
 ghost use Rattle.std.specs.Prelude.{◌≡◌, ◌<◌, ◌≤◌, length};
 ghost use Rattle.part_core.specs.Settings.{AreShallow};
 ghost use Rattle.part_core.specs.Part.{ring_owner};
-ghost use Rattle.round_core.specs.Placement.{last_version};
+ghost use Rattle.round_core.specs.Room.{last_version};
+ghost use Rattle.placement_core.specs.Placement.{room_of};
 ghost use Rattle.cluster_model.specs.World.{ClusterState, key_part, cluster_step, opening_cluster};
 ghost use Rattle.world_run.specs.Worlds.{GivesStep, Runs, view_of, open_turns};
 
 mod looks;
 
 use crate::cluster::Cluster;
+use actor_names::Space;
 use std::alloc::Global;
 use std::marker::Model;
 use world_events::{Outcome, WorldError, WorldEvent, WorldSettings};
@@ -97,11 +99,11 @@ impl World {
         self.cluster.begun().saturating_sub(self.cluster.ended())
     }
 
-    /// The last version used, 0 before the first round.
-    pub fn last_version(&self) -> u64
-        ensures { result ≡ last_version self.now.placement }
+    /// The last version used in a space, 0 before its first round.
+    pub fn last_version(&self, space: &Space) -> u64
+        ensures { result ≡ last_version (room_of self.now.placement space.now) }
     {
-        self.cluster.last_version()
+        self.cluster.last_version(space)
     }
 
     /// What comes of an event, or why it is refused, which changes nothing. For each cluster of this view it is what comes

@@ -13,11 +13,11 @@ use Rattle.cluster_model.proofs.law.cluster_law.Goals as goal
 pub returns : goal.returns
 returns c =
     record {
-      invariant = λ owner part_of settings events. run_invariant owner part_of settings events;
-      once = λ owner part_of settings events. run_active_once owner part_of settings events;
+      invariant = λ owner part_of settings events keeps. run_invariant owner part_of keeps settings events;
+      once = λ owner part_of settings events keeps. run_active_once owner part_of keeps settings events;
       asked = λ owner part_of settings events. run_asked owner part_of settings events;
-      named = λ owner part_of settings events. run_named owner part_of settings events;
-      ended = λ owner part_of settings events. run_ended owner part_of settings events;
+      named = λ owner part_of settings events keeps. run_named owner part_of keeps settings events;
+      ended = λ owner part_of settings events keeps. run_ended owner part_of keeps settings events;
       counted = λ owner part_of settings events. run_counted owner part_of settings events;
       settings = λ owner part_of settings events. run_settings owner part_of settings events;
       came = λ owner part_of settings earlier later p i. run_came owner part_of settings earlier later p i;

@@ -1,29 +1,25 @@
-use Rattle.std.proofs.Common.{◌≡◌, false, sym, ap, ◌∙◌, arith}
-use Rattle.cluster_model.specs.World.{all_stopped}
+use Rattle.std.proofs.Common.{sym, ap, ◌∙◌, arith}
+use Rattle.std.specs.Prelude.{Option, None, Some}
+use Rattle.actor_names.specs.declared.member.Member.{Member}
+use Rattle.cluster_model.specs.World.{running_among}
+use Rattle.member_roster.specs.Members.{late_of}
 use Rattle.world_run.specs.Views.{PartsView}
-use Rattle.world_run.proofs.Runners.{joined_at, runs_here, stopped_here, heard_here}
-use Rattle.world_run.proofs.deliveries.first_running.Goals.{in-Some+else-not-all_stopped, in_default}
+use Rattle.world_run.proofs.RoomVersions.{in_place}
+use Rattle.world_run.proofs.Runners.{room_runs, room_rests}
 use Rattle.world_run.proofs.deliveries.first_running.Goals as goal
 
-pub returns-then-not-all_stopped-clause-first : goal.returns-then-not-all_stopped-clause-first
-returns-then-not-all_stopped-clause-first c =
-    let js = c.args.post.now.placement.members in
-    let h = joined_at js c.loop-i.i (omega arith) in
-    let running : all_stopped c.args.parts.now.parts c.in-Some.member ≡ false = sym (c.if-not-all_stopped.ensures.stopped ∙ ap (λ (v : PartsView). all_stopped v.parts c.in-Some.member) c.loop-i.invariant.0) in
-    runs_here c.args.parts.now.parts js c.loop-i.i c.args.now h.0 c.in-Some.member h.1 (c.in-Some.ensures h.0 h.1) running ∙ c.loop-i.invariant.1
+pub returns-in-Some-clause-first : goal.returns-in-Some-clause-first
+returns-in-Some-clause-first c =
+    let rooms = c.args.post.now.placement.rooms in
+    let r = in_place rooms c.loop-room.room (omega arith) in
+    let here = c.in-Some.ensures.first r.0 r.1 ∙ ap (λ (v : PartsView). running_among v.parts (late_of r.0.room.members c.args.now)) c.loop-room.invariant.0 in
+    room_runs c.args.parts.now.parts rooms c.loop-room.room c.args.now r.0 c.in-Some.member r.1 here ∙ c.loop-room.invariant.1
 
-pub loop-i-preserved : goal.loop-i-preserved
-loop-i-preserved c =
-    let js = c.args.post.now.placement.members in
-    let ps = c.args.parts.now.parts in
-    let h = joined_at js c.loop-i.i (omega arith) in
-    elim c.match-late_at.branch [
-      | in-Some+else-not-all_stopped w ↦ (
-        w.parts-is ∙ w.all_stopped.ensures.same ∙ c.loop-i.invariant.0,
-        stopped_here ps js c.loop-i.i c.args.now h.0 w.in-Some.member h.1 (w.in-Some.ensures h.0 h.1) (sym (w.if-not-all_stopped.ensures.stopped ∙ ap (λ (v : PartsView). all_stopped v.parts w.in-Some.member) c.loop-i.invariant.0)) ∙ c.loop-i.invariant.1,
-      )
-      | in_default w ↦ (
-        w.parts-is ∙ c.loop-i.invariant.0,
-        heard_here ps js c.loop-i.i c.args.now h.0 h.1 (sym w.in_default.is ∙ c.late_at.ensures h.0 h.1) ∙ c.loop-i.invariant.1,
-      )
-    ]
+pub loop-room-preserved : goal.loop-room-preserved
+loop-room-preserved c =
+    let rooms = c.args.post.now.placement.rooms in
+    let r = in_place rooms c.loop-room.room (omega arith) in
+    let none = c.in_default.ensures.first r.0 r.1 ∙ ap (λ (v : PartsView). running_among v.parts (late_of r.0.room.members c.args.now)) c.loop-room.invariant.0 in (
+      c.first_running_in.ensures.same ∙ c.loop-room.invariant.0,
+      room_rests c.args.parts.now.parts rooms c.loop-room.room c.args.now r.0 r.1 none ∙ c.loop-room.invariant.1,
+    )

@@ -1,7 +1,9 @@
 use Rattle.std.proofs.Common.{◌≡◌, drop}
-use Rattle.member_roster.specs.Members.{late_of}
+use Rattle.placement_core.specs.Placement.{late_in}
 use Rattle.cluster_model.specs.World.{running_among}
 use Rattle.world_run.proofs.deliveries.first_running.Given as goal
 
-abbrev pub invariant-loop-i : goal.invariant-loop-i
-invariant-loop-i l = (l.parts ≡ l.initial.parts) × (running_among l.initial.parts.parts (late_of (drop l.i l.post.placement.members) l.now) ≡ running_among l.initial.parts.parts (late_of l.post.placement.members l.now))
+abbrev pub invariant-loop-room : goal.invariant-loop-room
+invariant-loop-room l =
+    (l.parts ≡ l.initial.parts)
+    × (running_among l.initial.parts.parts (late_in (drop l.room l.post.placement.rooms) l.now) ≡ running_among l.initial.parts.parts (late_in l.post.placement.rooms l.now))

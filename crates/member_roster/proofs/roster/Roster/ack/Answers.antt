@@ -8,8 +8,8 @@ use Rattle.member_roster.proofs.Places.{ok_within}
 use Rattle.member_roster.proofs.Rosters.{is_here-found, is_here-missing, with_node-found}
 use Rattle.member_roster.proofs.roster.Roster.ack.Goals as goal
 
-pub returns-else-not-has_boot-clause-acked : goal.returns-else-not-has_boot-clause-acked
-returns-else-not-has_boot-clause-acked c = λ yes.
+pub returns-else-not-is_member-clause-acked : goal.returns-else-not-is_member-clause-acked
+returns-else-not-is_member-clause-acked c = λ yes.
     let p : place_by host_node c.args.member.now.node c.self.inside.hosts.items ≡ Ok c.in-Ok.at = rw c.deref.ensures.value at (sym c.host_place.ensures.place ∙ c.in-Ok.is) in
     let f : List Joined → RosterState = λ js. record { members = js; table = c.self.inside.table.items; capacity = c.self.inside.capacity } in
     let g : Mark → Mark = λ k. record k { heard = c.args.now; pending = false } in
@@ -20,17 +20,17 @@ returns-in-Err-clause-here c =
     let p : place_by host_node c.args.member.now.node c.self.inside.hosts.items ≡ Err c.in-Err.field-0 = rw c.deref.ensures.value at (sym c.host_place.ensures.place ∙ c.in-Err.is) in
     rw (← c.self.view_is) (is_here-missing c.args.member.now c.self.inside.hosts.items c.self.inside.marks.items c.in-Err.field-0 c.self.invariant.0.ascends p)
 
-pub returns-else-not-has_boot-clause-here : goal.returns-else-not-has_boot-clause-here
-returns-else-not-has_boot-clause-here c =
+pub returns-else-not-is_member-clause-here : goal.returns-else-not-is_member-clause-here
+returns-else-not-is_member-clause-here c =
     let p : place_by host_node c.args.member.now.node c.self.inside.hosts.items ≡ Ok c.in-Ok.at = rw c.deref.ensures.value at (sym c.host_place.ensures.place ∙ c.in-Ok.is) in
-    let h : c.has_boot.result ≡ true = search rules in
-    rw (← c.self.view_is) (is_here-found c.args.member.now true c.self.inside.hosts.items c.self.inside.marks.items c.in-Ok.at c.index.result.now c.self.invariant.0.marked p c.index.ensures (sym h ∙ c.has_boot.ensures))
+    let h : c.is_member.result ≡ true = search rules in
+    rw (← c.self.view_is) (is_here-found c.args.member.now true c.self.inside.hosts.items c.self.inside.marks.items c.in-Ok.at c.index.result.now c.self.invariant.0.marked p c.index.ensures (sym h ∙ c.is_member.ensures))
 
-pub returns-then-not-has_boot-clause-here : goal.returns-then-not-has_boot-clause-here
-returns-then-not-has_boot-clause-here c =
+pub returns-then-not-is_member-clause-here : goal.returns-then-not-is_member-clause-here
+returns-then-not-is_member-clause-here c =
     let p : place_by host_node c.args.member.now.node c.self.inside.hosts.items ≡ Ok c.in-Ok.at = rw c.deref.ensures.value at (sym c.host_place.ensures.place ∙ c.in-Ok.is) in
-    let h : c.has_boot.result ≡ false = search rules in
-    rw (← c.self.view_is) (is_here-found c.args.member.now false c.self.inside.hosts.items c.self.inside.marks.items c.in-Ok.at c.index.result.now c.self.invariant.0.marked p c.index.ensures (sym h ∙ c.has_boot.ensures))
+    let h : c.is_member.result ≡ false = search rules in
+    rw (← c.self.view_is) (is_here-found c.args.member.now false c.self.inside.hosts.items c.self.inside.marks.items c.in-Ok.at c.index.result.now c.self.invariant.0.marked p c.index.ensures (sym h ∙ c.is_member.ensures))
 
 pub overflow_sub-self : goal.overflow_sub-self
 overflow_sub-self c =

@@ -37,23 +37,23 @@ invariant_of-self c =
       record { hosts_capacity = rw c.remove-host.ensures.capacity r.hosts_capacity; marks_capacity = rw c.remove-mark.ensures.capacity r.marks_capacity; spares_capacity = rw c.remove-spare.ensures.capacity r.spares_capacity; table_capacity = r.table_capacity },
     )
 
-pub returns-else-not-has_boot-clause-removed : goal.returns-else-not-has_boot-clause-removed
-returns-else-not-has_boot-clause-removed c = λ yes.
+pub returns-else-not-is_member-clause-removed : goal.returns-else-not-is_member-clause-removed
+returns-else-not-is_member-clause-removed c = λ yes.
     let p : place_by host_node c.args.member.now.node c.self.inside.hosts.items ≡ Ok c.in-Ok.at = rw c.deref.ensures.value at (sym c.host_place.ensures.place ∙ c.in-Ok.is) in
     let f : List Joined → RosterState = λ js. record { members = js; table = c.self.inside.table.items; capacity = c.self.inside.capacity } in
     rw (← c.self.view_is, c.remove-host.ensures.items, c.remove-mark.ensures.items) (ap f (sym (without_node-found c.args.member.now.node c.self.inside.hosts.items c.self.inside.marks.items c.in-Ok.at c.self.invariant.0.marked p)))
 
-pub returns-else-not-has_boot-clause-here : goal.returns-else-not-has_boot-clause-here
-returns-else-not-has_boot-clause-here c =
+pub returns-else-not-is_member-clause-here : goal.returns-else-not-is_member-clause-here
+returns-else-not-is_member-clause-here c =
     let p : place_by host_node c.args.member.now.node c.self.inside.hosts.items ≡ Ok c.in-Ok.at = rw c.deref.ensures.value at (sym c.host_place.ensures.place ∙ c.in-Ok.is) in
-    let h : c.has_boot.result ≡ true = search rules in
-    rw (← c.self.view_is) (is_here-found c.args.member.now true c.self.inside.hosts.items c.self.inside.marks.items c.in-Ok.at c.index.result.now c.self.invariant.0.marked p c.index.ensures (sym h ∙ c.has_boot.ensures))
+    let h : c.is_member.result ≡ true = search rules in
+    rw (← c.self.view_is) (is_here-found c.args.member.now true c.self.inside.hosts.items c.self.inside.marks.items c.in-Ok.at c.index.result.now c.self.invariant.0.marked p c.index.ensures (sym h ∙ c.is_member.ensures))
 
-pub returns-then-not-has_boot-clause-here : goal.returns-then-not-has_boot-clause-here
-returns-then-not-has_boot-clause-here c =
+pub returns-then-not-is_member-clause-here : goal.returns-then-not-is_member-clause-here
+returns-then-not-is_member-clause-here c =
     let p : place_by host_node c.args.member.now.node c.self.inside.hosts.items ≡ Ok c.in-Ok.at = rw c.deref.ensures.value at (sym c.host_place.ensures.place ∙ c.in-Ok.is) in
-    let h : c.has_boot.result ≡ false = search rules in
-    rw (← c.self.view_is) (is_here-found c.args.member.now false c.self.inside.hosts.items c.self.inside.marks.items c.in-Ok.at c.index.result.now c.self.invariant.0.marked p c.index.ensures (sym h ∙ c.has_boot.ensures))
+    let h : c.is_member.result ≡ false = search rules in
+    rw (← c.self.view_is) (is_here-found c.args.member.now false c.self.inside.hosts.items c.self.inside.marks.items c.in-Ok.at c.index.result.now c.self.invariant.0.marked p c.index.ensures (sym h ∙ c.is_member.ensures))
 
 pub returns-in-Err-clause-here : goal.returns-in-Err-clause-here
 returns-in-Err-clause-here c =

@@ -18,7 +18,7 @@ returns-in-Ok c =
     let actors_drawn = ap (λ (a : ActorsState). a.drawn) actors in
     let actors_cells = ap (λ (a : ActorsState). a.cells) actors in
     let actors_recent = ap (λ (a : ActorsState). a.recent) actors in
-    let table : c.in-Ok.table ≡ no_table = (λ i. record { version = c.in-Ok.ensures.version i; hosts = hosts i }) in
+    let table : c.in-Ok.table ≡ no_table c.args.settings.member.space = (λ i. record { space = c.in-Ok.ensures.space i; version = c.in-Ok.ensures.version i; hosts = hosts i }) in
     (λ i. record {
       state = record {
         member = c.args.settings.member;

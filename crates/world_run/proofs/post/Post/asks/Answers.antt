@@ -30,4 +30,4 @@ returns c =
     let k : Kept = c.index.result.now in
     let here = slice_get-get_or v.messages.items (c.args.number - 1) k (omega arith) ∙ ap (λ (u : Kept). Some u) (sym c.index.ensures) in
     subst (λ (p : PostView). Some c.is_request.result ≡ asks_at p.messages c.args.number) c.self.view_is
-    (ap (λ (b : Bool). Some b) c.is_request.ensures ∙ asks_kept (told_tables v.tables.items v.pending v.placement.state.table) v.messages.items c.args.number k (omega arith) here)
+    (ap (λ (b : Bool). Some b) c.is_request.ensures ∙ asks_kept (told_tables v.tables.items v.pending v.placement.state) v.messages.items c.args.number k (omega arith) here)

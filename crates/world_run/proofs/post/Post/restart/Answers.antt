@@ -1,13 +1,11 @@
 use Rattle.std.proofs.Common.{ap, ◌∙◌}
-use Rattle.std.specs.Prelude.{Option}
-use Rattle.round_core.specs.Records.{RecordOf}
-use Rattle.round_core.specs.Placement.{placement_restarted}
-use Rattle.cluster_model.specs.World.{restarted_version}
-use Rattle.world_run.specs.Post.{PostView, started_version}
-use Rattle.world_run.proofs.Posts.{started_is}
+use Rattle.placement_core.specs.Placement.{SpaceRoom, PlacementState, placement_restarted}
+use Rattle.cluster_model.specs.World.{restarted_versions}
+use Rattle.world_run.specs.Post.{PostView}
 use Rattle.world_run.proofs.post.Post.restart.Goals as goal
 
-pub returns-clause-version : goal.returns-clause-version
-returns-clause-version c =
-    c.started_version.ensures ∙ ap (λ (o : Option RecordOf). started_version o) (c.record.ensures ∙ c.restarted.ensures.recent) ∙ started_is c.self.inside.placement.state c.args.now
-    ∙ ap (λ (v : PostView). restarted_version v.placement (placement_restarted v.placement c.args.now)) c.self.view_is
+pub returns-clause-versions : goal.returns-clause-versions
+returns-clause-versions c =
+    let old = c.self.inside.placement.state in
+    c.from_vec.ensures ∙ c.start_versions.ensures old.rooms c.in_ok-versions.ensures ∙ ap (λ (s : PlacementState). restarted_versions old.rooms s.rooms) c.restarted.ensures.state
+    ∙ ap (λ (v : PostView). restarted_versions v.placement.rooms (placement_restarted v.placement c.args.now).rooms) c.self.view_is

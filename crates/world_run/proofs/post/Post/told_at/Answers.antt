@@ -31,28 +31,28 @@ no_answer ts (kept.Says m r) now a b c d = absurd (d m r refl)
 pub told_table-requires : goal.told_table-requires
 told_table-requires c =
     let ks = c.self.inside.messages.items in
-    let n = length (told_tables c.self.inside.tables.items c.self.inside.pending c.self.inside.placement.state.table) in
+    let n = length (told_tables c.self.inside.tables.items c.self.inside.pending c.self.inside.placement.state) in
     let here = slice_get-get_or ks (c.args.number - 1) c.index.result.now (omega arith) ∙ ap (λ (x : Kept). Some x) (sym c.index.ensures ∙ c.in-Update.is) in
     c.self.invariant.named (c.args.number - 1) (kept.Update c.in-Update.member c.in-Update.table) here
 
 pub returns-in-Lock-clause-told : goal.returns-in-Lock-clause-told
 returns-in-Lock-clause-told c =
-    found (told_tables c.self.inside.tables.items c.self.inside.pending c.self.inside.placement.state.table) c.args.self.now c.self.inside.messages.items c.args.number c.args.now c.index.result.now _
+    found (told_tables c.self.inside.tables.items c.self.inside.pending c.self.inside.placement.state) c.args.self.now c.self.inside.messages.items c.args.number c.args.now c.index.result.now _
     (ap (λ (v : PostView). v.messages) (sym c.self.view_is)) c.if-number-eq0.false (omega arith) c.index.ensures c.in-Lock.is
 
 pub returns-in-Unlock-clause-told : goal.returns-in-Unlock-clause-told
 returns-in-Unlock-clause-told c =
-    found (told_tables c.self.inside.tables.items c.self.inside.pending c.self.inside.placement.state.table) c.args.self.now c.self.inside.messages.items c.args.number c.args.now c.index.result.now _
+    found (told_tables c.self.inside.tables.items c.self.inside.pending c.self.inside.placement.state) c.args.self.now c.self.inside.messages.items c.args.number c.args.now c.index.result.now _
     (ap (λ (v : PostView). v.messages) (sym c.self.view_is)) c.if-number-eq0.false (omega arith) c.index.ensures c.in-Unlock.is
 
 pub returns-in-Says-clause-told : goal.returns-in-Says-clause-told
 returns-in-Says-clause-told c =
-    found (told_tables c.self.inside.tables.items c.self.inside.pending c.self.inside.placement.state.table) c.args.self.now c.self.inside.messages.items c.args.number c.args.now c.index.result.now (kept.Says c.in-Says.member c.in-Says.reply)
+    found (told_tables c.self.inside.tables.items c.self.inside.pending c.self.inside.placement.state) c.args.self.now c.self.inside.messages.items c.args.number c.args.now c.index.result.now (kept.Says c.in-Says.member c.in-Says.reply)
     (ap (λ (v : PostView). v.messages) (sym c.self.view_is)) c.if-number-eq0.false (omega arith) c.index.ensures c.in-Says.is
 
 pub returns-in_ok-table-in-Update-clause-told : goal.returns-in_ok-table-in-Update-clause-told
 returns-in_ok-table-in-Update-clause-told c =
-    let ts = told_tables c.self.inside.tables.items c.self.inside.pending c.self.inside.placement.state.table in
+    let ts = told_tables c.self.inside.tables.items c.self.inside.pending c.self.inside.placement.state in
     let m = c.in-Update.member in
     ap (λ (t : PlacementTable). let o : Option Told = Some (record { member = m; event = Some (events.Update t c.args.now) }) in o) c.in_ok-table-in-Update.ensures.told
     ∙ found ts c.args.self.now c.self.inside.messages.items c.args.number c.args.now c.index.result.now (kept.Update m c.in-Update.table)
@@ -60,7 +60,7 @@ returns-in_ok-table-in-Update-clause-told c =
 
 pub returns-in_default-clause-told : goal.returns-in_default-clause-told
 returns-in_default-clause-told c =
-    let ts = told_tables c.self.inside.tables.items c.self.inside.pending c.self.inside.placement.state.table in
+    let ts = told_tables c.self.inside.tables.items c.self.inside.pending c.self.inside.placement.state in
     no_answer ts c.index.result.now c.args.now c.in_default.not-Lock c.in_default.not-Update c.in_default.not-Unlock c.in_default.not-Says
     ∙ found ts c.args.self.now c.self.inside.messages.items c.args.number c.args.now c.index.result.now c.index.result.now
     (ap (λ (v : PostView). v.messages) (sym c.self.view_is)) c.if-number-eq0.false (omega arith) c.index.ensures refl

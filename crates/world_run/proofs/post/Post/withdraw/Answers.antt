@@ -10,9 +10,9 @@ empty : (o : Option Kept) (a b : ℕ) (P : Type 0) (Q : Kept → Type 0) → Mat
 empty None a b P Q h e = e ∙ h.0
 empty (Some x) a b P Q h e = tt
 
-taken : (c : goal.Joined-pop) (front : List Message) → c.args.self.now.messages ≡ front ++ Asks c.requires.1.0 ∷ [] → Withdrawn (told_tables c.self.inside.tables.items c.self.inside.pending c.self.inside.placement.state.table) c.self.inside.last c.pop.new.self.items front
+taken : (c : goal.Joined-pop) (front : List Message) → c.args.self.now.messages ≡ front ++ Asks c.requires.1.0 ∷ [] → Withdrawn (told_tables c.self.inside.tables.items c.self.inside.pending c.self.inside.placement.state) c.self.inside.last c.pop.new.self.items front
 taken c front e =
-    withdrawn (told_tables c.self.inside.tables.items c.self.inside.pending c.self.inside.placement.state.table) c.self.inside.last c.self.inside.messages.items c.pop.new.self.items c.pop.result front c.requires.1.0 c.self.invariant
+    withdrawn (told_tables c.self.inside.tables.items c.self.inside.pending c.self.inside.placement.state) c.self.inside.last c.self.inside.messages.items c.pop.new.self.items c.pop.result front c.requires.1.0 c.self.invariant
     (ap (λ (v : PostView). v.messages) c.self.view_is ∙ e) c.pop.ensures.items (empty c.pop.result _ (length c.self.inside.messages.items) _ _ c.pop.ensures.cases (omega (arith, c.self.inside.messages.ok.0)))
 
 pub invariant_of-self : goal.invariant_of-self

@@ -1,0 +1,37 @@
+use Rattle.std.proofs.Common.{◌≡◌, ◌<◌, ◌≤◌, List, ◌∷◌, [], length, get_or, map, set, sym, ◌∙◌, ap, subst, refl, Ok, Err, Some, None, arith}
+use Rattle.std.specs.List.{insert}
+use Rattle.std.proofs.lemmas.List.Edits.{length-insert}
+use Rattle.member_roster.specs.Places.{place_by}
+use Rattle.member_roster.proofs.Places.{err_within, ok_within}
+use Rattle.member_roster.proofs.Ascending.{ascends_insert}
+use Rattle.round_core.specs.Room.{RoomState}
+use Rattle.placement_core.specs.declared.sweep.KeptRoom.{KeptRoom}
+use Rattle.placement_core.specs.Kept.{kept, kept_space}
+use Rattle.placement_core.specs.Placement.{SpaceRoom, room_at, put_room}
+use Rattle.placement_core.proofs.Spaces.{room_at-found, room_at-missing, put_room-found, put_room-same, put_room-at, ascends_set, kept_length}
+use Rattle.placement_core.proofs.rooms.Rooms.insert.Goals as goal
+
+pub unreachable-requires : goal.unreachable-requires
+unreachable-requires c =
+    let p : place_by kept_space c.args.space c.self.inside.rooms.items ≡ Ok c.in-Ok.field-0 = rw c.deref.ensures.value at (sym c.room_place.ensures.place ∙ c.in-Ok.is) in
+    let d : KeptRoom = record { space = []; room = c.args.room } in
+    let found = room_at-found c.args.space c.self.inside.rooms.items c.in-Ok.field-0 d p in
+    let free : room_at (map kept c.self.inside.rooms.items) c.args.space ≡ None = rw (← c.self.view_is) at c.requires.free in
+    absurd (cc)
+
+pub invariant_of-self-in-Err : goal.invariant_of-self-in-Err
+invariant_of-self-in-Err c =
+    let p : place_by kept_space c.args.space c.self.inside.rooms.items ≡ Err c.in-Err.at = rw c.deref.ensures.value at (sym c.room_place.ensures.place ∙ c.in-Err.is) in
+    let ks = c.self.inside.rooms.items in
+    let new : KeptRoom = record { space = c.args.space; room = c.args.room } in
+    let items : c.insert.new.self.items ≡ insert ks c.in-Err.at new = c.in_ok-insert-in-Err.ensures.items in
+    let few : length (map kept ks) < 64 = rw (← c.self.view_is) at c.requires.few in
+    let count = kept_length ks in
+    let long = length-insert ks c.in-Err.at new (err_within kept_space c.args.space ks c.in-Err.at p) in
+    (rw items (ascends_insert kept_space new ks c.in-Err.at p c.self.invariant.0), rw items (omega arith))
+
+pub returns-clause-ok : goal.returns-clause-ok
+returns-clause-ok c =
+    let p : place_by kept_space c.args.space c.self.inside.rooms.items ≡ Err c.in-Err.at = rw c.deref.ensures.value at (sym c.room_place.ensures.place ∙ c.in-Err.is) in
+    let items : c.insert.new.self.items ≡ insert c.self.inside.rooms.items c.in-Err.at (record { space = c.args.space; room = c.args.room }) = c.in_ok-insert-in-Err.ensures.items in
+    rw (← c.self.view_is, items) (sym (put_room-at c.args.space c.args.room c.self.inside.rooms.items c.in-Err.at p))

@@ -1,0 +1,15 @@
+use Rattle.std.proofs.Common.{◌≡◌, ◌<◌, ◌≤◌, length, get_or, map, sym, ◌∙◌, ap, add-one, arith}
+use Rattle.std.proofs.lemmas.List.{get_or_default}
+use Rattle.std.proofs.lemmas.List.Edits.{map_over_more}
+use Rattle.placement_core.specs.declared.sweep.KeptRoom.{KeptRoom}
+use Rattle.member_roster.specs.Members.{late_of}
+use Rattle.placement_core.specs.Kept.{kept, kept_ticked, kept_restarted}
+use Rattle.placement_core.proofs.Spaces.{read_at, late_more}
+use Rattle.round_core.specs.Views.{RoomView}
+use Rattle.placement_core.proofs.sweep.restart_rooms.Goals as goal
+
+pub loop-kept_room-preserved : goal.loop-kept_room-preserved
+loop-kept_room-preserved c =
+    let x = get_or c.loop-kept_room.kept_room-items c.loop-kept_room.kept_room-index c.kept_room-item.result in
+    let within : c.loop-kept_room.kept_room-index < length c.loop-kept_room.kept_room-items = omega arith in
+    rw (c.restarted.ensures.state, c.restarted.ensures.recent) (map_over_more (kept_restarted c.args.now) c.deref_mut-kept_room-items.result.now c.loop-kept_room.kept_room-items c.loop-kept_room.kept_room-index x (omega arith) c.loop-kept_room.invariant (get_or_default c.loop-kept_room.kept_room-items c.loop-kept_room.kept_room-index c.kept_room-item.result x within))

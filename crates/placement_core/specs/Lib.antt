@@ -1,0 +1,4 @@
+pub mod Placement
+pub mod Kept
+pub mod Views
+pub mod Runs

@@ -1,0 +1,71 @@
+-- What contracts see of a placement: its state.
+use Rattle.std.specs.Prelude.{◌≡◌, ◌<◌, ℕ, List, length, Option, None, Some}
+use Rattle.std.specs.List.{slice_get}
+use Rattle.round_core.specs.declared.event.PlaceEvent.{PlaceEvent}
+use Rattle.round_core.specs.declared.event.PlaceEvent.TheVariants as events
+use Rattle.round_core.specs.declared.event.PlaceReply.{PlaceReply}
+use Rattle.round_core.specs.declared.event.PlaceReply.TheVariants as replies
+use Rattle.round_core.specs.Room.{RoomState, room_step}
+use Rattle.placement_core.specs.Placement.{SpaceRoom, PlacementState, PlacementStep, room_at, put_room, placement_step}
+
+pub record PlacementView : Type 0 where
+  pub state : PlacementState
+
+-- what a step gives: the reply and the state of the definition
+abbrev pub Gives : PlaceEvent → ℕ → PlaceReply → PlacementState → PlacementState → Type 0
+Gives event now reply old new = (reply ≡ (placement_step old event now).reply) × (new ≡ (placement_step old event now).state)
+
+-- the same, but at want of memory the state is as before
+abbrev pub GivesInMemory : PlaceEvent → ℕ → PlaceReply → PlacementState → PlacementState → Type 0
+GivesInMemory event now replies.OutOfMemory old new = new ≡ old
+GivesInMemory event now reply old new = Gives event now reply old new
+
+-- a Register may want memory, and no other event
+abbrev pub GivesStep : PlaceEvent → ℕ → PlaceReply → PlacementState → PlacementState → Type 0
+GivesStep (events.Register host) now reply old new = GivesInMemory (events.Register host) now reply old new
+GivesStep event now reply old new = Gives event now reply old new
+
+-- what a member of this space does, which makes no room
+abbrev pub IsOfMember : PlaceEvent → List ℕ → Type 0
+IsOfMember (events.Register host) space = ⊥
+IsOfMember (events.Beat m) space = space ≡ m.space
+IsOfMember (events.Ack m stage version) space = space ≡ m.space
+IsOfMember (events.Leave m) space = space ≡ m.space
+IsOfMember (events.Lost m) space = space ≡ m.space
+IsOfMember events.Tick space = ⊥
+IsOfMember events.Look space = ⊥
+
+-- the space of what a member does, if it is that
+abbrev pub ActsIn : PlaceEvent → Option (List ℕ) → Type 0
+ActsIn event (Some space) = IsOfMember event space
+ActsIn (events.Register host) None = Unit {0}
+ActsIn events.Tick None = Unit {0}
+ActsIn events.Look None = Unit {0}
+ActsIn event None = ⊥
+
+-- there is a room at this place, and a member at that place of it
+abbrev pub IsMemberPlace : List SpaceRoom → ℕ → ℕ → Type 0
+IsMemberPlace rooms at member = (at < length rooms) × ((r : SpaceRoom) → slice_get rooms at ≡ Some r → member < length r.room.members)
+
+-- ---- a step in the room of a space
+
+abbrev pub StepsRoom : PlaceEvent → ℕ → List ℕ → RoomState → PlaceReply → List SpaceRoom → List SpaceRoom → Type 0
+StepsRoom event now space room reply old new = (reply ≡ (room_step room event now).reply) × (new ≡ put_room old space (room_step room event now).state)
+
+abbrev pub StepsInMemory : PlaceEvent → ℕ → List ℕ → RoomState → PlaceReply → List SpaceRoom → List SpaceRoom → Type 0
+StepsInMemory event now space room replies.OutOfMemory old new = new ≡ old
+StepsInMemory event now space room reply old new = StepsRoom event now space room reply old new
+
+abbrev pub StepsAny : PlaceEvent → ℕ → List ℕ → RoomState → PlaceReply → List SpaceRoom → List SpaceRoom → Type 0
+StepsAny (events.Register host) now space room reply old new = StepsInMemory (events.Register host) now space room reply old new
+StepsAny event now space room reply old new = StepsRoom event now space room reply old new
+
+pub record HasStepped (event : PlaceEvent) (now : ℕ) (space : List ℕ) (reply : PlaceReply) (old new : List SpaceRoom) : Type 0 where
+  pub room : RoomState
+  pub is : room_at old space ≡ Some room
+  pub steps : StepsAny event now space room reply old new
+
+-- no room of the space, and nothing has changed; or the event happened there
+abbrev pub Steps : PlaceEvent → ℕ → List ℕ → Option PlaceReply → List SpaceRoom → List SpaceRoom → Type 0
+Steps event now space None old new = (room_at old space ≡ None) × (new ≡ old)
+Steps event now space (Some reply) old new = HasStepped event now space reply old new

@@ -1,0 +1,261 @@
+// The placement: one step at a time, each in the room of its space.
+ghost use Rattle.std.specs.Prelude.{◌≡◌, ◌<◌, ◌≤◌, Some, None, IfOk, OnOk, OnErr, length};
+ghost use Rattle.std.specs.List.{slice_get};
+ghost use Rattle.member_roster.specs.Members.{hosts_of, is_late, Joined};
+ghost use Rattle.member_roster.specs.Places.{Ascends, host_node};
+ghost use Rattle.round_core.specs.Room.{last_version};
+ghost use Rattle.placement_core.specs.Kept.{shown};
+ghost use Rattle.placement_core.specs.Placement.{SpaceRoom, new_placement, room_at, room_of, placement_restarted};
+ghost use Rattle.placement_core.specs.Runs.{AreRooms};
+ghost use Rattle.placement_core.specs.Views.{ActsIn, Gives, GivesInMemory, GivesStep, IsMemberPlace, IsOfMember};
+
+use crate::rooms::Rooms;
+use actor_names::{OutOfMemory, Space, default_space};
+use place_table::HostInfo;
+use round_core::{PlaceEvent, PlaceReply, Room};
+use std::alloc::Global;
+use std::marker::Model;
+
+/// The most spaces of a placement.
+pub const MOST_SPACES: u32 = 64;
+
+/// The rooms of a cluster, one for each space, in byte order of space: at most 64, and that of `default` at first. The
+/// opening placement keeps no room yet, so that it takes no memory.
+#[derive(Drop)]
+pub struct Placement {
+    alloc: Global,
+    rooms: Rooms,
+}
+
+impl Model for Placement {
+    ghost use Rattle.placement_core.specs.Kept.{shown};
+    ghost use Rattle.placement_core.specs.Views.{PlacementView};
+
+    ghost Value = { PlacementView };
+
+    ghost view = { λ a. record { state = shown a.rooms } };
+}
+
+/// The room `default` is kept, where none is.
+fn keep_default(alloc: Global, rooms: &mut Rooms) -> Result<(), OutOfMemory>
+    ensures ok { OnOk result (rooms.new ≡ (shown rooms.old).rooms) }
+    ensures err { OnErr result (rooms.new ≡ rooms.old) }
+{
+    if rooms.len() > 0 {
+        return Ok(());
+    }
+    rooms.insert(default_space(), Room::new(alloc))
+}
+
+/// The space of a member that does something; None where it is no member that does.
+fn acting_space(event: &PlaceEvent) -> Option<Space>
+    ensures { ActsIn event.now result }
+{
+    match event {
+        PlaceEvent::Beat { member } => Some(member.space),
+        PlaceEvent::Ack {
+            member,
+            stage: _,
+            version: _,
+        } => Some(member.space),
+        PlaceEvent::Leave { member } => Some(member.space),
+        PlaceEvent::Lost { member } => Some(member.space),
+        _ => None,
+    }
+}
+
+/// A host joins a space that has no room: the room is made, unless it is refused.
+fn open_room(alloc: Global, rooms: &mut Rooms, host: HostInfo, now: u64) -> PlaceReply
+    requires kept { 0 < length rooms.old }
+    requires free { room_at rooms.old host.member.space ≡ None }
+    ensures { GivesInMemory (PlaceEvent.Register host) now result (shown rooms.old) (shown rooms.new) }
+{
+    let spaces = rooms.len();
+    if spaces >= MOST_SPACES {
+        return PlaceReply::SpacesFull { spaces };
+    }
+    let member = host.member;
+    if member.boot == 0 {
+        return PlaceReply::StaleBoot { greatest: 0 };
+    }
+    let event = PlaceEvent::Register { host };
+    let mut room = Room::new(alloc);
+    let reply = room.step(event, now);
+    if matches!(reply, PlaceReply::OutOfMemory) {
+        return PlaceReply::OutOfMemory;
+    }
+    match rooms.insert(member.space, room) {
+        Ok(()) => reply,
+        Err(_) => PlaceReply::OutOfMemory,
+    }
+}
+
+impl Placement {
+    /// The opening state: the room `default`, where nobody is. It takes no memory.
+    pub fn new(alloc: Global) -> Placement
+        ensures { result.state ≡ new_placement }
+    {
+        Placement {
+            alloc,
+            rooms: Rooms::new(alloc),
+        }
+    }
+
+    /// The hosts of the table of this space that was fixed last, in byte order of node; none before the first, and for a
+    /// space without a room.
+    pub fn table_hosts(&self, space: &Space) -> &[HostInfo]
+        ensures hosts { result.now ≡ (room_of self.now.state space.now).table }
+        ensures order { Ascends host_node result.now }
+    {
+        match self.rooms.room(space) {
+            Some(room) => room.table_hosts(),
+            None => &[],
+        }
+    }
+
+    /// The hosts of this space's members, in byte order of node; none for a space without a room.
+    pub fn members(&self, space: &Space) -> &[HostInfo]
+        ensures hosts { result.now ≡ hosts_of (room_of self.now.state space.now).members }
+        ensures order { Ascends host_node result.now }
+    {
+        match self.rooms.room(space) {
+            Some(room) => room.members(),
+            None => &[],
+        }
+    }
+
+    /// The last version used in this space, 0 before the first round, and for a space without a room.
+    pub fn last_version(&self, space: &Space) -> u64
+        ensures { result ≡ last_version (room_of self.now.state space.now) }
+    {
+        match self.rooms.room(space) {
+            Some(room) => room.last_version(),
+            None => 0,
+        }
+    }
+
+    /// How many rooms there are, from 1 to 64. They stand in byte order of space, no space twice.
+    pub fn rooms(&self) -> usize
+        ensures count { result ≡ length self.now.state.rooms }
+        ensures within { result ≤ 64 }
+        ensures order { AreRooms self.now.state.rooms }
+    {
+        let rooms = self.rooms.len();
+        if rooms == 0 { 1 } else { rooms as usize }
+    }
+
+    /// The space of the room at this place, from 0 in byte order of space.
+    pub fn space_at(&self, at: usize) -> Space
+        requires { at < length self.now.state.rooms }
+        ensures { (r : SpaceRoom) → slice_get self.now.state.rooms at ≡ Some r → result ≡ r.space }
+    {
+        if self.rooms.len() == 0 {
+            return default_space();
+        }
+        self.rooms.space_at(at)
+    }
+
+    /// The hosts of the members of the room at this place, in byte order of node.
+    pub fn members_at(&self, at: usize) -> &[HostInfo]
+        requires { at < length self.now.state.rooms }
+        ensures hosts { (r : SpaceRoom) → slice_get self.now.state.rooms at ≡ Some r → result.now ≡ hosts_of r.room.members }
+        ensures order { Ascends host_node result.now }
+    {
+        if self.rooms.len() == 0 {
+            return &[];
+        }
+        self.rooms.room_at(at).members()
+    }
+
+    /// The last version used in the room at this place, 0 before its first round.
+    pub fn last_version_at(&self, at: usize) -> u64
+        requires { at < length self.now.state.rooms }
+        ensures { (r : SpaceRoom) → slice_get self.now.state.rooms at ≡ Some r → result ≡ last_version r.room }
+    {
+        if self.rooms.len() == 0 {
+            return 0;
+        }
+        self.rooms.room_at(at).last_version()
+    }
+
+    /// Whether the member at a place of `members_at` was not heard for 10,000 milliseconds or more at the moment `now`.
+    /// These are the members that a Tick at that moment drops.
+    pub fn is_late(&self, at: usize, member: usize, now: u64) -> bool
+        requires { IsMemberPlace self.now.state.rooms at member }
+        ensures { (r : SpaceRoom) (j : Joined) → slice_get self.now.state.rooms at ≡ Some r → slice_get r.room.members member ≡ Some j → result ≡ is_late now j }
+    {
+        if self.rooms.len() == 0 {
+            return false;
+        }
+        self.rooms.room_at(at).is_late(member, now)
+    }
+
+    /// A host is to join the room of its space, or is heard again.
+    fn register(&mut self, host: HostInfo, now: u64) -> PlaceReply
+        ensures { GivesInMemory (PlaceEvent.Register host) now result self.old.state self.new.state }
+    {
+        if keep_default(self.alloc, &mut self.rooms).is_err() {
+            return PlaceReply::OutOfMemory;
+        }
+        let member = host.member;
+        if self.rooms.room(&member.space).is_none() {
+            return open_room(self.alloc, &mut self.rooms, host, now);
+        }
+        let event = PlaceEvent::Register { host };
+        match self.rooms.step(&member.space, event, now) {
+            Some(reply) => reply,
+            None => unreachable!(),
+        }
+    }
+
+    /// What a member does in the room of its space.
+    fn act(&mut self, space: Space, event: PlaceEvent, now: u64) -> PlaceReply
+        requires { IsOfMember event space }
+        ensures { Gives event now result self.old.state self.new.state }
+    {
+        match self.rooms.step(&space, event, now) {
+            Some(reply) => reply,
+            None => PlaceReply::NotMember { greatest: 0 },
+        }
+    }
+
+    /// Time has passed in all rooms.
+    fn tick(&mut self, now: u64) -> PlaceReply
+        ensures { Gives PlaceEvent.Tick now result self.old.state self.new.state }
+    {
+        let dropped = self.rooms.tick(now);
+        PlaceReply::Ticked { dropped }
+    }
+
+    /// One step of the placement at the moment `now`, in milliseconds since 1970: in the room of the member's space, a
+    /// Tick in all rooms. A refused event changes nothing; only a Register may want memory, and changes nothing then.
+    pub fn step(&mut self, event: PlaceEvent, now: u64) -> PlaceReply
+        ensures gives { GivesStep event now result self.old.state self.new.state }
+    {
+        if let Some(space) = acting_space(&event) {
+            return self.act(space, event, now);
+        }
+        match event {
+            PlaceEvent::Register { host } => self.register(host, now),
+            PlaceEvent::Tick => self.tick(now),
+            PlaceEvent::Look => PlaceReply::Looked,
+            _ => unreachable!(),
+        }
+    }
+
+    /// The restart of each room at the moment `now`, without memory: next versions, greatest boots and members are kept,
+    /// each member is heard, and a round starts in each room where one has ever started.
+    pub fn restarted(&mut self, now: u64)
+        ensures state { self.new.state ≡ placement_restarted self.old.state now }
+    {
+        self.rooms.restart(now);
+    }
+
+    /// An equal placement, on which a step can be tried.
+    pub fn copy(&self, alloc: Global) -> Result<Placement, OutOfMemory>
+        ensures { IfOk result (λ copy. copy ≡ self.now) }
+    {
+        let rooms = self.rooms.copy(alloc)?;
+        Ok(Placement { alloc, rooms })
+    }
+}
