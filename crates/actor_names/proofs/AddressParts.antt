@@ -1,4 +1,4 @@
--- What a number of an address that stands from `start` to `end` says of its text.
+-- What a number of an address, from `start` to `end`, says about its text.
 use Rattle.std.proofs.Common.{◌≡◌, ◌≢◌, ℕ, ◌+◌, ◌-◌, ◌<◌, ◌≤◌, List, [], length, get_or, take, drop, drop-cons, arith, Option, Some, None, Ok, Err, refl, eq-eqb}
 use Rattle.std.proofs.lemmas.Bool.{ne_eqb}
 use Rattle.std.proofs.lemmas.Grind.{common_steps}

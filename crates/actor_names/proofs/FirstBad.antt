@@ -1,8 +1,8 @@
--- The walk that looks for the first byte that fails a test.
+-- The loop that looks for the first byte that fails a test.
 use Rattle.std.proofs.Common.{◌≡◌, ℕ, ◌+◌, Bool, List, drop, Option, Some, None, option_map, refl, ap, arith}
 use Rattle.actor_names.specs.Names.{first_bad}
 
--- what is left of the search at `i`, placed in the whole text
+-- the rest of the search at `i`, its place counted in the whole text
 abbrev pub found_from : (ℕ → Bool) → List ℕ → ℕ → Option ℕ
 found_from ok text i = option_map (λ n. i + n) (first_bad ok (drop i text))
 

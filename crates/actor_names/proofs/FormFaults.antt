@@ -1,4 +1,4 @@
--- A text has its form exactly where it has no fault.
+-- A text has its form exactly if it has no fault.
 use Rattle.std.proofs.Common.{◌≡◌, ℕ, List, Option, None}
 use Rattle.actor_names.specs.declared.error.NameError.{NameError}
 use Rattle.actor_names.specs.Names.{HasForm}

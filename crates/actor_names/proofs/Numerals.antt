@@ -48,14 +48,14 @@ whole low most text (Some m) is sound =
 pub number_fault-none : (low most : ℕ) (text : List ℕ) → number_fault low most text ≡ None → IsNumber low most text
 number_fault-none low most text sound = whole low most text (number_of most (numeral_of text)) refl sound
 
--- a number that was read from `start` to `end` is the one at the head of what stands there
+-- a number that was read from `start` to `end` is the one at the head of the text from `start` on
 pub number_of-piece : (most start end : ℕ) (text : List ℕ) (found : Option ℕ) → end ≡ start + length (numeral_of (drop start text)) → found ≡ number_of most (take (end - start) (drop start text)) → number_of most (numeral_of (drop start text)) ≡ found
 number_of-piece most start end text found ends is =
     let size : length (numeral_of (drop start text)) ≡ end - start = omega arith in
     let piece : numeral_of (drop start text) ≡ take (end - start) (drop start text) = sym (take-numeral_of (drop start text)) ∙ ap (λ n. take n (drop start text)) size in
     ap (number_of most) piece ∙ sym is
 
--- the fault of a number that stands from `start` to `end`
+-- the fault of a number from `start` to `end`
 pub number_fault-piece : (low most start end : ℕ) (text : List ℕ) (found : Option ℕ) → end ≡ start + length (numeral_of (drop start text)) → found ≡ number_of most (take (end - start) (drop start text)) → number_fault low most (drop start text) ≡ ended_fault low (end - start) (length text - start) found
 number_fault-piece low most start end text found ends is =
     let size : length (numeral_of (drop start text)) ≡ end - start = omega arith in
@@ -65,7 +65,7 @@ number_fault-piece low most start end text found ends is =
     ∙ ap (λ e. ended_fault low e (length (drop start text)) found) size
     ∙ ap (λ n. ended_fault low (end - start) n found) left
 
--- a number in its range ends before the text does
+-- a number in its range that ends before the text is a fault at the byte after it
 pub placed_late : (low start end n number : ℕ) → low ≤ number → start ≤ end → end < n → Some (BadByte end) ≡ option_map (placed_from start) (ended_fault low (end - start) (n - start) (Some number))
 placed_late low start end n number least after before =
     let lower : nat_le low number ≡ true = le-leb low number least in

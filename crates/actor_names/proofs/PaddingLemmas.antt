@@ -4,7 +4,7 @@ use Rattle.std.proofs.lemmas.Grind.{common_steps}
 use Rattle.std.proofs.lemmas.List.{drop-replicate}
 use Rattle.actor_names.specs.Padding.{IsPadded}
 
--- the text is what stands before the zeros
+-- the text is what comes before the zeros
 pub take-fill : (text : List ℕ) → length text ≤ 64 → take (length text) (text ++ drop (length text) (replicate 64 0)) ≡ text
 take-fill text low = grind (arith, common_steps)
 

@@ -6,12 +6,12 @@ use Rattle.actor_names.specs.declared.error.NameError.{NameError}
 use Rattle.actor_names.proofs.FirstBad.{found_from, found_from-start}
 use Rattle.actor_names.specs.Names.{first_bad, is_type_byte, before_slash, after_slash, local_key_fault, second_fault, actor_id_fault, actor_type_fault, first_of_two, placed_from}
 
--- the parts by whether the first byte is a slash
+-- by cases: whether the first byte is a slash
 cut_cons : (b : ℕ) (bs : List ℕ) (test : Bool) → take (length (before_slash bs)) bs ≡ before_slash bs → take (length (if test then [] else b ∷ before_slash bs)) (b ∷ bs) ≡ (if test then [] else b ∷ before_slash bs)
 cut_cons b bs true rest = refl
 cut_cons b bs false rest = ap (λ xs. b ∷ xs) rest
 
--- as many bytes of the text as stand before the slash are those before the slash
+-- the first bytes of the text, as many as come before the slash, are the bytes before the slash
 pub take-before_slash : (text : List ℕ) → take (length (before_slash text)) text ≡ before_slash text
 take-before_slash [] = refl
 take-before_slash (b ∷ bs) = cut_cons b bs (b == 47) (take-before_slash bs)
@@ -28,7 +28,7 @@ rest_cons : (b : ℕ) (bs : List ℕ) (test : Bool) → (length (before_slash bs
 rest_cons b bs true rest below = refl
 rest_cons b bs false rest below = rest (omega arith) ∙ rw (add-one, add-one) refl
 
--- the text has a slash where fewer than all its bytes stand before it
+-- the text has a slash if the bytes before it are fewer than all
 pub after_slash-some : (text : List ℕ) → length (before_slash text) < length text → after_slash text ≡ Some (drop (length (before_slash text) + 1) text)
 after_slash-some [] below = absurd (omega arith)
 after_slash-some (b ∷ bs) below = rest_cons b bs (b == 47) (after_slash-some bs) below
@@ -41,7 +41,7 @@ pub after_slash-none : (text : List ℕ) → length text ≤ length (before_slas
 after_slash-none [] past = refl
 after_slash-none (b ∷ bs) past = none_cons b bs (b == 47) (after_slash-none bs) past
 
--- the bytes before the slash are `n`, and each passes the test of types
+-- `n` bytes come before the slash, and each may be in a type
 pub record IsKindAt (text : List ℕ) (n : ℕ) : Type 0 where
   pub ends : length (before_slash text) ≡ n
   pub passes : first_bad is_type_byte (before_slash text) ≡ None
@@ -72,16 +72,16 @@ stops_cons b bs n false found is rest at slash =
     let P : ℕ → Type 0 = λ k. IsKindAt (b ∷ bs) k in
     subst P first (kind_at_slash b bs (rw (← first) at slash))
 
--- where the first byte that no type has is a slash, it ends the type
+-- if the first byte that no type may have is a slash, it ends the type
 pub kind_ends : (text : List ℕ) (n : ℕ) → first_bad is_type_byte text ≡ Some n → get_or text n 0 ≡ 47 → IsKindAt text n
 kind_ends [] n at slash = cc
 kind_ends (b ∷ bs) n at slash = stops_cons b bs n (is_type_byte b) (first_bad is_type_byte bs) refl (kind_ends bs) at slash
 
--- the same, of the walk's answer
+-- the same for the loop's result
 pub kind_found : (text : List ℕ) (n : ℕ) (found : Option ℕ) → found ≡ found_from is_type_byte text 0 → found ≡ Some n → get_or text n 0 ≡ 47 → IsKindAt text n
 kind_found text n found walked is slash = kind_ends text n (sym (found_from-start is_type_byte text) ∙ sym walked ∙ is) slash
 
--- a text whose type is sound has the faults of its id
+-- if the type has no fault, the text's fault is that of its id
 pub local_key_fault-kind : (text : List ℕ) (n : ℕ) → IsKindAt text n → 0 < n → n ≤ 64 → local_key_fault text ≡ second_fault actor_id_fault text (after_slash text)
 local_key_fault-kind text n kind low high =
     let some : (length (before_slash text) == 0) ≡ false = grind (arith, nat_tests) in
@@ -107,7 +107,7 @@ has_slash text first fault sound = elim (cases_lt (length (before_slash text)) (
       cc
 ]
 
--- where the text of two pieces has no fault, its second piece has none
+-- if a text of two pieces has no fault, its second piece has none
 pub second_sound : (text rest : List ℕ) (first : Option NameError) (fault : List ℕ → Option NameError) → first_of_two first (second_fault fault text (after_slash text)) ≡ None → Some rest ≡ after_slash text → fault rest ≡ None
 second_sound text rest first fault sound is =
     let last : second_fault fault text (after_slash text) ≡ None = first_none first _ sound in
@@ -118,6 +118,6 @@ second_sound text rest first fault sound is =
 pub local_key_has_slash : (text : List ℕ) → local_key_fault text ≡ None → length (before_slash text) < length text
 local_key_has_slash text sound = has_slash text (actor_type_fault (before_slash text)) actor_id_fault sound
 
--- the fault of the id where there is a slash
+-- the fault of the second piece if there is a slash
 pub second_fault-slash : (text : List ℕ) (fault : List ℕ → Option NameError) → length (before_slash text) < length text → second_fault fault text (after_slash text) ≡ option_map (placed_from (length (before_slash text) + 1)) (fault (drop (length (before_slash text) + 1) text))
 second_fault-slash text fault below = rw (after_slash-some text below)

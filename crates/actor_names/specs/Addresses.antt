@@ -7,23 +7,23 @@ use Rattle.actor_names.specs.declared.address.Part.{Part}
 use Rattle.lists_and_limits.specs.Decimals.{number_of}
 use Rattle.actor_names.specs.Numerals.{numeral_of}
 
--- what a later piece makes of what an earlier one read; the first fault stands
+-- reads a later piece with what an earlier one read; the first fault is the answer
 abbrev pub then_read : {A B : Type 0} → Result A NameError → (A → Result B NameError) → Result B NameError
 then_read (Ok read) next = next read
 then_read (Err fault) next = Err fault
 
--- a number that is missing or out of its range is a fault at its first place, a byte other than `joint` after it,
--- or none, one at that byte's place
+-- a number that is missing or out of range is a fault at its first place; a byte other than `joint` after it, or none,
+-- is a fault at that byte's place
 abbrev pub joined : ℕ → ℕ → ℕ → List ℕ → Option ℕ → Result Part NameError
 joined joint start end rest None = Err (BadByte start)
 joined joint start end [] (Some number) = Err (BadByte end)
 joined joint start end (b ∷ bs) (Some number) = if b == joint then Ok (record { number = number; next = end + 1 }) else Err (BadByte end)
 
--- a number up to 255 and the byte `joint`, where the text stands at `start` of the whole
+-- a number up to 255 and the byte `joint`, in a text that begins at `start` of the whole
 unfoldable pub part_reading : ℕ → ℕ → List ℕ → Result Part NameError
 part_reading joint start text = joined joint start (start + length (numeral_of text)) (drop (length (numeral_of text)) text) (number_of 255 (numeral_of text))
 
--- the same of a number that ends the text
+-- the same for a number that ends the text
 abbrev pub ended : ℕ → ℕ → List ℕ → Option ℕ → Result ℕ NameError
 ended start end rest None = Err (BadByte start)
 ended start end [] (Some number) = Ok number
@@ -43,7 +43,7 @@ address_reading text =
     then_read (port_reading d.next (drop d.next text)) (λ port.
     Ok (record { ip = ((a.number * 256 + b.number) * 256 + c.number) * 256 + d.number; port = port }))))))
 
--- the first fault of a text that is to be an address
+-- the first fault of a text that should be an address
 abbrev pub fault_of : {A : Type 0} → Result A NameError → Option NameError
 fault_of (Ok read) = None
 fault_of (Err fault) = Some fault

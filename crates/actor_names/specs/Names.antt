@@ -13,11 +13,11 @@ is_node_byte b = is_between 97 122 b || is_between 48 57 b || (b == 45)
 abbrev pub is_type_byte : ℕ → Bool
 is_type_byte b = is_between 97 122 b || is_between 65 90 b || is_between 48 57 b || (b == 45) || (b == 95) || (b == 46)
 
--- a visible character of ASCII: chains
+-- a visible ASCII character: chains
 abbrev pub is_chain_byte : ℕ → Bool
 is_chain_byte b = is_between 33 126 b
 
--- a visible character of ASCII but `/`: actor ids and the names of records
+-- a visible ASCII character except `/`: actor ids and the names of records
 abbrev pub is_id_byte : ℕ → Bool
 is_id_byte b = is_chain_byte b && not (b == 47)
 
@@ -55,24 +55,24 @@ chain_id_fault text = text_fault is_chain_byte 128 text
 abbrev pub record_name_fault : List ℕ → Option NameError
 record_name_fault text = text_fault is_id_byte 128 text
 
--- what stands before the first `/`, or all of the text
+-- the bytes before the first `/`, or the whole text if it has none
 abbrev pub before_slash : List ℕ → List ℕ
 before_slash [] = []
 before_slash (b ∷ bs) = if b == 47 then [] else b ∷ before_slash bs
 
--- what stands after the first `/`, where there is one
+-- the bytes after the first `/`, if there is one
 abbrev pub after_slash : List ℕ → Option (List ℕ)
 after_slash [] = None
 after_slash (b ∷ bs) = if b == 47 then Some bs else after_slash bs
 
--- a fault of a piece that begins at `start`, placed in the whole text
+-- a fault of a piece that begins at `start`, its place counted in the whole text
 abbrev pub placed_from : ℕ → NameError → NameError
 placed_from start Empty = Empty
 placed_from start (TooLong n) = TooLong n
 placed_from start (BadByte at) = BadByte (start + at)
 placed_from start OutOfMemory = OutOfMemory
 
--- the fault of what stands after the slash; without a slash it is missing at the text's end
+-- the fault of the piece after the slash; without a slash, a byte is missing at the text's end
 abbrev pub second_fault : (List ℕ → Option NameError) → List ℕ → Option (List ℕ) → Option NameError
 second_fault fault text None = Some (BadByte (length text))
 second_fault fault text (Some rest) = option_map (placed_from (length (before_slash text) + 1)) (fault rest)
@@ -88,16 +88,16 @@ local_key_fault text = first_of_two (actor_type_fault (before_slash text)) (seco
 
 -- ---- a space before a colon
 
--- the space of all that is named without one
+-- the space of everything that is named without one
 abbrev pub default_space : List ℕ
 default_space = codes "default"
 
--- the place of the colon that ends a space: the first one, where it stands before each `/`
+-- the place of the colon that ends a space: the first colon, if no `/` comes before it
 abbrev pub space_end : List ℕ → Option ℕ
 space_end [] = None
 space_end (b ∷ bs) = if b == 58 then Some 0 else (if b == 47 then None else option_map (λ n. n + 1) (space_end bs))
 
--- the space of a text, and what stands behind it
+-- the space of a text, and what follows it
 abbrev pub space_at : List ℕ → Option ℕ → List ℕ
 space_at text None = default_space
 space_at text (Some n) = take n text
@@ -124,6 +124,6 @@ spaced_fault fault text = spaced_fault_at fault text (space_end text)
 abbrev pub key_fault : List ℕ → Option NameError
 key_fault text = spaced_fault local_key_fault text
 
--- a text without a fault of its form; a word of its own, so that a proof about something else doesn't look into it
+-- a text without a fault of its form; a definition of its own, so that proofs about other things don't unfold it
 unfoldable pub HasForm : (List ℕ → Option NameError) → List ℕ → Type 0
 HasForm fault text = fault text ≡ None

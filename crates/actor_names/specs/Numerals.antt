@@ -1,4 +1,4 @@
--- Numbers that are pieces of a text, and the place of the first byte that can't stand in them. Own.
+-- Numbers that are pieces of a text, and the place of the first byte that isn't allowed in them. Own.
 use Rattle.std.specs.Prelude.{ℕ, ◌==◌, nat_le, if◌then◌else◌, List, [], ◌∷◌, length, Option, Some, None, take_while}
 use Rattle.actor_names.specs.declared.error.NameError.{NameError}
 use Rattle.actor_names.specs.declared.error.NameError.TheVariants.{BadByte}
@@ -11,12 +11,12 @@ abbrev pub numeral_of : List ℕ → List ℕ
 numeral_of [] = []
 numeral_of (b ∷ bs) = if b == 48 then b ∷ [] else take_while is_digit (b ∷ bs)
 
--- a missing number and one out of its range are faults at the number's first place
+-- a missing number and one out of range are faults at the number's first place
 abbrev pub ended_fault : ℕ → ℕ → ℕ → Option ℕ → Option NameError
 ended_fault low end n None = Some (BadByte 0)
 ended_fault low end n (Some number) = if nat_le low number then (if end == n then None else Some (BadByte end)) else Some (BadByte 0)
 
--- the first fault of a text that is to be a number from `low` to `most`
+-- the first fault of a text that should be a number from `low` to `most`
 abbrev pub number_fault : ℕ → ℕ → List ℕ → Option NameError
 number_fault low most text = ended_fault low (length (numeral_of text)) (length text) (number_of most (numeral_of text))
 

@@ -1,7 +1,7 @@
 -- A text of at most 64 bytes kept in an array of 64, the rest of it 0. Own.
 use Rattle.std.specs.Prelude.{◌≡◌, ℕ, ◌-◌, ◌≤◌, List, ◌++◌, length, take, replicate}
 
--- the text, and 0 up to 64 bytes
+-- the text, filled with 0 up to 64 bytes
 abbrev pub padded : List ℕ → List ℕ
 padded text = text ++ replicate (64 - length text) 0
 

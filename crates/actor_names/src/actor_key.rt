@@ -40,14 +40,14 @@ impl ActorKey {
     }
 }
 
-/// The bytes before the first `/`: the type of a key's text without a space. All of the text where it has no `/`.
+/// The bytes before the first `/`: the type, if the text is a key without a space. The whole text if it has no `/`.
 pub fn key_kind(text: &[u8]) -> &[u8]
     ensures { result.now ≡ before_slash text.now }
 {
     first_piece(text)
 }
 
-// The fault of what stands after the type, which ends at `end`.
+// The fault of what follows the type, which ends at `end`.
 fn id_part_fault(text: &[u8], end: usize) -> Option<NameError>
     requires { end ≡ length (before_slash text.now) }
     ensures { result ≡ second_fault actor_id_fault text.now (after_slash text.now) }
@@ -59,7 +59,7 @@ fn id_part_fault(text: &[u8], end: usize) -> Option<NameError>
     fault_in::<IdBytes>(text, end + 1, MOST_ACTOR_ID_BYTES)
 }
 
-/// Why a text is no key without a space, `TYPE/ID`; None where it is one. A key is looked over once.
+/// Why a text isn't a key without a space, `TYPE/ID`; None if it is one. A key is scanned only once.
 pub fn local_key_fault(text: &[u8]) -> Option<NameError>
     ensures { result ≡ local_key_fault text.now }
 {
@@ -76,8 +76,8 @@ pub fn local_key_fault(text: &[u8]) -> Option<NameError>
     }
 }
 
-/// Reads the key of an actor in a space from a text without it, `TYPE/ID`. A fault is answered before memory is
-/// asked for.
+/// Reads the key of an actor in the given space from a text without the space, `TYPE/ID`. A fault is reported before
+/// any memory is allocated.
 pub fn read_local_key(alloc: Global, space: &Space, text: &[u8]) -> Result<ActorKey, NameError>
     ensures space { IfOk result (λ key. key.space ≡ space.now) }
     ensures kind { IfOk result (λ key. key.kind ≡ before_slash text.now) }
@@ -99,7 +99,7 @@ pub fn read_local_key(alloc: Global, space: &Space, text: &[u8]) -> Result<Actor
     }
 }
 
-// The fault of a key behind a space that ends at `end`, placed in the whole text.
+// The fault of the key after a space that ends at `end`; its place is counted in the whole text.
 fn behind_space_fault(text: &[u8], end: usize) -> Option<NameError>
     requires { end < length text.now }
     ensures { result ≡ option_map (placed_from (end + 1)) (local_key_fault (drop (end + 1) text.now)) }
@@ -112,7 +112,7 @@ fn behind_space_fault(text: &[u8], end: usize) -> Option<NameError>
     }
 }
 
-/// Why a text is no key, `TYPE/ID` or `SPACE:TYPE/ID`; None where it is one. A colon ends a space only before the
+/// Why a text isn't a key, `TYPE/ID` or `SPACE:TYPE/ID`; None if it is one. A colon ends a space only before the
 /// first `/`, since an id may have colons.
 pub fn key_fault(text: &[u8]) -> Option<NameError>
     ensures { result ≡ key_fault text.now }
@@ -126,8 +126,8 @@ pub fn key_fault(text: &[u8]) -> Option<NameError>
     }
 }
 
-/// Reads an actor key, `TYPE/ID` in the space `default` or `SPACE:TYPE/ID`. A fault is answered before memory is
-/// asked for.
+/// Reads an actor key, `TYPE/ID` in the space `default` or `SPACE:TYPE/ID`. A fault is reported before any memory
+/// is allocated.
 pub fn read_key(alloc: Global, text: &[u8]) -> Result<ActorKey, NameError>
     ensures space { IfOk result (λ key. key.space ≡ space_in text.now) }
     ensures kind { IfOk result (λ key. key.kind ≡ before_slash (local_in text.now)) }

@@ -6,10 +6,10 @@ use crate::error::NameError;
 use crate::numeral::numeral_end;
 use lists_and_limits::read_decimal;
 
-/// An address of the fourth version of IP, and a port. It is copied without memory.
+/// An IPv4 address and a port. Copies take no memory.
 #[derive(Clone, Copy, Debug, PartialEq, Eq)]
 pub struct Address {
-    /// The four numbers, the first as the highest byte.
+    /// The four numbers; the first is the highest byte.
     pub ip: u32,
     /// The port.
     pub port: u16,
@@ -24,7 +24,7 @@ impl Address {
     }
 }
 
-// A number with the byte that joins it to the next, which begins at `next`.
+// A number that was read, and `next`, the place after the byte that joins it to the next number.
 #[derive(Clone, Copy)]
 struct Part {
     number: u64,
@@ -75,7 +75,7 @@ fn read_port(text: &[u8], start: usize) -> Result<u64, NameError>
     }
 }
 
-/// Reads an address, without memory.
+/// Reads an address; takes no memory.
 pub fn read_address(text: &[u8]) -> Result<Address, NameError>
     ensures { result ≡ address_reading text.now }
 {
@@ -91,7 +91,7 @@ pub fn read_address(text: &[u8]) -> Result<Address, NameError>
     })
 }
 
-/// Why a text is no address; None where it is one.
+/// Why a text isn't an address; None if it is one.
 pub fn address_fault(text: &[u8]) -> Option<NameError>
     ensures { result ≡ address_fault text.now }
 {

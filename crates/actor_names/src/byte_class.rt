@@ -1,4 +1,4 @@
-// Which bytes a form allows, and the first fault of a text of one form.
+// Which bytes a form allows, and the first fault of a text that should have one form.
 ghost use Rattle.std.specs.Prelude.{◌≡◌, ◌+◌, ◌<◌, ◌≤◌, length, drop, option_map, IfSome};
 ghost use Rattle.actor_names.specs.Names.{text_fault, first_bad, placed_from};
 
@@ -30,7 +30,7 @@ impl ByteClass for NodeBytes {
 /// Letters, digits, `-`, `_` and `.`.
 pub struct TypeBytes;
 
-// Each byte of a type stands at its own place, and a comma at every other place.
+// Each byte that a type may have is at its own index; every other index has a comma.
 static TYPE_BYTES: [u8; 256] = *b"\
     ,,,,,,,,,,,,,,,,,,,,,,,,,,,,,,,,\
     ,,,,,,,,,,,,,-.,0123456789,,,,,,\
@@ -51,7 +51,7 @@ impl ByteClass for TypeBytes {
     }
 }
 
-/// The visible characters of ASCII.
+/// The visible ASCII characters.
 pub struct ChainBytes;
 
 impl ByteClass for ChainBytes {
@@ -64,7 +64,7 @@ impl ByteClass for ChainBytes {
     }
 }
 
-/// The visible characters of ASCII but `/`.
+/// The visible ASCII characters except `/`.
 pub struct IdBytes;
 
 impl ByteClass for IdBytes {
@@ -77,7 +77,7 @@ impl ByteClass for IdBytes {
     }
 }
 
-/// The place of the first byte from `start` on that isn't of the class.
+/// The place of the first byte from `start` on that isn't in the class.
 pub fn bad_place<C: ByteClass>(text: &[u8], start: usize) -> Option<usize>
     requires { start ≤ length text.now }
     ensures place { result ≡ option_map (λ n. start + n) (first_bad C.test (drop start text.now)) }
@@ -91,8 +91,8 @@ pub fn bad_place<C: ByteClass>(text: &[u8], start: usize) -> Option<usize>
     None
 }
 
-/// The first fault of what stands from `start` on, placed in the whole text, where that is to have 1 to `most`
-/// bytes of the class.
+/// The first fault of the text from `start` on, which should have 1 to `most` bytes of the class; the fault's place
+/// is counted in the whole text.
 pub fn fault_in<C: ByteClass>(text: &[u8], start: usize, most: usize) -> Option<NameError>
     requires { start ≤ length text.now }
     ensures { result ≡ option_map (placed_from start) (text_fault C.test most (drop start text.now)) }

@@ -39,7 +39,7 @@ impl Model for ChainId {
 }
 
 impl ChainId {
-    // The identifier of these bytes.
+    // The identifier with these bytes.
     #[tactic(auto, unfolding(crate::specs::Names::HasForm))]
     fn from_bytes(alloc: Global, bytes: &[u8]) -> Result<ChainId, OutOfMemory>
         requires { chain_id_fault bytes.now ≡ None }
@@ -106,14 +106,14 @@ impl Ord for ChainId {
     }
 }
 
-/// Why a text is no chain's identifier; None where it is one.
+/// Why a text isn't a chain's identifier; None if it is one.
 pub fn chain_id_fault(text: &[u8]) -> Option<NameError>
     ensures { result ≡ chain_id_fault text.now }
 {
     fault_in::<ChainBytes>(text, 0, MOST_CHAIN_ID_BYTES)
 }
 
-/// Reads a chain's identifier. A fault is answered before memory is asked for.
+/// Reads a chain's identifier. A fault is reported before any memory is allocated.
 pub fn read_chain_id(alloc: Global, text: &[u8]) -> Result<ChainId, NameError>
     ensures value { IfOk result (λ name. name ≡ text.now) }
     ensures sound { OnOk result (chain_id_fault text.now ≡ None) }

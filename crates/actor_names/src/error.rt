@@ -1,19 +1,19 @@
-// Why a text is no name.
+// Why a text isn't a name.
 use lists_and_limits::OutOfMemory;
 use std::alloc::AllocError;
 use thiserror::Error;
 
-/// Why a text is no name of its form, in the order in which the faults are tested.
+/// Why a text isn't a name of its form, in the order in which the faults are tested.
 #[derive(Clone, Copy, Debug, PartialEq, Eq, Error)]
 pub enum NameError {
-    /// The text, or the piece of it, has no byte.
+    /// The text, or the piece of it, is empty.
     #[error("an empty name")]
     Empty,
     /// The text, or the piece of it, has `n` bytes, more than its form allows.
     #[error("a name of {n} bytes")]
     TooLong { n: u64 },
-    /// The byte at `at`, counted from 0 in the whole text, can't stand there; `at` is the length where a byte
-    /// is missing.
+    /// The byte at `at`, counted from 0 in the whole text, isn't allowed there; `at` is the length if a byte is
+    /// missing.
     #[error("a bad byte at {at}")]
     BadByte { at: u64 },
     /// There was no memory for the name.

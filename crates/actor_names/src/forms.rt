@@ -33,17 +33,17 @@ impl ShortForm for NodeForm {
     ghost is_short = { most-text_fault is_node_byte 64 };
 }
 
-/// The name of a node: 1 to 64 lowercase letters, digits and `-`. It is copied without memory.
+/// The name of a node: 1 to 64 lowercase letters, digits and `-`. Copies take no memory.
 pub type Node = ShortName<NodeForm>;
 
-/// Why a text is no node; None where it is one.
+/// Why a text isn't a node; None if it is one.
 pub fn node_fault(text: &[u8]) -> Option<NameError>
     ensures { result ≡ node_fault text.now }
 {
     NodeForm::fault(text)
 }
 
-/// Reads a node, without memory.
+/// Reads a node; takes no memory.
 pub fn read_node(text: &[u8]) -> Result<Node, NameError>
     ensures value { IfOk result (λ name. name ≡ text.now) }
     ensures sound { OnOk result (node_fault text.now ≡ None) }
@@ -77,17 +77,17 @@ impl ShortForm for SpaceForm {
 }
 
 /// The name of a space, in which members and actors have names of their own: 1 to 64 lowercase letters, digits and
-/// `-`. It is copied without memory.
+/// `-`. Copies take no memory.
 pub type Space = ShortName<SpaceForm>;
 
-/// Why a text is no space; None where it is one.
+/// Why a text isn't a space; None if it is one.
 pub fn space_fault(text: &[u8]) -> Option<NameError>
     ensures { result ≡ space_fault text.now }
 {
     SpaceForm::fault(text)
 }
 
-/// Reads a space, without memory.
+/// Reads a space; takes no memory.
 pub fn read_space(text: &[u8]) -> Result<Space, NameError>
     ensures value { IfOk result (λ name. name ≡ text.now) }
     ensures sound { OnOk result (space_fault text.now ≡ None) }
@@ -116,14 +116,14 @@ impl NameForm for AppForm {
 /// The id of an application: 1 to 64 lowercase letters, digits and `-`.
 pub type AppId = Name<AppForm>;
 
-/// Why a text is no application id; None where it is one.
+/// Why a text isn't an application id; None if it is one.
 pub fn app_id_fault(text: &[u8]) -> Option<NameError>
     ensures { result ≡ app_id_fault text.now }
 {
     AppForm::fault(text)
 }
 
-/// Reads an application id. A fault is answered before memory is asked for.
+/// Reads an application id. A fault is reported before any memory is allocated.
 pub fn read_app_id(alloc: Global, text: &[u8]) -> Result<AppId, NameError>
     ensures value { IfOk result (λ name. name ≡ text.now) }
     ensures sound { OnOk result (app_id_fault text.now ≡ None) }
@@ -152,14 +152,14 @@ impl NameForm for TypeForm {
 /// The type of an actor: 1 to 64 letters, digits, `-`, `_` and `.`.
 pub type ActorType = Name<TypeForm>;
 
-/// Why a text is no actor type; None where it is one.
+/// Why a text isn't an actor type; None if it is one.
 pub fn actor_type_fault(text: &[u8]) -> Option<NameError>
     ensures { result ≡ actor_type_fault text.now }
 {
     TypeForm::fault(text)
 }
 
-/// Reads an actor type. A fault is answered before memory is asked for.
+/// Reads an actor type. A fault is reported before any memory is allocated.
 pub fn read_actor_type(alloc: Global, text: &[u8]) -> Result<ActorType, NameError>
     ensures value { IfOk result (λ name. name ≡ text.now) }
     ensures sound { OnOk result (actor_type_fault text.now ≡ None) }
@@ -185,17 +185,17 @@ impl NameForm for IdForm {
     }
 }
 
-/// The id of an actor among those of its type: 1 to 128 bytes from 0x21 to 0x7E but `/`.
+/// The id of an actor among those of its type: 1 to 128 bytes from 0x21 to 0x7E except `/`.
 pub type ActorId = Name<IdForm>;
 
-/// Why a text is no actor id; None where it is one.
+/// Why a text isn't an actor id; None if it is one.
 pub fn actor_id_fault(text: &[u8]) -> Option<NameError>
     ensures { result ≡ actor_id_fault text.now }
 {
     IdForm::fault(text)
 }
 
-/// Reads an actor id. A fault is answered before memory is asked for.
+/// Reads an actor id. A fault is reported before any memory is allocated.
 pub fn read_actor_id(alloc: Global, text: &[u8]) -> Result<ActorId, NameError>
     ensures value { IfOk result (λ name. name ≡ text.now) }
     ensures sound { OnOk result (actor_id_fault text.now ≡ None) }
@@ -221,17 +221,17 @@ impl NameForm for RecordForm {
     }
 }
 
-/// The name of a timer or reminder among those of its actor: 1 to 128 bytes from 0x21 to 0x7E but `/`.
+/// The name of a timer or reminder among those of its actor: 1 to 128 bytes from 0x21 to 0x7E except `/`.
 pub type RecordName = Name<RecordForm>;
 
-/// Why a text is no record name; None where it is one.
+/// Why a text isn't a record name; None if it is one.
 pub fn record_name_fault(text: &[u8]) -> Option<NameError>
     ensures { result ≡ record_name_fault text.now }
 {
     RecordForm::fault(text)
 }
 
-/// Reads a record name. A fault is answered before memory is asked for.
+/// Reads a record name. A fault is reported before any memory is allocated.
 pub fn read_record_name(alloc: Global, text: &[u8]) -> Result<RecordName, NameError>
     ensures value { IfOk result (λ name. name ≡ text.now) }
     ensures sound { OnOk result (record_name_fault text.now ≡ None) }

@@ -1,7 +1,7 @@
 // Names: spaces, nodes, application ids, actor types and ids, chains and records; keys, members and addresses.
 //
 // Promise: a reader accepts exactly the texts of its form and names the first fault of any other; a copy is
-// equal to its source. Stands on lists_and_limits.
+// equal to its source. Depends on lists_and_limits.
 #![tactic(auto)]
 
 mod actor_key;

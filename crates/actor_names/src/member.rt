@@ -15,7 +15,7 @@ use lists_and_limits::{LAST_NUMBER, read_decimal};
 /// The greatest boot of a member.
 pub const MOST_BOOT: u64 = LAST_NUMBER;
 
-/// A node of a space in one of its boots. It is copied without memory.
+/// A node of a space in one of its boots. Copies take no memory.
 #[derive(Clone, Copy, Debug, PartialEq, Eq, PartialOrd, Ord)]
 pub struct Member {
     /// The space.
@@ -35,7 +35,7 @@ impl Member {
     }
 }
 
-// The fault of what stands after the node, which ends at `end`.
+// The fault of what follows the node, which ends at `end`.
 fn boot_part_fault(text: &[u8], end: usize) -> Option<NameError>
     requires { end ≡ length (before_slash text.now) }
     ensures { result ≡ second_fault boot_fault text.now (after_slash text.now) }
@@ -47,7 +47,7 @@ fn boot_part_fault(text: &[u8], end: usize) -> Option<NameError>
     number_fault(text, end + 1, 1, MOST_BOOT)
 }
 
-// Why a text is no member without a space, `NODE/BOOT`; None where it is one.
+// Why a text isn't a member without a space, `NODE/BOOT`; None if it is one.
 fn local_member_fault(text: &[u8]) -> Option<NameError>
     ensures { result ≡ local_member_fault text.now }
 {
@@ -57,7 +57,7 @@ fn local_member_fault(text: &[u8]) -> Option<NameError>
     }
 }
 
-// Reads a member of a space from a text without it.
+// Reads a member of the given space from a text without the space.
 fn read_local_member(space: Space, text: &[u8]) -> Result<Member, NameError>
     ensures space { IfOk result (λ member. member.space ≡ space) }
     ensures node { IfOk result (λ member. member.node ≡ before_slash text.now) }
@@ -75,7 +75,7 @@ fn read_local_member(space: Space, text: &[u8]) -> Result<Member, NameError>
     }
 }
 
-// The fault of a member behind a space that ends at `end`, placed in the whole text.
+// The fault of the member after a space that ends at `end`; its place is counted in the whole text.
 fn behind_space_fault(text: &[u8], end: usize) -> Option<NameError>
     requires { end < length text.now }
     ensures { result ≡ option_map (placed_from (end + 1)) (local_member_fault (drop (end + 1) text.now)) }
@@ -88,7 +88,7 @@ fn behind_space_fault(text: &[u8], end: usize) -> Option<NameError>
     }
 }
 
-/// Why a text is no member, `NODE/BOOT` or `SPACE:NODE/BOOT`; None where it is one.
+/// Why a text isn't a member, `NODE/BOOT` or `SPACE:NODE/BOOT`; None if it is one.
 pub fn member_fault(text: &[u8]) -> Option<NameError>
     ensures { result ≡ member_fault text.now }
 {
@@ -101,7 +101,7 @@ pub fn member_fault(text: &[u8]) -> Option<NameError>
     }
 }
 
-/// Reads a member, `NODE/BOOT` in the space `default` or `SPACE:NODE/BOOT`, without memory.
+/// Reads a member, `NODE/BOOT` in the space `default` or `SPACE:NODE/BOOT`; takes no memory.
 pub fn read_member(text: &[u8]) -> Result<Member, NameError>
     ensures space { IfOk result (λ member. member.space ≡ space_in text.now) }
     ensures node { IfOk result (λ member. member.node ≡ before_slash (local_in text.now)) }

@@ -19,7 +19,7 @@ pub trait NameForm {
 
     ghost fault: { List ℕ → Option NameError };
 
-    /// Why a text is no name of the form; None where it is one.
+    /// Why a text isn't a name of the form; None if it is one.
     fn fault(text: &[u8]) -> Option<NameError>
         ensures { result ≡ fault text.now };
 }
@@ -43,7 +43,7 @@ impl<F: NameForm> Model for Name<F> {
 }
 
 impl<F: NameForm> Name<F> {
-    // The name of these bytes.
+    // The name with these bytes.
     #[tactic(auto, unfolding(crate::specs::Names::HasForm))]
     pub(crate) fn from_bytes(alloc: Global, bytes: &[u8]) -> Result<Name<F>, OutOfMemory>
         requires { F.fault bytes.now ≡ None }
@@ -58,7 +58,7 @@ impl<F: NameForm> Name<F> {
         }
     }
 
-    // Reads a name. A fault is answered before memory is asked for.
+    // Reads a name. A fault is reported before any memory is allocated.
     pub(crate) fn read(alloc: Global, text: &[u8]) -> Result<Name<F>, NameError>
         ensures value { IfOk result (λ name. name ≡ text.now) }
         ensures sound { OnOk result (F.fault text.now ≡ None) }

@@ -34,8 +34,8 @@ pub fn numeral_end(text: &[u8], start: usize) -> usize
     }
 }
 
-/// The fault of what stands from `start` on, placed in the whole text, where that is to be a number from `low`
-/// to `most`.
+/// The fault of the text from `start` on, which should be a number from `low` to `most`; the fault's place is counted
+/// in the whole text.
 pub fn number_fault(text: &[u8], start: usize, low: u64, most: u64) -> Option<NameError>
     requires { start ≤ length text.now }
     ensures { result ≡ option_map (placed_from start) (number_fault low most (drop start text.now)) }

@@ -1,4 +1,4 @@
-// Short names, which are kept in an array and copied without memory, one type for all forms.
+// Short names, which are kept in an array; copies take no memory. One type for all forms.
 ghost use Rattle.std.specs.Prelude.{◌≡◌, None, Some, refl, bytes_eq, IfOk, OnOk};
 ghost use Rattle.std.specs.Cmp.{partial_equiv_from_equiv};
 ghost use Rattle.std.specs.Cmp.Lexicographic.{slice_cmp, nat_list_eq_equiv, nat_list_cmp_total, texts_ties, texts_po};
@@ -18,7 +18,7 @@ pub trait ShortForm: NameForm + Copy {
     ghost is_short: { (text : List ℕ) → Self.fault text ≡ None → length text ≤ 64 };
 }
 
-/// A name of one form. It is copied without memory.
+/// A name of one form. Copies take no memory.
 #[derive(Clone, Copy, Debug)]
 pub struct ShortName<F: ShortForm> {
     // The bytes past `len` are 0.
@@ -45,7 +45,7 @@ impl<F: ShortForm> Model for ShortName<F> {
 }
 
 impl<F: ShortForm> ShortName<F> {
-    // The name of these bytes.
+    // The name with these bytes.
     pub(crate) fn from_bytes(text: &[u8]) -> ShortName<F>
         requires { F.fault text.now ≡ None }
         ensures { result ≡ text.now }
@@ -59,7 +59,7 @@ impl<F: ShortForm> ShortName<F> {
         }
     }
 
-    // Reads a name, without memory.
+    // Reads a name; takes no memory.
     pub(crate) fn read(text: &[u8]) -> Result<ShortName<F>, NameError>
         ensures value { IfOk result (λ name. name ≡ text.now) }
         ensures sound { OnOk result (F.fault text.now ≡ None) }

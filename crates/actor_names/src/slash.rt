@@ -2,7 +2,7 @@
 ghost use Rattle.std.specs.Prelude.{◌≡◌, ◌<◌, ◌≤◌, Some, length};
 ghost use Rattle.actor_names.specs.Names.{before_slash, after_slash};
 
-/// The place of the first `/`, or the text's length.
+/// The place of the first `/`, or the text's length if it has none.
 pub fn slash_place(text: &[u8]) -> usize
     ensures place { result ≡ length (before_slash text.now) }
     ensures within { result ≤ length text.now }
@@ -15,7 +15,7 @@ pub fn slash_place(text: &[u8]) -> usize
     text.len()
 }
 
-/// The bytes before the first `/`, or all of the text.
+/// The bytes before the first `/`, or the whole text if it has none.
 pub fn first_piece(text: &[u8]) -> &[u8]
     ensures { result.now ≡ before_slash text.now }
 {

@@ -11,7 +11,7 @@ pub fn default_space() -> Space
     Space::from_bytes(b"default")
 }
 
-/// The place of the colon that ends a space: the first one, where it stands before each `/`.
+/// The place of the colon that ends a space: the first colon, if no `/` comes before it.
 pub(crate) fn space_end(text: &[u8]) -> Option<usize>
     ensures place { result ≡ space_end text.now }
     ensures within { IfSome result (λ at. at < length text.now) }

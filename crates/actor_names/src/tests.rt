@@ -199,7 +199,7 @@ fn keys_and_members_have_their_space(rt: HostRuntime) -> Result<(), NameError> {
     Ok(())
 }
 
-// How two ids stand, by their order and by whether they are equal.
+// How two ids compare: their order, and whether they are equal.
 fn ids_stand(alloc: Global, a: &[u8], b: &[u8]) -> Result<(Ordering, bool), NameError> {
     let (first, second) = (read_actor_id(alloc, a)?, read_actor_id(alloc, b)?);
     Ok((first.cmp(&second), first == second))

@@ -1,4 +1,4 @@
--- What is taken in two pieces, and what is left of a list behind its front.
+-- Taking or dropping a prefix of a list in two pieces.
 use Rattle.std.proofs.Common.{sym, refl, ◌≡◌, ℕ, ◌+◌, List, ◌++◌, take, drop}
 use Rattle.std.proofs.Math.Seq.{take-add}
 use Rattle.std.proofs.lemmas.List.{drop-drop}

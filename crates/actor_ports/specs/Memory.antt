@@ -1,4 +1,4 @@
--- What the memory forms hold, and what a call makes of it: own definitions.
+-- What the implementations in memory hold, and how a call changes it: own definitions.
 use Rattle.std.specs.Prelude.{◌≡◌, ◌<◌, ◌≤◌, ℕ, ◌+◌, ◌-◌, nat_lt, if◌then◌else◌, List, [], ◌∷◌, ◌++◌, drop, map, Result, Ok, Err}
 use Rattle.actor_ports.specs.declared.port.PortError.{PortError}
 use Rattle.actor_ports.specs.declared.port.PortError.TheVariants.{Failed, OutOfMemory}
@@ -18,21 +18,21 @@ pub record SinkMemory : Type 0 where
   pub faults : ℕ
   pub failing : List ℕ
 
--- a source as it is made: nothing is read yet
+-- a new source: nothing is read yet
 abbrev pub new_source : List ℕ → List ℕ → SourceMemory
 new_source bytes failing = record { left = bytes; calls = 0; faults = 0; failing = failing }
 
--- a sink as it is made: nothing is written yet
+-- a new sink: nothing is written yet
 abbrev pub new_sink : List ℕ → SinkMemory
 new_sink failing = record { written = []; calls = 0; faults = 0; failing = failing }
 
--- a source after a read: what was taken is gone; a fault takes nothing; want of memory changes nothing
+-- a source after a read: what was taken is gone; a fault takes nothing; OutOfMemory changes nothing
 abbrev pub source_after : SourceMemory → Result ℕ PortError → SourceMemory
 source_after before (Ok n) = record before { left = drop n before.left; calls = before.calls + 1 }
 source_after before (Err Failed) = record before { calls = before.calls + 1; faults = before.faults + 1 }
 source_after before (Err OutOfMemory) = before
 
--- a sink after a write: all is appended; a fault writes nothing; want of memory changes nothing
+-- a sink after a write: all is appended; a fault writes nothing; OutOfMemory changes nothing
 abbrev pub sink_after : {T : Type 0} → SinkMemory → List ℕ → Result T PortError → SinkMemory
 sink_after before bytes (Ok x) = record before { written = before.written ++ bytes; calls = before.calls + 1 }
 sink_after before bytes (Err Failed) = record before { calls = before.calls + 1; faults = before.faults + 1 }
@@ -45,24 +45,24 @@ pub record ConnMemory : Type 0 where
   pub faults : ℕ
   pub failing : List ℕ
 
--- a connection as it is made, which leads nowhere until it is dialled
+-- a new connection, which leads nowhere until it is dialled
 abbrev pub new_conn : List ℕ → List ℕ → ConnMemory
 new_conn incoming failing =
     record { traffic = record { at = record { ip = 0; port = 0 }; read = []; left = incoming; written = [] }; calls = 0; faults = 0; failing = failing }
 
--- a connection after a read: what was taken is read; a fault takes nothing; want of memory changes nothing
+-- a connection after a read: what was taken is read; a fault takes nothing; OutOfMemory changes nothing
 abbrev pub conn_read : ConnMemory → Result ℕ PortError → ConnMemory
 conn_read before (Ok n) = record before { traffic = took n before.traffic; calls = before.calls + 1 }
 conn_read before (Err Failed) = record before { calls = before.calls + 1; faults = before.faults + 1 }
 conn_read before (Err OutOfMemory) = before
 
--- a connection after a write: all is written; a fault writes nothing; want of memory changes nothing
+-- a connection after a write: all is written; a fault writes nothing; OutOfMemory changes nothing
 abbrev pub conn_written : {T : Type 0} → ConnMemory → List ℕ → Result T PortError → ConnMemory
 conn_written before bytes (Ok x) = record before { traffic = sent bytes before.traffic; calls = before.calls + 1 }
 conn_written before bytes (Err Failed) = record before { calls = before.calls + 1; faults = before.faults + 1 }
 conn_written before bytes (Err OutOfMemory) = before
 
--- a connection as it is dialled: it leads to the place, and nothing was read of it or written to it since
+-- a connection just dialled: it leads to the place, and nothing was read of it or written to it since
 abbrev pub leading_to : Place → ConnMemory → ConnMemory
 leading_to at c = record c { traffic = record { at = at; read = []; left = c.traffic.left; written = [] } }
 
@@ -89,11 +89,11 @@ place_of p = record { ip = p.0; port = p.1 }
 abbrev pub returned_of : ConnMemory → Returned
 returned_of c = returned c.traffic
 
--- what it tells of itself as a dialler
+-- what it reports as a dialler
 abbrev pub dialled_of : DialMemory → Dialled
 dialled_of d = record { places = d.places; links = map returned_of d.links }
 
--- a dialler as it is made
+-- a new dialler
 abbrev pub new_dial : List ConnMemory → List ℕ → DialMemory
 new_dial links failing = record { places = []; links = []; waiting = links; room = 0; calls = 0; faults = 0; failing = failing }
 
@@ -102,19 +102,19 @@ abbrev pub HandsOut : List ConnMemory → Place → Result ConnMemory PortError 
 HandsOut waiting at (Ok link) = (c : ConnMemory) × (rest : List ConnMemory) × (waiting ≡ c ∷ rest) × (link ≡ leading_to at c)
 HandsOut waiting at (Err e) = Unit {0}
 
--- a dialler after a dial: the place is kept, also where the dial failed; want of memory changes nothing
+-- a dialler after a dial: the place is kept, even if the dial failed; OutOfMemory changes nothing
 abbrev pub dial_after : DialMemory → Place → Result ConnMemory PortError → DialMemory
 dial_after before at (Ok link) =
     record before { places = before.places ++ at ∷ []; waiting = drop 1 before.waiting; room = before.room + 1; calls = before.calls + 1 }
 dial_after before at (Err Failed) = record before { places = before.places ++ at ∷ []; calls = before.calls + 1; faults = before.faults + 1 }
 dial_after before at (Err OutOfMemory) = before
 
--- a dialler after a link was given back: the link is kept, and one that failed is a fault
+-- a dialler after a link was given back: the link is kept, and counts as a fault if it has failed
 abbrev pub done_after : DialMemory → ConnMemory → DialMemory
 done_after before link =
     record before { links = before.links ++ link ∷ []; room = before.room - 1; faults = before.faults + (if nat_lt 0 link.faults then 1 else 0) }
 
--- another dialler, of the same connections left
+-- another dialler, with the same connections left
 abbrev pub another_dial : DialMemory → DialMemory
 another_dial before = new_dial before.waiting before.failing
 
@@ -125,7 +125,7 @@ pub record ListenMemory : Type 0 where
   pub faults : ℕ
   pub failing : List ℕ
 
--- a listener as it is made
+-- a new listener
 abbrev pub new_listen : List ConnMemory → List ℕ → ListenMemory
 new_listen links failing = record { waiting = links; calls = 0; faults = 0; failing = failing }
 
@@ -134,19 +134,19 @@ abbrev pub Accepts : List ConnMemory → Result ConnMemory PortError → Type 0
 Accepts waiting (Ok link) = (rest : List ConnMemory) × (waiting ≡ link ∷ rest)
 Accepts waiting (Err e) = Unit {0}
 
--- a listener after an accept; want of memory changes nothing
+-- a listener after an accept; OutOfMemory changes nothing
 abbrev pub listen_after : {T : Type 0} → ListenMemory → Result T PortError → ListenMemory
 listen_after before (Ok x) = record before { waiting = drop 1 before.waiting; calls = before.calls + 1 }
 listen_after before (Err Failed) = record before { calls = before.calls + 1; faults = before.faults + 1 }
 listen_after before (Err OutOfMemory) = before
 
--- a clock: the moment shown last, 0 before the first, the next one, and those behind it
+-- a clock: the moment shown last (0 before the first), the next one, and those after it
 pub record ClockMemory : Type 0 where
   pub shown : ℕ
   pub next : ℕ
   pub later : List ℕ
 
--- the moments don't fall, and are before 9999-01-01T00:00:00Z
+-- the moments never fall, and are before 9999-01-01T00:00:00Z
 abbrev pub Rises : ℕ → List ℕ → Type 0
 Rises m [] = m < 253370764800000
 Rises m (n ∷ ns) = (m ≤ n) × Rises n ns

@@ -1,9 +1,9 @@
 // The outside as a program sees it: where bytes come from and where they go.
 //
-// A call answers a fault only where the object's own count of faults rose in that call, and where
-// an object tells its bytes the clauses say which were taken or written. The forms in memory tell
-// all; the forms over the library's readers and writers tell what those tell.
-// It stands on std alone, and thiserror for the texts of its error.
+// A call answers a fault only if the object's own count of faults rose in that call. If an object
+// reports its bytes, the clauses say which were taken or written. The implementations in memory report
+// everything; those over the library's readers and writers report what the reader or writer reports.
+// It depends on std alone, and on thiserror for the texts of its error.
 #![tactic(auto)]
 
 mod memory;

@@ -1,14 +1,14 @@
 // How a session over a connection ended.
 
-/// How a session over a connection ended, with the number of its messages that were read and whose answers were
+/// How a session over a connection ended. `requests` is the number of messages that were read and whose answers were
 /// written whole.
 #[derive(Clone, Copy, Debug, PartialEq, Eq)]
 pub enum SessionEnd {
-    /// The other end sent no more, after a whole message.
+    /// The other end sent no more, and its last message was whole.
     Done { requests: u64 },
-    /// The next bytes are no message, or the input ended inside one.
+    /// The next bytes aren't a message, or the input ended inside one.
     Malformed { requests: u64 },
-    /// What the session serves has lost its disk. The answer that says so was written first.
+    /// The service behind the session has lost its disk. The answer that says so was written first.
     Broken { requests: u64 },
     /// The connection failed.
     ConnFault { requests: u64 },

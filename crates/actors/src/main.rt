@@ -1,6 +1,6 @@
-// The program: the real outside put together, the words of the command line, and the status.
+// The program: real input and output, the words of the command line, and the status.
 //
-// It promises nothing of its own: all that it does is `actors_top::run`. Stands on actors_top and actor_ports.
+// It promises nothing of its own: all that it does is `actors_top::run`. Depends on actors_top and actor_ports.
 #![tactic(auto)]
 
 use actor_ports::{ReaderSource, WriterSink};
@@ -13,7 +13,7 @@ fn main(rt: HostRuntime) -> ExitCode {
     ExitCode::from(status(&rt))
 }
 
-/// Runs the program over standard input and output. A word that isn't text is a wrong word.
+/// Runs the program over standard input and output. A word that isn't text is a usage error.
 fn status<R: Env + AllocGlobal + Input + Print>(rt: &R) -> u8 {
     let words = match words(rt) {
         Ok(words) => words,

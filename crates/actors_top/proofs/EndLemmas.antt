@@ -14,7 +14,7 @@ use Rattle.actors_top.proofs.Headlines.{headline_holds}
 use Rattle.actors_top.proofs.RunTold.{replay_told}
 use Rattle.actors_top.proofs.RunLemmas.{front_of, then_front, drop_front}
 
--- a front of a front is a front
+-- a prefix of a prefix is a prefix
 front_front : (a b c : List ℕ) → IsFront a b → IsFront b c → IsFront a c
 front_front a b c p q = by (cases_lt p.0 q.0)
   where
@@ -26,7 +26,7 @@ wider_front : (before after : Option (List ℕ)) (text all : List ℕ) → IsFro
 wider_front None after text all front written = tt
 wider_front (Some held) after text all front written = (written.0, front_front written.0 text all written.1 front, written.2)
 
--- what was printed is a front of the run
+-- what was printed is a prefix of the run
 printed_front : (run : ReplayRun) (ended : Status) (text : List ℕ) → Prints run ended text → IsFront text run.text
 printed_front run status.OutOfMemory text p = p
 printed_front run status.Done text p = (length text, sym (take_all (length text) text (omega arith)) ∙ ap (λ (l : List ℕ). take (length text) l) p.1)
@@ -36,7 +36,7 @@ printed_front run status.Usage text p = absurd p
 printed_front run status.SourceFault text p = absurd p
 printed_front run status.SinkFault text p = absurd p
 
--- the lines ended so and the text was written so
+-- how a run ends, if the lines ended this way and the text was written this way
 pub run_ends : (run : ReplayRun) (before after : Option (List ℕ)) (text : List ℕ) (ended result : Status) → Prints run ended text → WritesAs before after text ended result → RunEnds run result before after
 run_ends run before after text ended status.SinkFault p w = wider_front before after text run.text (printed_front run ended text p) w
 run_ends run before after text ended status.OutOfMemory p w = wider_front before after text run.text (printed_front run ended text p) w
@@ -62,7 +62,7 @@ piece_fault run before mid after written waiting rest more status.Limit first pi
 piece_fault run before mid after written waiting rest more status.Usage first piece not text = absurd piece
 piece_fault run before mid after written waiting rest more status.SourceFault first piece not text = absurd piece
 
--- a script within both limits is its lines' run
+-- a script within both limits is replayed as its lines
 pub replay-within : (bytes : List ℕ) → length bytes ≤ most_bytes → length (lines_of bytes) ≤ most_lines → replay_of bytes ≡ run_lines 1 Unread (lines_of bytes)
 replay-within bytes few short = rw (le-ltb most_bytes (length bytes) few, le-ltb most_lines (length (lines_of bytes)) short)
 
@@ -71,7 +71,7 @@ replay-past bytes many = rw (lt-ltb most_bytes (length bytes) many)
 
 -- ---- the whole replay
 
--- all bytes of the source, or those that were read where it doesn't tell
+-- all bytes of the source, or those that were read if it doesn't show them
 abbrev whole_of : Option (List ℕ) → List ℕ → List ℕ
 whole_of None bytes = bytes
 whole_of (Some left) bytes = left
@@ -80,7 +80,7 @@ whole_all : (left : Option (List ℕ)) (bytes : List ℕ) → AreAllOf left (who
 whole_all None bytes = tt
 whole_all (Some left) bytes = refl
 
--- a source above the limit is replayed as its front is, and any other was read to its end
+-- a source above the limit is replayed as its prefix is, and any other was read to its end
 read_whole : (left rest : Option (List ℕ)) (bytes : List ℕ) → ReadsAll {X = Unit {0}} left rest bytes (Ok tt) → replay_of (whole_of left bytes) ≡ replay_of bytes
 read_whole None rest bytes reads = refl
 read_whole (Some left) rest bytes reads = by (cases_lt most_bytes (length bytes))
@@ -89,7 +89,7 @@ read_whole (Some left) rest bytes reads = by (cases_lt most_bytes (length bytes)
     by (inl many) = replay-past left (omega (arith, ap length reads.1, length-append bytes reads.0)) ∙ sym (replay-past bytes many)
     by (inr few) = ap replay_of (reads.1 ∙ ap (λ (r : List ℕ). bytes ++ r) (reads.3 few) ∙ append-nil bytes)
 
--- what is left of a source that was read to its end, or one byte past the limit
+-- what remains of a source that was read to its end, or one byte past the limit
 left_over : (left : List ℕ) (rest : Option (List ℕ)) (bytes : List ℕ) → ReadsAll {X = Unit {0}} (Some left) rest bytes (Ok tt) → rest ≡ Some (drop most_read left)
 left_over left rest bytes reads = by (cases_lt most_bytes (length bytes))
   where

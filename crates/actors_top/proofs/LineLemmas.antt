@@ -68,12 +68,12 @@ cluster_run-append : (w : ClusterState) (xs ys : List WorldEvent) → cluster_ru
 cluster_run-append w [] ys = refl
 cluster_run-append w (x ∷ xs) ys = cluster_run-append (cluster_step ring_owner key_part w x).world xs ys
 
--- an event that is no falling moment happens
+-- an event that sets no moment before the present one happens
 happens : (s : Setup) (events : List WorldEvent) (column : ℕ) (event : WorldEvent) (result : Result Outcome WorldError) → is_falling (cluster_after s events) event ≡ false
     → (cluster_step ring_owner key_part (cluster_after s events) event).outcome ≡ result → cluster_event_step s events column event ≡ cluster_event s events column event result
 happens s events column event result rising is = rw (rising, is) refl
 
--- an event that is no falling moment, and isn't refused
+-- an event that sets no moment before the present one, and isn't refused
 cluster_done : (s : Setup) (events : List WorldEvent) (column : ℕ) (event : WorldEvent) (new : WorldView) (outcome : Outcome) (before after : List ℕ)
     → is_falling (cluster_after s events) event ≡ false → (cluster_step ring_owner key_part (cluster_after s events) event).outcome ≡ Ok outcome
     → new ≡ view_of (cluster_step ring_owner key_part (cluster_after s events) event).world → after ≡ before ++ outcome_text outcome

@@ -1,11 +1,11 @@
--- The lines of the moments that are left of a schedule.
+-- The lines of the remaining moments of a schedule.
 use Rattle.std.proofs.Common.{◌≡◌, ℕ, List, ◌++◌, Option, None, Some, append-nil, ap, ◌∙◌}
 use Rattle.schedule_text.specs.declared.advance.Schedule.{Schedule}
 use Rattle.schedule_text.specs.Firing.{firings_by}
 use Rattle.schedule_text.proofs.Firings.{firings_from-zero}
 use Rattle.actors_top.specs.Schedule.{moment_lines}
 
--- the lines so far and those that are left
+-- the lines so far and those that remain
 abbrev pub lines_left : List ℕ → ℕ → Schedule → Option ℕ → List ℕ
 lines_left text most rest next = text ++ moment_lines (firings_by most rest next)
 

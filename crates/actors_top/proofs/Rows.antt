@@ -8,7 +8,7 @@ use Rattle.actors_top.specs.Replay.{replay_of}
 abbrev Writes : List ℕ → List ℕ → ℕ → Type 0
 Writes script text status = ((replay_of script).text ≡ text) × ((replay_of script).status ≡ status)
 
--- a script of no bytes
+-- an empty script
 row_empty : Writes [] [] 0
 row_empty = (refl, refl)
 
@@ -37,7 +37,7 @@ row_chains : Writes chains (codes "begin 1\nbegin 2\nwait 3 1\nend 1\nend 2 begi
 unfolding digits
 row_chains = (refl, refl)
 
--- a wrong number, a key without an id, and a setting behind an event
+-- a wrong number, a key without an id, and a setting after an event
 row_number : Writes (codes "call 2 counter/7\n") (codes "bad line 1 column 6\n") 3
 unfolding digits
 row_number = (refl, refl)
@@ -58,7 +58,7 @@ row_booting : Writes booting (codes "boot a/1 msg 1\nmsg 2 lock 1\nnone\n") 0
 unfolding digits
 row_booting = (refl, refl)
 
--- a member that runs isn't lost, a moment doesn't fall, and a call has the next number
+-- a running member isn't lost, a moment isn't before the present one, and a call has the next number
 row_lost : Writes (codes "cluster 1\nboot a counter\nlost a/1\n") (codes "boot a/1 msg 1\nbad line 3 column 1\n") 3
 unfolding digits
 row_lost = (refl, refl)

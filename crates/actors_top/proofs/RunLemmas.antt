@@ -1,4 +1,4 @@
--- One line more of a run.
+-- One more line of a run.
 use Rattle.std.proofs.Common.{◌≡◌, ◌+◌, ◌<◌, ◌≤◌, ℕ, List, [], ◌∷◌, ◌++◌, length, take, drop, Option, None, Some, Ok, Err, refl, sym, ap, subst, ◌∙◌, arith}
 use Rattle.std.proofs.lemmas.List.{take_at, take_all, drop_all, take-append-drop, append_assoc, append-nil}
 use Rattle.std.proofs.Math.Seq.{take-append-add}
@@ -14,14 +14,14 @@ use Rattle.actors_top.specs.declared.script.Script.{Script}
 use Rattle.actors_top.specs.declared.status.Status.{Status}
 use Rattle.actors_top.specs.declared.status.Status.TheVariants as status
 
--- what a step that goes on adds, behind what was written before, stands before what the next lines write
+-- what a step that goes on adds comes after what was written before, and before what the next lines write
 pub record GoesOn (number : ℕ) (written before after : List ℕ) (new : Script) (lines : List (List ℕ)) (run : ReplayRun) : Type 0 where
   pub log : ScriptLog
   pub is_of : IsOf log new
   pub text : (written ++ after) ++ (run_lines (number + 1) log lines).text ≡ (written ++ before) ++ run.text
   pub status : (run_lines (number + 1) log lines).status ≡ run.status
 
--- what a step adds does so behind another text
+-- what a step adds, it also adds after another text
 behind : (written a b x y : List ℕ) → a ++ x ≡ b ++ y → (written ++ a) ++ x ≡ (written ++ b) ++ y
 behind written a b x y e = append_assoc written a x ∙ ap (λ (r : List ℕ). written ++ r) e ∙ sym (append_assoc written b y)
 
@@ -46,11 +46,11 @@ stops_text number column log line lines h = ap (λ step. (after_line number log 
 stops_status : (number column : ℕ) (log : ScriptLog) (line : List ℕ) (lines : List (List ℕ)) → line_step log line ≡ Stops column → (run_lines number log (line ∷ lines)).status ≡ 3
 stops_status number column log line lines h = ap (λ step. (after_line number log step (λ next. run_lines (number + 1) next lines)).status) h
 
--- what was printed so far is a front of all
+-- what was printed so far is a prefix of all
 pub front_of : (front rest all : List ℕ) → front ++ rest ≡ all → IsFront front all
 front_of front rest all h = (length front, rw (← h) (sym (take_at front rest (length front) refl)))
 
--- the line of a refused line ends a run
+-- the line that reports a refused line ends a run
 refused_prints : (number column : ℕ) (before after : List ℕ) (run rest : ReplayRun) (ended : Status) → before ++ rest.text ≡ run.text → rest.status ≡ run.status
     → rest.text ≡ bad_line_text number column → rest.status ≡ 3 → RefusesLine number column before after ended → Prints run ended after
 refused_prints number column before after run rest status.Refused text same bad three h = (sym three ∙ same, h ∙ ap (λ t. before ++ t) (sym bad) ∙ text)
@@ -91,7 +91,7 @@ pub drop_front : (xs ys : List ℕ) → drop (length xs) (xs ++ ys) ≡ ys
 drop_front [] ys = refl
 drop_front (x ∷ xs) ys = drop_front xs ys
 
--- one read more
+-- one more read
 pub read_more : (left rest : Option (List ℕ)) (after : Option (List ℕ)) (bytes new : List ℕ) (n : ℕ) → HasRead left rest bytes → TakesFront rest after bytes new (Ok n) → HasRead left after new
 read_more None rest after bytes new n has takes = tt
 read_more (Some left) None after bytes new n has takes = absurd (let e = has.2 in cc)
@@ -117,7 +117,7 @@ read_to_end (Some left) (Some held) after bytes new n none few has takes =
     let empty : held ≡ [] = takes.3 none in
     (more.0, more.1, more.2, λ short. drop_all n held (omega (arith, ap length empty)), few)
 
--- the source wanted memory, and took nothing
+-- the source ran out of memory, and took nothing
 pub read_no_memory : (left rest after : Option (List ℕ)) (bytes new : List ℕ) → length bytes ≤ most_read → HasRead left rest bytes → TakesFront rest after bytes new (Err port.OutOfMemory)
     → ReadsAll {X = Unit {0}} left after new (Err port.OutOfMemory)
 read_no_memory None rest after bytes new few has takes = tt
@@ -172,7 +172,7 @@ then_front (Some held) mid after written text first second =
       more.2 ∙ ap (λ (r : List ℕ). Some r) (append_assoc held written more.0),
     )
 
--- a text was written before one that was written so
+-- a text was written before one that ended this way
 pub then_as : (before mid after : Option (List ℕ)) (written text : List ℕ) (ended result : Status) → Writes before mid written → WritesAs mid after text ended result → WritesAs before after (written ++ text) ended result
 then_as before mid after written text ended status.SinkFault first as_ = then_front before mid after written text first as_
 then_as before mid after written text ended status.OutOfMemory first as_ = then_front before mid after written text first as_

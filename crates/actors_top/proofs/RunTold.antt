@@ -61,7 +61,7 @@ cluster_more s events event outcome ok =
 
 -- ---- one line more
 
--- the step goes on to what the line names, and prints what is new of it
+-- the step goes on to what the line names, and prints what is new in it
 pub record Follows (log named : ScriptLog) (next : ScriptLog) (text : List ℕ) : Type 0 where
   pub names : next ≡ named
   pub prints : log_text next ≡ log_text log ++ text
@@ -161,7 +161,7 @@ record TellsFrom (number : ℕ) (log : ScriptLog) (lines : List (List ℕ)) (run
   pub refused : run.status ≡ 3 → (column : ℕ) × (last ≡ bad_line_text (number + count) column)
   pub unlimited : run.status ≡ 10 → ⊥
 
--- one line, and what the next ones tell
+-- one line, and what the next ones print
 line_more : (number : ℕ) (log : ScriptLog) (line : List ℕ) (lines : List (List ℕ)) (step : LineStep) → line_step log line ≡ step
     → ((next : ScriptLog) → TellsFrom (number + 1) next lines (run_lines (number + 1) next lines))
     → TellsFrom number log (line ∷ lines) (after_line number log step (λ next. run_lines (number + 1) next lines))
@@ -223,7 +223,7 @@ limit_told lines text which =
       limit = λ _. which;
     }
 
--- of every script
+-- for every script
 pub replay_told : (bytes : List ℕ) → TellsRun (lines_of bytes) (replay_of bytes)
 replay_told bytes =
     cond_both (nat_lt most_bytes (length bytes)) _ _ (TellsRun (lines_of bytes)) (λ _. limit_told (lines_of bytes) _ (inl refl))

@@ -12,7 +12,7 @@ use Rattle.actors_top.specs.declared.status.Status.TheVariants as status
 abbrev pub drill_text : Drilling → List ℕ
 drill_text d = counts_text (counts_of d.steps (drill_world d.seed d.steps))
 
--- All of it was written; after a fault of the sink a front of it, and for want of memory nothing.
+-- All of it was written; after a fault of the sink a prefix of it, and out of memory nothing.
 abbrev pub DrillEnds : Drilling → Status → Option (List ℕ) → Option (List ℕ) → Type 0
 DrillEnds d status.Done before after = Writes before after (drill_text d)
 DrillEnds d status.SinkFault before after = WritesFrontOf before after (drill_text d)
@@ -22,6 +22,6 @@ DrillEnds d status.Refused before after = ⊥
 DrillEnds d status.SourceFault before after = ⊥
 DrillEnds d status.Limit before after = ⊥
 
--- no event of the drill declares a member lost that runs
+-- no event of the drill declares a running member lost
 abbrev pub DrillsHonestly : Drilling → Type 0
 DrillsHonestly d = AreHonest (opening_cluster drill_settings) (drill_events d.seed d.steps)

@@ -6,7 +6,7 @@ use Rattle.actors_top.specs.declared.line_end.LineEnd.{LineEnd}
 use Rattle.actors_top.specs.declared.line_end.LineEnd.TheVariants as ending
 use Rattle.actors_top.specs.Replay.{refused_at}
 
--- at the column at which the event is refused, or for want of memory
+-- at the column at which the event is refused, or out of memory
 abbrev pub EndsAt : WorldError → ℕ → LineEnd → Type 0
 EndsAt OutOfMemory column end = end ≡ ending.OutOfMemory
 EndsAt (Spent count) column end = end ≡ ending.Refused (refused_at column (Spent count))

@@ -1,5 +1,5 @@
--- What holds of the script that a replay ran: single activation, turns that never mix, and no call that waits though it
--- could run. Own: docs/cluster.md, docs/turns.md.
+-- What holds of the script that a replay ran: single activation, turns that never mix, and no call that waits although
+-- it could run. Own: docs/cluster.md, docs/turns.md.
 use Rattle.std.specs.Prelude.{◌≡◌, ℕ, List, take}
 use Rattle.actor_names.specs.Names.{before_slash}
 use Rattle.part_core.specs.Part.{ring_owner}
@@ -15,24 +15,25 @@ use Rattle.cluster_model.specs.Asked.{AskedCall, asked_calls, TurnsAreAsked, Ove
 use Rattle.cluster_model.specs.Cluster.{ClusterInvariant}
 use Rattle.actors_top.specs.Scripts.{ScriptLog, Unread, SoloLog, ClusterLog, settings_of}
 
--- Turns of one actor never mix: those that overlap carry one chain, as the lines name it that asked their calls, its
--- type has reentrancy on, and no more of them are open than its depth; with reentrancy off one is. And after any number
--- of the events no actor without an open turn has a waiting call.
+-- Turns of one actor never mix: those that overlap carry one chain, as named by the lines that made their calls, the
+-- actor's type has reentrancy on, and no more of them are open than its depth; with reentrancy off one is. And after
+-- any number of the events no actor without an open turn has a waiting call.
 pub record SoloHolds (depths : List TypeDepth) (events : List SoloEvent) : Type 0 where
   pub never_mix : (key : List ℕ) → TurnsIsolated (depth_of (before_slash key) depths) (turns_at depths key (solo_log depths events))
   pub none_idle : (n : ℕ) → NoIdleWaiter (solo_run depths (take n events))
 
--- the cluster after so many of the events
+-- the cluster after the first `n` events
 abbrev pub cluster_at : WorldSettings → List WorldEvent → ℕ → ClusterState
 cluster_at settings events n = cluster_run ring_owner key_part (opening_cluster settings) (take n events)
 
--- the calls that so many of the events ask, as their lines name them
+-- the calls that the first `n` events make, as their lines name them
 abbrev pub asked_at : WorldSettings → List WorldEvent → ℕ → List AskedCall
 asked_at settings events n = asked_calls (take n events) (outcomes ring_owner key_part (opening_cluster settings) (take n events))
 
--- After any number of the events: the cluster invariant, single activation and isolated turns among it. Each turn that
--- began, each that is open and each call that waits has the actor, the member and the chain of the line that asked its
--- call, so turns that overlap are of lines that name one chain. Each part has the settings of its member's boot line.
+-- After any number of the events: the cluster invariant, with single activation and isolated turns. Each turn that
+-- began, each that is open and each call that waits has the actor, the member and the chain of the line that made its
+-- call, so turns that overlap come from lines that name one chain. Each part has the settings of its member's boot
+-- line.
 pub record ClusterHolds (settings : WorldSettings) (events : List WorldEvent) : Type 0 where
   pub invariant : (n : ℕ) → ClusterInvariant ring_owner key_part (cluster_at settings events n)
   pub asked : (n : ℕ) → TurnsAreAsked key_part (cluster_at settings events n) (asked_at settings events n)

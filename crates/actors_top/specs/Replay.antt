@@ -23,12 +23,12 @@ most_bytes = 67108864
 abbrev pub most_lines : ℕ
 most_lines = 1000000
 
--- what a line does: it goes on, with what is named then and the text that it writes, or it is refused
+-- what a line does: the replay goes on, with what is named so far and the text that it writes, or the line is refused
 pub data LineStep : Type 0 where
   Goes : (log : ScriptLog) → (text : List ℕ) → LineStep
   Stops : (column : ℕ) → LineStep
 
--- Where a refused event is refused: a wrong call number at the number, any other event at the line's begin.
+-- Where a refused event is refused: a wrong call number at the number, any other event at the beginning of the line.
 abbrev pub refused_at : ℕ → WorldError → ℕ
 refused_at column (WrongNumber next) = column
 refused_at column (Spent count) = 1
@@ -41,7 +41,7 @@ abbrev pub solo_event : List TypeDepth → List SoloEvent → ℕ → SoloEvent 
 solo_event depths events column event None = Goes (SoloLog depths (events ++ event ∷ [])) (turn_text (solo_step (solo_run depths events) event).outcome)
 solo_event depths events column event (Some error) = Stops (refused_at column error)
 
--- a second `reentrant` of one type is refused at the type
+-- a second `reentrant` for one type is refused at the type
 abbrev pub solo_setting : List TypeDepth → List SoloEvent → Setting → LineStep
 solo_setting depths events (Reentrant column kind depth) = if has_depth kind depths then Stops column else Goes (solo_set depths events (Reentrant column kind depth)) []
 solo_setting depths events (Idle ms) = Goes (SoloLog depths events) []
@@ -59,7 +59,7 @@ solo_does depths events (Ok (solo.Does column event)) = solo_event depths events
 abbrev pub cluster_after : Setup → List WorldEvent → ClusterState
 cluster_after s events = cluster_run ring_owner key_part (opening_cluster (settings_of s)) events
 
--- the moment of an `at` is below the present one
+-- the moment of an `at` is before the present one
 abbrev pub is_falling : ClusterState → WorldEvent → Bool
 is_falling w (lines.At moment) = nat_lt moment w.now
 is_falling w event = false
@@ -73,7 +73,7 @@ cluster_setting s events (Reentrant column kind depth) = if has_depth kind s.dep
 cluster_setting s events (Idle ms) = Goes (ClusterLog (setup_with s (Idle ms)) events) []
 cluster_setting s events (Drain ms) = Goes (ClusterLog (setup_with s (Drain ms)) events) []
 
--- a falling `at` is refused at its moment
+-- an `at` before the present moment is refused at its moment
 abbrev pub cluster_event_step : Setup → List WorldEvent → ℕ → WorldEvent → LineStep
 cluster_event_step s events column event =
     if is_falling (cluster_after s events) event then Stops column
@@ -107,7 +107,7 @@ abbrev pub after_line : ℕ → ScriptLog → LineStep → (ScriptLog → Replay
 after_line number log (Stops column) rest = record { text = bad_line_text number column; status = 3; log = log }
 after_line number log (Goes next text) rest = record { text = text ++ (rest next).text; status = (rest next).status; log = (rest next).log }
 
--- The lines in order, the first of them with this number, up to the first that is refused.
+-- The lines in order, numbered from this number on, up to the first that is refused.
 abbrev pub run_lines : ℕ → ScriptLog → List (List ℕ) → ReplayRun
 run_lines number log [] = record { text = []; status = 0; log = log }
 run_lines number log (line ∷ lines) = after_line number log (line_step log line) (λ next. run_lines (number + 1) next lines)

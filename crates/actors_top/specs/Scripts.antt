@@ -1,4 +1,4 @@
--- What the lines of a script name: its kind, its settings and its events. No world plays a part here. Own: docs/scripts.md.
+-- What the lines of a script name: its kind, its settings and its events. No world is involved. Own: docs/scripts.md.
 use Rattle.std.specs.Prelude.{ℕ, Bool, true, false, List, [], ◌∷◌, ◌++◌, fold, map, Option, None, Some, Result, Ok, Err}
 use Rattle.part_core.specs.declared.settings.TypeSettings.{TypeSettings}
 use Rattle.world_events.specs.Solo.{SoloEvent}
@@ -16,13 +16,13 @@ pub record Setup : Type 0 where
   pub idle : ℕ
   pub drain : ℕ
 
--- what the lines so far name; before the first one the kind of the script is open
+-- what the lines so far name; before the first one the kind of the script isn't known
 pub data ScriptLog : Type 0 where
   Unread : ScriptLog
   SoloLog : (depths : List TypeDepth) → (events : List SoloEvent) → ScriptLog
   ClusterLog : (setup : Setup) → (events : List WorldEvent) → ScriptLog
 
--- a cluster with so many parts, of which nothing else is set
+-- a cluster with `parts` parts per member, of which nothing else is set
 abbrev pub usual_setup : ℕ → Setup
 usual_setup parts = record { parts = parts; depths = []; idle = 3600000; drain = 60000 }
 
@@ -33,7 +33,7 @@ type_settings s d = record { kind = d.kind; idle_ms = s.idle; drain_ms = s.drain
 abbrev pub settings_of : Setup → WorldSettings
 settings_of s = record { parts = s.parts; kinds = map (type_settings s) s.depths; idle_ms = s.idle; drain_ms = s.drain }
 
--- an event line stands before, so a setting comes late
+-- an event line came before, so a setting comes late
 abbrev pub any_of : {A : Type 0} → List A → Bool
 any_of [] = false
 any_of (x ∷ xs) = true
@@ -65,13 +65,13 @@ cluster_with s events (Ok cluster.Blank) = ClusterLog s events
 cluster_with s events (Ok (cluster.Sets setting)) = ClusterLog (setup_with s setting) events
 cluster_with s events (Ok (cluster.Does column event)) = ClusterLog s (events ++ event ∷ [])
 
--- a first line is the first of a solo script where it doesn't say `cluster`
+-- a first line is the first of a solo script if it doesn't say `cluster`
 abbrev pub first_with : List ℕ → Result (Option ℕ) ℕ → ScriptLog
 first_with line (Err column) = Unread
 first_with line (Ok None) = solo_with [] [] (solo.solo_line false line)
 first_with line (Ok (Some parts)) = ClusterLog (usual_setup parts) []
 
--- what is named with one line more, by its reading alone
+-- what is named with one more line, from its reading alone
 abbrev pub with_line : ScriptLog → List ℕ → ScriptLog
 with_line Unread line = first_with line (cluster.parts_line line)
 with_line (SoloLog depths events) line = solo_with depths events (solo.solo_line (any_of events) line)

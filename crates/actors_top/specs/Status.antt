@@ -1,4 +1,4 @@
--- The statuses with which the program ends. Own: the table stands in README.md.
+-- The statuses with which the program ends. Own: the table is in README.md.
 use Rattle.std.specs.Prelude.{ℕ}
 use Rattle.actors_top.specs.declared.status.Status.{Status}
 use Rattle.actors_top.specs.declared.status.Status.TheVariants.{Done, Usage, Refused, SourceFault, SinkFault, OutOfMemory, Limit}

@@ -29,8 +29,8 @@ log_text Unread = []
 log_text (SoloLog depths events) = said_text (solo_log depths events)
 log_text (ClusterLog s events) = results_text (outcomes ring_owner key_part (opening_cluster (settings_of s)) events)
 
--- So many lines ran. What was printed is the outcomes of the events that they name, and nothing more where all lines
--- ran; else the line of the refusal of the next line, or of the limit that the script is above.
+-- The first `count` lines ran. What was printed is the outcomes of the events that they name, and nothing more if all
+-- lines ran; else the line that reports the refusal of the next line, or the limit that the script exceeds.
 pub record TellsRun (lines : List (List ℕ)) (run : ReplayRun) : Type 0 where
   pub count : ℕ
   pub within : count ≤ length lines

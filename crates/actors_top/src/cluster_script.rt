@@ -14,7 +14,7 @@ use std::alloc::Global;
 use world_events::WorldEvent;
 use world_run::World;
 
-/// Whether the event sets a moment below the present one.
+/// Whether the event sets a moment before the present one.
 fn is_falling(world: &World, event: &WorldEvent) -> bool
     ensures { (w : ClusterState) → world.now ≡ view_of w → result ≡ is_falling w event.now }
 {
@@ -24,7 +24,7 @@ fn is_falling(world: &World, event: &WorldEvent) -> bool
     }
 }
 
-/// Lets an event happen. A wrong call number and a falling moment are refused at this column.
+/// Lets an event happen. A wrong call number and a moment before the present one are refused at this column.
 pub(crate) fn happen(
     alloc: Global,
     world: &mut World,

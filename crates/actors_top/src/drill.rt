@@ -25,7 +25,7 @@ fn push_counts(text: &mut Vec<u8>, counts: &DrillCounts) -> Result<(), AllocErro
 }
 
 /// Runs the drill that the words ask for, and prints its counts. The text is made whole before it is written, so out
-/// of memory nothing is written.
+/// of memory means that nothing is written.
 pub(crate) fn drill<W: Sink>(alloc: Global, words: &DrillWords, output: &mut W) -> Status
     ensures ends { DrillEnds (told_drill words.now) result (W.contents output.old) (W.contents output.new) }
     ensures honest { DrillsHonestly (told_drill words.now) }

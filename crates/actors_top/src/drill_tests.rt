@@ -5,7 +5,7 @@ use std::alloc::Global;
 use std::process::Abort;
 use std::test::Fail;
 
-/// What the drill of this seed and so many steps prints; its status is 0.
+/// What the drill of this seed with this many steps prints; its status is 0.
 fn drilled(rt: &impl Abort, alloc: Global, seed: &str, steps: &str) -> Result<MemSink, Fail> {
     let mut out = Outside {
         input: MemSource::new(alloc, b"", &[])?,

@@ -1,9 +1,9 @@
 // The top call: the replay of a script, the moments of a schedule, and the status.
 //
-// Promise: `run` does what its words read as; it writes what the script's replay (`specs/Replay`) or the schedule
-// (`specs/Schedule`) is defined to write, ends with its status, and answers a fault or a limit only by its cause;
-// over every script the headline holds (`specs/Headline`): no actor is active on two members, and the turns of one
-// actor never mix. Stands on command_words, script_text, solo_run, world_run, schedule_text and actor_ports.
+// Promise: `run` does what its words read as. It writes what the script's replay (`specs/Replay`) or the schedule
+// (`specs/Schedule`) is defined to write, ends with its status, and reports a fault or a limit only for its cause. Over
+// every script the headline holds (`specs/Headline`): no actor is active on two members, and the turns of one actor
+// never mix. Depends on command_words, script_text, solo_run, world_run, schedule_text and actor_ports.
 #![tactic(auto)]
 
 mod cluster_script;

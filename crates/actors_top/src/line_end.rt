@@ -9,7 +9,7 @@ use world_events::WorldError;
 pub(crate) enum LineEnd {
     /// The line is refused at this column.
     Refused { column: u64 },
-    /// There was no memory for it.
+    /// There was no memory for the line.
     OutOfMemory,
 }
 

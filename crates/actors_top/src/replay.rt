@@ -19,7 +19,7 @@ const MOST_BYTES: usize = 67_108_864;
 /// The greatest number of lines of a script.
 const MOST_LINES: usize = 1_000_000;
 
-/// How many bytes of outcomes are enough to be written.
+/// How many waiting bytes of outcomes are enough to write them.
 const PIECE: usize = 65_536;
 
 /// Reads the source to its end, or one byte past the greatest length of a script.
@@ -38,7 +38,7 @@ fn read_all<I: Source>(input: &mut I, bytes: &mut Vec<u8>) -> Result<(), PortErr
     Ok(())
 }
 
-/// Writes the text of a run that has come to this status.
+/// Writes the text of a run that ended with this status.
 fn write_all<W: Sink>(text: &[u8], status: Status, output: &mut W) -> Status
     requires { status ≢ Status.SinkFault }
     ensures ends { WritesAs (W.contents output.old) (W.contents output.new) text.now status result }
@@ -53,7 +53,7 @@ fn write_all<W: Sink>(text: &[u8], status: Status, output: &mut W) -> Status
     }
 }
 
-/// Writes the lines that wait, once they are many. Where that is done they wait no more.
+/// Writes the waiting lines, once they are many. Lines that were written wait no more.
 fn write_piece<W: Sink>(transcript: &mut Transcript, output: &mut W) -> Status
     ensures ends { PieceEnds (W.contents output.old) (W.contents output.new) transcript.old transcript.new result }
     ensures cause { result ≡ Status.SinkFault → W.write_faults output.old < W.write_faults output.new }
@@ -69,7 +69,7 @@ fn write_piece<W: Sink>(transcript: &mut Transcript, output: &mut W) -> Status
     status
 }
 
-/// Prints the line of a refused line.
+/// Adds the line that reports a refused line.
 fn refuse(number: u64, column: u64, transcript: &mut Transcript) -> Status
     ensures { RefusesLine number column transcript.old transcript.new result }
 {
@@ -79,7 +79,7 @@ fn refuse(number: u64, column: u64, transcript: &mut Transcript) -> Status
     }
 }
 
-/// Prints why the line of this number ended the replay.
+/// Adds the line that says why the line of this number ended the replay.
 fn end_lines(end: LineEnd, number: u64, transcript: &mut Transcript) -> Status
     ensures { EndsLines end number transcript.old transcript.new result }
 {
@@ -123,7 +123,7 @@ fn run_script<W: Sink>(
     write_all(transcript.as_slice(), Status::Done, output)
 }
 
-/// Writes the line of a limit that the script is above.
+/// Writes the line of a limit that the script exceeds.
 fn write_limit<W: Sink>(text: &[u8], output: &mut W) -> Status
     ensures ends { WritesAs (W.contents output.old) (W.contents output.new) text.now Status.Limit result }
     ensures cause { result ≡ Status.SinkFault → W.write_faults output.old < W.write_faults output.new }

@@ -14,7 +14,7 @@ use schedule_text::{
 };
 use std::alloc::{AllocError, Global};
 
-/// Appends what a fault is called.
+/// Appends a fault's name.
 fn push_fault(text: &mut Vec<u8>, fault: ScheduleError) -> Result<(), AllocError>
     ensures { OnOk result (text.new.items ≡ text.old.items ++ fault_text fault) }
 {
@@ -28,7 +28,7 @@ fn push_fault(text: &mut Vec<u8>, fault: ScheduleError) -> Result<(), AllocError
     }
 }
 
-/// Appends the line of a refused text.
+/// Appends the line that reports a refused text.
 fn push_refusal(text: &mut Vec<u8>, fault: ScheduleError) -> Result<(), AllocError>
     ensures { OnOk result (text.new.items ≡ text.old.items ++ refused_line fault) }
 {
@@ -48,7 +48,7 @@ fn push_moment(alloc: Global, text: &mut Vec<u8>, moment: Moment) -> Result<(), 
     Ok(())
 }
 
-/// What is left of a schedule behind the firing of `moment` in time, and the next moment.
+/// The rest of a schedule after `moment` fires on time, and the next moment.
 fn after(schedule: &Schedule, moment: Moment) -> (Schedule, Option<Moment>)
     ensures { (most : ℕ) → firings_from (suc most) schedule.now moment ≡ moment ∷ firings_by most result.0 result.1 }
 {
@@ -87,7 +87,7 @@ fn push_firings(
     Ok(())
 }
 
-/// The schedule of the texts; the moment is read first.
+/// The schedule of the texts; the moment `now` is read first.
 fn read(words: &ScheduleWords) -> Result<Schedule, ScheduleError>
     ensures { result ≡ read_asking (told_schedule words.entry.now) }
 {
@@ -95,7 +95,7 @@ fn read(words: &ScheduleWords) -> Result<Schedule, ScheduleError>
     read_schedule(words.due, words.period, words.ttl, now)
 }
 
-/// Makes what the command prints, and says how it ends.
+/// Makes what the command prints, and returns the status with which it ends.
 fn make(alloc: Global, words: &ScheduleWords, text: &mut Vec<u8>) -> Status
     requires { text.old.items ≡ [] }
     ensures { Makes (schedule_of (told_schedule words.entry.now)) result text.new.items }
@@ -113,7 +113,7 @@ fn make(alloc: Global, words: &ScheduleWords, text: &mut Vec<u8>) -> Status
 }
 
 /// Prints the moments of the schedule that the words ask for, one to a line, or the line of the first fault. The
-/// text is made whole before it is written, so want of memory writes nothing.
+/// text is made whole before it is written, so out of memory means that nothing is written.
 pub(crate) fn schedule<W: Sink>(alloc: Global, words: &ScheduleWords, output: &mut W) -> Status
     ensures ends { ScheduleEnds (schedule_of (told_schedule words.entry.now)) result (W.contents output.old) (W.contents output.new) }
     ensures cause { result ≡ Status.SinkFault → W.write_faults output.old < W.write_faults output.new }

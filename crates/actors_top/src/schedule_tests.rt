@@ -5,8 +5,8 @@ use std::alloc::Global;
 use std::process::Abort;
 use std::test::Fail;
 
-/// The status of a run with the words of a line, which one space each separates, and what it wrote; the writes
-/// whose numbers are listed fail. A source that is read gives a script that would be told.
+/// The status of a run with the words of a line, separated by one space each, and what it wrote; the writes
+/// whose numbers are listed fail. If the source were read, its script would show in what was written.
 fn run_line(alloc: Global, line: &str, writes: &[u64]) -> Result<(u8, MemSink), Fail> {
     let mut out = Outside {
         input: MemSource::new(alloc, b"end 1\n", &[])?,
@@ -88,7 +88,7 @@ fn schedule_that_ends_at_once_prints_nothing(rt: HostRuntime) -> Result<(), Fail
     Ok(())
 }
 
-/// A row: the words behind `schedule`, and the line that refuses them.
+/// A row: the words after `schedule`, and the line that refuses them.
 type Refusal = (&'static str, &'static [u8]);
 
 fn expect_refusals(rt: &impl Abort, alloc: Global, rows: &[Refusal]) -> Result<(), Fail> {

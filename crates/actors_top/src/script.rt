@@ -14,16 +14,16 @@ use script_text::{ClusterLine, LineError, Transcript, read_cluster_line, read_cl
 use std::alloc::Global;
 use world_run::World;
 
-/// A script, whose first line tells its kind.
+/// A script, whose first line says what kind it is.
 #[derive(Drop)]
 pub(crate) enum Script {
-    /// No line has come.
+    /// No line has been read.
     Unread,
     /// A script of cells alone.
     Solo(SoloScript),
-    /// A cluster script of which no event has come.
+    /// A cluster script without an event so far.
     Opening(Setup),
-    /// A cluster script of which an event has come.
+    /// A cluster script with an event.
     Cluster(World),
 }
 
@@ -51,7 +51,7 @@ impl Script {
         }
     }
 
-    /// Does what the first line says, which tells the kind of the script.
+    /// Does what the first line says, which gives the kind of the script.
     fn first_line(
         &mut self,
         alloc: Global,
@@ -76,8 +76,8 @@ impl Script {
     }
 }
 
-/// Does what a line of a cluster script says of which no event has come. The first event opens the world, which is
-/// given back.
+/// Does what a line says, for a cluster script without an event so far. The first event opens the world, which is
+/// returned.
 fn opening_line(
     alloc: Global,
     setup: &mut Setup,
@@ -99,7 +99,7 @@ fn opening_line(
     }
 }
 
-/// Does what a line of a cluster script says of which an event has come, so that no setting can stand in it.
+/// Does what a line says, for a cluster script with an event, in which no setting may follow.
 fn running_line(
     alloc: Global,
     world: &mut World,

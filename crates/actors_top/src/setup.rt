@@ -18,10 +18,10 @@ use std::mem;
 use world_events::WorldSettings;
 use world_run::World;
 
-/// The idle time of types for which no line says another, in milliseconds.
+/// The idle time, in milliseconds, of types for which no line sets another.
 const USUAL_IDLE: u64 = 3_600_000;
 
-/// The drain time of types for which no line says another, in milliseconds.
+/// The drain time, in milliseconds, of types for which no line sets another.
 const USUAL_DRAIN: u64 = 60_000;
 
 /// How many parts a member has, the types with reentrancy on, and the two times of all types. A type gets its times
@@ -57,7 +57,7 @@ fn set_times(kinds: &mut Vec<TypeSettings>, idle_ms: u64, drain_ms: u64)
     }
 }
 
-/// Whether the type is among those.
+/// Whether the type is among these.
 fn has_type(kinds: &[TypeSettings], kind: &[u8]) -> bool
     ensures { result ≡ has_depth kind.now (map type_depth kinds.now) }
 {
@@ -70,7 +70,7 @@ fn has_type(kinds: &[TypeSettings], kind: &[u8]) -> bool
 }
 
 impl Setup {
-    /// A member has so many parts, from 1 to 16; nothing else is set.
+    /// The setup of a cluster with `parts` parts per member, from 1 to 16; nothing else is set.
     pub(crate) fn new(alloc: Global, parts: u8) -> Setup
         requires some { 1 ≤ parts }
         requires few { parts ≤ 16 }
@@ -102,7 +102,7 @@ impl Setup {
         Ok(())
     }
 
-    /// Sets what a line says. A second depth of one type is refused at the type.
+    /// Sets what a line says. A second depth for one type is refused at the type.
     pub(crate) fn set(&mut self, alloc: Global, setting: Setting<'_>) -> Result<(), LineEnd>
         ensures { GivesSetting result (cluster_setting self.old [] (setting_told setting.entry)) self.new }
     {
@@ -125,7 +125,7 @@ impl Setup {
         Ok(())
     }
 
-    /// Opens the world, which gets the types; the settings are not looked at again.
+    /// Opens the world, which takes over the types; the settings aren't used again.
     pub(crate) fn open(&mut self, alloc: Global) -> World
         ensures { result ≡ view_of (opening_cluster (settings_of self.old)) }
     {

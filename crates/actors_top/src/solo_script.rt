@@ -24,7 +24,7 @@ pub(crate) struct SoloScript {
 }
 
 impl SoloScript {
-    /// A script of which no line has come.
+    /// A script without lines so far.
     pub(crate) fn new(alloc: Global) -> SoloScript
         ensures { IsOf (SoloLog [] []) (Solo result) }
     {

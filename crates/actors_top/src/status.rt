@@ -12,10 +12,10 @@ pub enum Status {
     Refused = 3,
     /// The source failed; nothing was written.
     SourceFault = 4,
-    /// The sink failed; a front of the output was written.
+    /// The sink failed; a prefix of the output was written.
     SinkFault = 5,
-    /// Want of memory; a front of the output was written, of a schedule or a drill nothing.
+    /// Out of memory; a prefix of the output was written, of a schedule or a drill nothing.
     OutOfMemory = 8,
-    /// The script is above its limit of bytes or lines, which was printed.
+    /// The script exceeds its limit of bytes or lines, which was printed.
     Limit = 10,
 }

@@ -1,4 +1,4 @@
-// Words and numbers behind a text.
+// Words and numbers appended to a text.
 ghost use Rattle.std.specs.Prelude.{◌≡◌, ◌++◌, decimal, OnOk};
 
 use itoa::Buffer;
@@ -11,7 +11,7 @@ pub(crate) fn push_text(text: &mut Vec<u8>, word: &str) -> Result<(), AllocError
     text.extend_from_slice(word.as_bytes())
 }
 
-/// Appends a word and a number behind it.
+/// Appends a word and a number after it.
 pub(crate) fn push_number(text: &mut Vec<u8>, word: &str, number: u64) -> Result<(), AllocError>
     ensures { OnOk result (text.new.items ≡ text.old.items ++ word.now ++ decimal number) }
 {

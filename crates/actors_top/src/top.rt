@@ -24,9 +24,9 @@ pub struct Outside<I, W> {
     pub output: W,
 }
 
-/// Does what the words after the program's name say, and answers the status with which the program ends:
+/// Does what the words after the program's name say, and returns the status with which the program ends:
 /// 0 done, 2 the words have no reading, 3 a line of the script or a text of the schedule is refused, 4 the source
-/// failed, 5 the sink failed, 8 want of memory, 10 the script is above its limit of 67,108,864 bytes or 1,000,000
+/// failed, 5 the sink failed, 8 out of memory, 10 the script exceeds its limit of 67,108,864 bytes or 1,000,000
 /// lines.
 /// `replay`, without options: the whole source is read first, then each line of the script runs in order and what
 /// comes of it is written; a script that begins with `cluster P` drives a placement and the parts of members.
@@ -34,15 +34,15 @@ pub struct Outside<I, W> {
 /// schedule are written, up to N of them, or the first fault of a text. `drill`, with `--seed N` and `--steps N`: a
 /// cluster runs random events, and what is counted of it is written. Own.
 pub fn run<I: Source, W: Sink>(alloc: Global, words: &[String], out: &mut Outside<I, W>) -> u8
-    // Exactly words without a reading are usage; those of `schedule` and `drill` may also end for want of memory.
-    // Nothing is read or written then.
+    // Words end as usage only if they have no reading; without a reading, those of `schedule` and `drill` may also run
+    // out of memory. Nothing is read or written then.
     ensures usage { result ≡ 2 → reading (map string_bytes words.now) ≡ None }
     ensures no_reading { reading (map string_bytes words.now) ≡ None
         → (result ≡ 2) ⊎ ((result ≡ 8) × (has_options (map string_bytes words.now) ≡ true)) }
     ensures untouched { reading (map string_bytes words.now) ≡ None → out.new ≡ out.old }
 
     // The status is that of a replay of the source's bytes, and what was written is what that replay prints: the
-    // outcomes of the events that the script's lines name. Of these the headline holds: no actor is active on two
+    // outcomes of the events that the script's lines name. For these the headline holds: no actor is active on two
     // members, and the turns of one actor never mix.
     ensures replayed { map string_bytes words.now ≡ codes "replay" ∷ [] → (ended : Status) × (result ≡ code_of ended)
         × Replays (I.remaining out.old.input) (I.remaining out.new.input) ended (W.contents out.old.output) (W.contents out.new.output) }
@@ -52,12 +52,12 @@ pub fn run<I: Source, W: Sink>(alloc: Global, words: &[String], out: &mut Outsid
     ensures scheduled { (asking : Asking) → reading (map string_bytes words.now) ≡ Some (Schedule asking) → (ended : Status) × (result ≡ code_of ended)
         × ScheduleEnds (schedule_of asking) ended (W.contents out.old.output) (W.contents out.new.output) × (out.new.input ≡ out.old.input) }
 
-    // The status is 0 and what was written are the counts of the drill that is asked for, unless the sink failed or
-    // there was no memory; the source stays unread. No event of the drill declares a member lost that runs.
+    // The status is 0 and what was written is the counts of the drill that is asked for, unless the sink failed or
+    // there was no memory; the source stays unread. No event of the drill declares a running member lost.
     ensures drilled { (d : Drilling) → reading (map string_bytes words.now) ≡ Some (Drill d) → (ended : Status) × (result ≡ code_of ended)
         × DrillEnds d ended (W.contents out.old.output) (W.contents out.new.output) × DrillsHonestly d × (out.new.input ≡ out.old.input) }
 
-    // A fault is answered only where that count of faults rose.
+    // A fault of the source or the sink is reported only if its count of faults rose.
     ensures source { result ≡ 4 → I.read_faults out.old.input < I.read_faults out.new.input }
     ensures sink { result ≡ 5 → W.write_faults out.old.output < W.write_faults out.new.output }
 {

@@ -1,4 +1,4 @@
--- The list of a script's calls, and what its lines ask.
+-- The list of a script's calls, and the calls that its lines make.
 use Rattle.std.proofs.Common.{◌≡◌, ◌⊎◌, ℕ, List, [], ◌∷◌, ◌++◌, length, Option, None, Some, refl, ap, inl, inr, arith}
 use Rattle.std.specs.Prelude.{zero, suc, slice_get}
 use Rattle.std.specs.declared.result.Result.{Result}
@@ -65,14 +65,14 @@ pub asked_none : (e : WorldEvent) (error : WorldError) → asked_by e (Err error
 asked_none (lines.Call number m key least chain) error = refl
 asked_none e error = refl
 
--- a call that a part took is asked by its line
+-- a call that a part took is made by its line
 pub asked_taken : (number : ℕ) (m : Member) (key : ActorKey) (least : ℕ) (chain : Option (List ℕ)) (n : ℕ) (reply : PartReply) (c : CallPlace) → place_of_call n reply ≡ Some c
     → asked_by (lines.Call number m key least chain) (Ok (call_outcome number reply)) ≡ record { number = number; member = m; key = key; chain = chain } ∷ []
 asked_taken number m key least chain n (replies.Begun call x) c e = refl
 asked_taken number m key least chain n (replies.Waits call x) c e = refl
 asked_taken number m key least chain n reply c e = absurd (cc)
 
--- and no line asks another call than its own
+-- and no line makes another call than its own
 pub asked_own : (number : ℕ) (m : Member) (key : ActorKey) (least : ℕ) (chain : Option (List ℕ)) (printed : Result Outcome WorldError) (a : AskedCall) → In a (asked_by (lines.Call number m key least chain) printed)
     → a ≡ record { number = number; member = m; key = key; chain = chain }
 asked_own number m key least chain (Ok (out.Turn (turn.Begun n))) a i = elim i [ inl e ↦ e | inr j ↦ absurd j ]

@@ -1,5 +1,5 @@
--- What follows from how the calls were asked: turns that overlap are of lines that name one chain; and each part has the
--- settings of its member's boot line.
+-- What follows from how the calls were made: turns that overlap come from lines that name one chain; and each part has
+-- the settings of its member's boot line.
 use Rattle.std.proofs.Common.{◌≡◌, ℕ, List, [], ◌∷◌, ◌++◌, Option, None, Some, IsSome, sym, ap, ◌∙◌, subst, inl, inr}
 use Rattle.std.specs.Prelude.{◌==◌}
 use Rattle.std.proofs.lemmas.Bool.{cond_both}
@@ -28,7 +28,7 @@ use Rattle.cluster_model.specs.Invariant.{IsSafeWorld}
 use Rattle.cluster_model.proofs.Lines.{AreKept, run_kept}
 use Rattle.cluster_model.proofs.Worlds.{step_safe, safe_kept, new_world_safe}
 
--- a chain under which a line asked is the one that it names
+-- a chain under which a line made its call is the one that it names
 under_named : (p : PartState) (k : ActorKey) (call : ℕ) (named x : Option (List ℕ)) (c : List ℕ) → x ≡ chain_under p k call named → IsSome x → named ≡ Some c → x ≡ Some c
 under_named p k call named x c e some n =
     e ∙ cond_both ((settings_of p.kinds k.kind).depth == 0) None (chain_or named (made_chain p.member p.number call)) (λ (r : Option (List ℕ)). IsSome r → r ≡ Some c)

@@ -1,4 +1,4 @@
--- Every turn and every call that waits was asked by a line of the script, over every list of events.
+-- Every turn and every call that waits was made by a line of the script, over every list of events.
 use Rattle.std.proofs.Common.{◌≡◌, ℕ, cond, ◌+◌, ◌≤◌, List, [], ◌∷◌, ◌++◌, length, set, Option, None, Some, refl, sym, ap, ◌∙◌, subst, inl, inr, arith, append_assoc, length-append}
 use Rattle.std.specs.Prelude.{zero, suc, slice_get, nat_le, ◌==◌}
 use Rattle.std.specs.declared.result.Result.TheVariants.{Ok}
@@ -42,7 +42,7 @@ same_chain_under p q k call named m n kinds =
     let under : Member → ℕ → List TypeSettings → Option (List ℕ) = λ x i ts. cond ((settings_of ts k.kind).depth == 0) None (chain_or named (made_chain x i call)) in
     ap (λ (x : Member). under x p.number p.kinds) (sym m) ∙ ap (λ (i : ℕ). under q.member i p.kinds) (sym n) ∙ ap (λ (ts : List TypeSettings). under q.member q.number ts) (sym kinds)
 
--- each part stands where it stood, and calls and lines have been added alone
+-- each part is where it was, and calls and lines have only been added
 record IsLater (ps : List PartState) (calls : List (Option CallPlace)) (asked : List AskedCall) (qs : List PartState) (more : List (Option CallPlace)) (all : List AskedCall) : Type 0 where
   parts : (n : ℕ) (p : PartState) → slice_get ps n ≡ Some p → (q : PartState) × (slice_get qs n ≡ Some q) × (q.member ≡ p.member) × (q.number ≡ p.number) × (q.kinds ≡ p.kinds)
   taken : (i : ℕ) (c : CallPlace) → call_at calls i ≡ Some c → call_at more i ≡ Some c
@@ -76,7 +76,7 @@ module _ (owner : PlacementTable → ActorKey → Option HostInfo) (part_of : Ac
         under = h.under ∙ same_chain_under h.part q.0 k call h.named q.2 q.3 q.4;
       }
 
-  -- so far each turn and each call that waits was asked, and each call that was taken has a number of its own
+  -- so far each turn and each call that waits was made by a line, and each call that was taken has a number of its own
   pub record AreAskedAt (n : ℕ) (ps : List PartState) (calls : List (Option CallPlace)) (marks : List TraceMark) (asked : List AskedCall) : Type 0 where
     pub deep : (p : PartState) → In p ps → HaveTypesDepth p
     pub cells : (p : PartState) → In p ps → AllHave owner (λ k call chain. WasAsked part_of n ps calls asked p.member k call chain) p.cells
@@ -90,7 +90,7 @@ module _ (owner : PlacementTable → ActorKey → Option HostInfo) (part_of : Ac
     pub safe : IsSafeWorld owner w
     pub all : AreAskedAt w.settings.parts w.parts w.calls w.marks asked
 
-  -- what a step of a part at a place makes of the cells and the marks
+  -- what a step of a part at a place does to the cells and the marks
   stepped : (w : ClusterState) (n : ℕ) (p q : PartState) (xs : List PartMark) (asked : List AskedCall) (more : List (Option CallPlace)) (all : List AskedCall) → slice_get w.parts n ≡ Some p → q.member ≡ p.member
       → IsLater w.parts w.calls asked (set w.parts n q) more all
       → AllHave owner (λ k call chain. WasAsked part_of w.settings.parts (set w.parts n q) more all p.member k call chain) q.cells
@@ -117,7 +117,7 @@ module _ (owner : PlacementTable → ActorKey → Option HostInfo) (part_of : Ac
   deep_stepped : (w : ClusterState) (n : ℕ) (q : PartState) → HaveTypesDepth q → ((p : PartState) → In p w.parts → HaveTypesDepth p) → (x : PartState) → In x (set w.parts n q) → HaveTypesDepth x
   deep_stepped w n q new old x i = elim (In-set w.parts n q x i) [ inl e ↦ subst HaveTypesDepth (sym e) new | inr j ↦ old x j ]
 
-  -- a call that was taken stands at a part that has drawn its number
+  -- a call that was taken is at a part that has drawn its number
   placed_stepped : (ps : List PartState) (n : ℕ) (p q : PartState) (c : CallPlace) → slice_get ps n ≡ Some p → p.drawn ≤ q.drawn → (x : PartState) → slice_get ps c.place ≡ Some x → c.call ≤ x.drawn
       → (y : PartState) × (slice_get (set ps n q) c.place ≡ Some y) × (c.call ≤ y.drawn)
   placed_stepped ps n p q c at more x g d = elim (cases_eq c.place n) [

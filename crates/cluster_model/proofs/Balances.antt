@@ -1,5 +1,5 @@
--- As many turns are open in the parts as began and haven't ended: each step adds to its cells what its marks begin, and
--- takes off what they end.
+-- As many turns are open in the parts as began and haven't ended: each step adds to its cells the turns that its marks
+-- begin, and removes those that they end.
 use Rattle.std.proofs.Common.{◌≡◌, ◌⊎◌, ℕ, Bool, true, false, not, ◌&&◌, ◌+◌, List, [], ◌∷◌, ◌++◌, length, set, Option, None, Some, refl, sym, ap, ◌∙◌, inl, inr, arith, length-append}
 use Rattle.std.specs.Prelude.{zero, suc, nat_lt, ◌==◌, max, option_map, slice_get}
 use Rattle.std.proofs.lemmas.Bool.{cond_both, or_parts, or_cases, true≢false, false≢true}
@@ -84,7 +84,7 @@ inactive_ended : (a : Bool) (key : ActorKey) → ended (marks_of_inactive a key)
 inactive_ended true key = refl
 inactive_ended false key = refl
 
--- a call that begins next is one turn more
+-- a call that begins next is one more turn
 next_begun : (a : Bool) (key : ActorKey) (v : ℕ) (c : CellState) (next : Option Waiter) → length (begun_next c next).turns ≡ length c.turns + begun (marks_of_next a key v next)
 next_begun a key v c None = omega arith
 next_begun a key v c (Some w) =

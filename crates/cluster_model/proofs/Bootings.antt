@@ -72,7 +72,7 @@ step_from s e now m i =
     let t = apply_membership s e now in
     change_from s e now m (subst (λ (hs : List HostInfo). HasMember hs m) (conclude_keeps t.state t.conclusion).hosts i)
 
--- the same of a room of the placement
+-- the same for a room of the placement
 pub placement_from : (s : PlacementState) (e : PlaceEvent) (now : ℕ) (space : List ℕ) (m : Member) → HasMember (hosts_of (room_of (placement_step s e now).state space).members) m →
     HasMember (hosts_of (room_of s space).members) m ⊎ ((h : HostInfo) × (e ≡ changes.Register h) × (m ≡ h.member))
 placement_from s e now space m i = elim (room_after s e now space) [

@@ -1,4 +1,4 @@
--- A boot keeps the cluster safe: its parts are new, and no message speaks of its member.
+-- A boot keeps the cluster safe: its parts are new, and no message names its member.
 use Rattle.std.proofs.Common.{◌≡◌, ℕ, ◌≤◌, List, [], ◌++◌, Option, refl, sym, ap, ◌∙◌, subst, inl, inr, arith}
 use Rattle.std.specs.Prelude.{zero, suc}
 use Rattle.actor_names.specs.declared.member.Member.{Member}

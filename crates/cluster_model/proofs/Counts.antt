@@ -1,4 +1,4 @@
--- How many turns a step of a part begins and ends: the calls that the part lends after it say so.
+-- How many turns a step of a part begins and ends, as given by the calls that the part lends after it.
 use Rattle.std.proofs.Common.{◌≡◌, ◌⊎◌, ℕ, Bool, true, false, not, ◌&&◌, ◌+◌, List, [], ◌∷◌, ◌++◌, length, Option, None, Some, refl, sym, ap, ◌∙◌, inl, inr, arith}
 use Rattle.std.specs.Prelude.{nat_lt, ◌==◌}
 use Rattle.std.specs.declared.result.Result.{Result}
@@ -111,7 +111,7 @@ each_ends_none f (c ∷ cs) h = ended_calls-append (f c).marks (each_cell f cs).
 module _ (owner : PlacementTable → ActorKey → Option HostInfo) where
   -- ---- what each event may not do
 
-  -- so many turns ended
+  -- the number of turns that ended
   abbrev EndsSo : (PartReply → ℕ) → PartStep → Type 0
   EndsSo many s = length (ended_calls s.marks) ≡ many s.reply
 
@@ -265,7 +265,7 @@ counts_from e reply old new r n =
       ended = c.ended ∙ sym (ap (λ (z : List ℕ). ended_by e reply z) recent ∙ ap (λ (z : PartReply). ended_by e z (lent ring_owner e s)) r);
     }
 
--- there was no memory and the part is as before, or the counts of the step are those that the part tells
+-- the part ran out of memory and is as before, or the counts of the step are those that the part reports
 abbrev pub Counts : PartEvent → PartReply → PartState → PartView → Type 0
 Counts e reply old new = ((reply ≡ replies.OutOfMemory) × (new ≡ record { state = old; recent = [] })) ⊎ TellsCounts e reply new (part_step ring_owner old e)
 

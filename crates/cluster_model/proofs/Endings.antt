@@ -43,7 +43,7 @@ use Rattle.cluster_model.proofs.Worlds.{new_world_safe}
 
 -- ---- what the marks tell of an open turn
 
--- a turn that is open after a mark was open, or the mark is of its begin
+-- a turn that is open after a mark was open before it, or the mark is of its beginning
 turn_from : (x : TraceMark) (m : Member) (k : ActorKey) (a : Activity) (t : Turn) → In t (after_trace x m k a).turns → In t a.turns ⊎ (record { member = m; what = TurnBegan k t.call t.chain } ≡ x)
 turn_from x m k a t =
     cond_both (same_member m x.member) _ _ (λ (z : Activity). In t z.turns → In t a.turns ⊎ (record { member = m; what = TurnBegan k t.call t.chain } ≡ x))

@@ -1,4 +1,4 @@
--- The elements that pass a test: where they stand, and what a change of one makes of them.
+-- The elements that pass a test: where they are, and what a change of one does to them.
 use Rattle.std.proofs.Common.{◌≡◌, ℕ, Bool, true, false, List, [], ◌∷◌, set, Option, Some, refl, sym, ap, ◌∙◌, subst, inl, inr}
 use Rattle.std.specs.Prelude.{zero, suc, slice_get, filter, if◌then◌else◌}
 use Rattle.turn_core.specs.CellSound.{In}

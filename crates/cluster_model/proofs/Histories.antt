@@ -1,4 +1,4 @@
--- The marks so far tell what the parts are, no actor is active twice in them, and no two turns overlap but under one
+-- The marks so far say what the parts are, no actor is active twice in them, and two turns overlap only under one
 -- chain.
 use Rattle.std.proofs.Common.{◌≡◌, ◌⊎◌, ℕ, true, false, ◌<◌, ◌≤◌, List, [], ◌∷◌, ◌++◌, length, set, Option, None, Some, refl, sym, ap, ◌∙◌, subst, inl, inr, arith, length-append}
 use Rattle.std.specs.Prelude.{zero, suc, slice_get}
@@ -66,7 +66,7 @@ pub history-others : (xs : List PartMark) (m n : Member) (k : ActorKey) (h : Act
 history-others [] m n k h f = refl
 history-others (x ∷ xs) m n k h f = ap (history (tagged n xs) m k) (cond-false (same_member m n) _ _ f) ∙ history-others xs m n k h f
 
--- a mark stands in the first list or in the second
+-- a mark is in the first list or in the second
 pub split_append : (xs ys before after : List TraceMark) (x : TraceMark) → xs ++ ys ≡ before ++ x ∷ after →
     ((rest : List TraceMark) × (xs ≡ before ++ x ∷ rest)) ⊎ ((front : List TraceMark) × (before ≡ xs ++ front) × (ys ≡ front ++ x ∷ after))
 split_append [] ys before after x e = inr (before, refl, e)
@@ -99,7 +99,7 @@ module _ (part_of : ActorKey → ℕ → ℕ) (n0 : ℕ) where
     pub here : (i : ℕ) (p : PartState) → slice_get ps i ≡ Some p → (k : ActorKey) → part_of k n0 ≡ p.number → history marks p.member k no_activity ≡ activity_of (cell_at p.cells k)
     pub nowhere : (m : Member) (k : ActorKey) → ((i : ℕ) (p : PartState) → slice_get ps i ≡ Some p → p.member ≡ m → part_of k n0 ≡ p.number → ⊥) → history marks m k no_activity ≡ no_activity
 
-  -- an actor that the marks tell of has its part
+  -- an actor that the marks mention has its part
   pub home : (ps : List PartState) (m : Member) (k : ActorKey) → ((i : ℕ) × (p : PartState) × (slice_get ps i ≡ Some p) × (p.member ≡ m) × (part_of k n0 ≡ p.number)) ⊎ ((i : ℕ) (p : PartState) → slice_get ps i ≡ Some p → p.member ≡ m → part_of k n0 ≡ p.number → ⊥)
   home [] m k = inr (λ i p e. absurd (cc))
   home (p ∷ ps) m k = elim (home ps m k) [
@@ -131,14 +131,14 @@ module _ (part_of : ActorKey → ℕ → ℕ) (n0 : ℕ) where
     pub not_marked : (k : ActorKey) → (part_of k n0 ≡ p.number → ⊥) → (y : PartMark) → In y xs → is_mark_of y k ≡ true → ⊥
     not_marked k away y i t = away (from_placed k (r.marked y k i t))
 
-    -- the part that stood there before
+    -- the part that was there before
     pub orig : (i : ℕ) (x : PartState) → slice_get changed i ≡ Some x → (y : PartState) × (slice_get ps i ≡ Some y) × (y.member ≡ x.member) × (y.number ≡ x.number)
     orig i x g = elim (get-set ps n i q x p at g) [
       | inl h ↦ (p, subst (λ (j : ℕ). slice_get ps j ≡ Some p) (sym h.0) at, sym st.member ∙ ap (λ (z : PartState). z.member) (sym h.1), sym st.number ∙ ap (λ (z : PartState). z.number) (sym h.1))
       | inr h ↦ (x, h.1, refl, refl)
     ]
 
-    -- and the one that stands there after
+    -- and the one that is there after
     pub after_at : (i : ℕ) (y : PartState) → slice_get ps i ≡ Some y → (x : PartState) × (slice_get changed i ≡ Some x) × (x.member ≡ y.member) × (x.number ≡ y.number)
     after_at i y g = elim (cases_eq i n) [
       | inl h ↦ (
@@ -205,7 +205,7 @@ module _ (part_of : ActorKey → ℕ → ℕ) (n0 : ℕ) where
         go None f b = absurd b
         go (Some c) f b = (c, In-cell_at cs k c f, key-cell_at cs k c f, refl)
 
-    -- another member's cell of the actor, that the marks tell of
+    -- another member's cell of the actor, which the marks mention
     other_cell : (m : Member) (k : ActorKey) → (m ≡ p.member → ⊥) → (h : (history marks m k no_activity ≡ no_activity) → ⊥) →
         (x : PartState) × In x ps × In x changed × (x.member ≡ m) × (history marks m k no_activity ≡ activity_of (cell_at x.cells k))
     other_cell m k ne h = elim (home ps m k) [

@@ -1,5 +1,5 @@
--- What the marks tell of two mark places: an actor that became active stays so, and a turn stays open, until a mark says
--- otherwise; so the headline's two sentences follow from what is true at each mark.
+-- What the marks say between two of them: an actor that became active stays so, and a turn stays open, until a mark
+-- says otherwise; so the headline's two sentences follow from what is true at each mark.
 use Rattle.std.proofs.Common.{◌≡◌, ◌⊎◌, ℕ, true, cond, ◌+◌, ◌<◌, ◌≤◌, List, [], ◌∷◌, ◌++◌, length, Option, IsSome, refl, sym, ap, ◌∙◌, subst, inl, inr, arith, append_assoc, length-append}
 use Rattle.std.specs.Prelude.{◌==◌}
 use Rattle.std.proofs.lemmas.Bool.{cond_both, cond-true}
@@ -20,7 +20,7 @@ use Rattle.cluster_model.specs.History.{history, IsNeverTwice, IsOneChain}
 use Rattle.cluster_model.proofs.Basics.{same_member-true, same_member-self}
 use Rattle.cluster_model.proofs.Histories.{history-append}
 
--- what one mark makes of an actor's activity on a member
+-- what one mark does to an actor's activity on a member
 abbrev pub after_trace : TraceMark → Member → ActorKey → Activity → Activity
 after_trace x m k a = cond (same_member m x.member) (cond (is_mark_of x.what k) (after_mark x.what a) a) a
 

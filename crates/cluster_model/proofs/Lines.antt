@@ -1,5 +1,5 @@
--- What every event of a cluster comes down to: a property that seven changes of a safe cluster keep is kept by every
--- event, and by every list of events. One that holds of the calls asked so far needs a case of its own for a call.
+-- What every event of a cluster comes down to: a property that seven changes of a safe cluster preserve is preserved by
+-- every event, and by every list of events. A property of the calls made so far needs a case of its own for a call.
 use Rattle.std.proofs.Common.{◌≡◌, ℕ, true, ◌+◌, ◌≤◌, List, [], ◌∷◌, length, Option, None, Some, refl, sym, ap, ◌∙◌, subst, inr}
 use Rattle.std.specs.Prelude.{suc, nat_le, ◌==◌, slice_get}
 use Rattle.std.proofs.lemmas.Bool.{cond_both}
@@ -45,7 +45,7 @@ module _ (owner : PlacementTable → ActorKey → Option HostInfo) (part_of : Ac
   IsHonest w changes.Tick = (m : Member) → In m (late_in w.placement.rooms w.now) → AllStopped w.parts m
   IsHonest w e = ⊥
 
-  -- what every event but a call comes down to: no part that takes a step is asked
+  -- what every event but a call comes down to: no part that takes a step is called
   pub record AreQuietKept (P : ClusterState → Type 0) : Type 0 where
     pub safe : (w : ClusterState) → P w → IsSafeWorld owner w
     pub other : (w : ClusterState) (now events : ℕ) → P w → P (record w { now = now; events = events })
@@ -57,7 +57,7 @@ module _ (owner : PlacementTable → ActorKey → Option HostInfo) (part_of : Ac
     pub restart : (w : ClusterState) → P w → P (record w { placement = placement_restarted w.placement w.now })
     pub boot : (w : ClusterState) (m : Member) (kinds : List (List ℕ)) → m.boot ≡ suc w.boots → P w → P (world.booted w m kinds).world
 
-  -- the same of every event, for a property that doesn't look at the calls
+  -- the same for every event, for a property that doesn't look at the calls
   pub record AreKept (P : ClusterState → Type 0) : Type 0 where
     pub safe : (w : ClusterState) → P w → IsSafeWorld owner w
     pub other : (w : ClusterState) (now : ℕ) (calls : List (Option CallPlace)) (events : ℕ) → P w → P (record w { now = now; calls = calls; events = events })

@@ -20,7 +20,7 @@ use Rattle.cluster_model.specs.Invariant.{IsSafeWorld}
 use Rattle.cluster_model.proofs.Lines.{AreKept, step_kept}
 use Rattle.cluster_model.proofs.Worlds.{safe_kept}
 
--- to forget nothing twice is to forget nothing
+-- two changes that forget nothing, one after the other, forget nothing
 pub forgets_over : (s t u : RoomState) → ForgetsNothing s t → ForgetsNothing t u → ForgetsNothing s u
 forgets_over s t u a b =
     record {

@@ -143,7 +143,7 @@ module _ (owner : PlacementTable → ActorKey → Option HostInfo) where
   at_last_stage last js fixed ms ps stages.Update f m i = let h = f.0 m last i in absurd (omega arith)
   at_last_stage last js fixed ms ps stages.Unlock f m i = refl
 
-  -- where the round is at its last stage, each part of a member that was ever told a version has the round's table behind it
+  -- if the round is at its last stage, each part of a member that was ever told a version is past the round's table
   module _ (last : ℕ) (js : List Joined) (ks : List Known) (fixed : List HostInfo) (ps : List PartState) (ms : List Message) (boots : ℕ)
       (parts : (q : PartState) → In q ps → IsPartBacked owner ms boots q) (messages : AreMessagesSound last (hosts_of js) ks ms) (members : AreMembersSound owner (hosts_of js) ms ps)
       (round : IsRoundSound owner last js fixed ms ps stages.Unlock) where

@@ -55,7 +55,7 @@ none_running ps (x ∷ xs) e m i =
     (λ t f. elim i [ inl s ↦ subst (AllStopped ps) (sym s) (all_stopped_all ps x t) | inr j ↦ more f m j ])
     (λ t f. absurd (cc)) e
 
--- the part at the place of a member's part is that one
+-- the part at the place of a member's part is that part
 pub same_place : (ps : List PartState) (m : Member) (i n : ℕ) (p : PartState) → place_of_part ps m i ≡ Some n → slice_get ps n ≡ Some p → (p.member ≡ m) × (p.number ≡ i)
 same_place [] m i n p e f = absurd (cc)
 same_place (q ∷ ps) m i n p e f =
@@ -86,21 +86,21 @@ same_place (q ∷ ps) m i n p e f =
 some_event : (a b : PartEvent) → Some a ≡ Some b → a ≡ b
 some_event a b e = cc
 
--- what an answer makes a part do, its message brings
+-- what an answer makes a part do comes with the answer's message
 pub told_heard : (ms : List Message) (m : Member) (r : Answer) (now : ℕ) (x : PartEvent) → In (Tells m r) ms → told_event r now ≡ Some x → IsHeard ms m x
 told_heard ms m (LockAt v) now x i e = subst (IsHeard ms m) (some_event _ x e) i
 told_heard ms m (UpdateTo t) now x i e = subst (IsHeard ms m) (some_event _ x e) i
 told_heard ms m (UnlockAt v) now x i e = subst (IsHeard ms m) (some_event _ x e) i
 told_heard ms m (Says reply) now x i e = absurd (cc)
 
--- and asks no actor
+-- and calls no actor
 pub told_asks_not : (r : Answer) (now : ℕ) (x : PartEvent) → told_event r now ≡ Some x → (k : ActorKey) → IsAsked x k → ⊥
 told_asks_not (LockAt v) now x e k a = subst (λ (z : PartEvent). IsAsked z k) (sym (some_event _ x e)) a
 told_asks_not (UpdateTo t) now x e k a = subst (λ (z : PartEvent). IsAsked z k) (sym (some_event _ x e)) a
 told_asks_not (UnlockAt v) now x e k a = subst (λ (z : PartEvent). IsAsked z k) (sym (some_event _ x e)) a
 told_asks_not (Says reply) now x e k a = absurd (cc)
 
--- a call that is asked comes by no message, and asks its actor
+-- a call comes by no message, and calls its actor
 pub ask_heard : (ms : List Message) (m : Member) (key : ActorKey) (least : ℕ) (chain : Option (List ℕ)) (now : ℕ) → IsHeard ms m (ask_of key least chain now)
 ask_heard ms m key zero chain now = tt
 ask_heard ms m key (suc least) chain now = tt

@@ -1,4 +1,4 @@
--- What the marks tell of the versions at which parts opened: each actor that was active was given by that version's
+-- What the marks say of the versions at which parts opened: each actor that was active was given by that version's
 -- table.
 use Rattle.std.proofs.Common.{◌≡◌, ◌⊎◌, ℕ, true, false, cond, ◌<◌, List, [], ◌∷◌, ◌++◌, set, Option, Some, refl, sym, ap, ◌∙◌, subst, inl, inr, append_assoc}
 use Rattle.std.specs.Prelude.{slice_get, ◌==◌}
@@ -119,7 +119,7 @@ became (PartOpened j v ∷ ys) k h a = elim (became ys k h a) [
   | inr b ↦ inr (b.0, PartOpened j v ∷ b.1, b.2, ap (◌∷◌ (PartOpened j v)) b.3)
 ]
 
--- what a place of the first marks tells, a place of the longer list tells too
+-- what holds at a place of the first marks holds at a place of the longer list too
 had_longer : (owner : PlacementTable → ActorKey → Option HostInfo) (part_of : ActorKey → ℕ → ℕ) (n0 : ℕ) (marks more : List TraceMark) (m : Member) (k : ActorKey) (u : ℕ) → HadActive owner part_of n0 marks m k u → HadActive owner part_of n0 (marks ++ more) m k u
 had_longer owner part_of n0 marks more m k u h =
     record { before = h.before; after = h.after ++ more; place = ap (λ (l : List TraceMark). l ++ more) h.place ∙ append_assoc h.before h.after more; active = h.active; opened = h.opened }
@@ -141,7 +141,7 @@ module _ (part_of : ActorKey → ℕ → ℕ) (n0 : ℕ) where
       | inr h ↦ ap (λ (l : List PartMark). opens l p.number p.opened) h.1 ∙ opens-at h.0 p.number _ q.opened h.2 ∙ cond-true (p.number == p.number) _ _ (eq-eqb p.number p.number refl)
     ]
 
-    -- a front of the marks changes nothing of another part's opening
+    -- a prefix of the marks changes nothing about another part's opening
     opens_away : (ys zs : List PartMark) → xs ≡ ys ++ zs → (i v : ℕ) → (i ≡ p.number → ⊥) → opens ys i v ≡ v
     opens_away ys zs s i v ne = elim r.at [
       | inl h ↦ opens-at ys i v q.opened (at_front q.opened ys zs (subst (AreAt q.opened) s h.0))

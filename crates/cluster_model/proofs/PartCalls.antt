@@ -1,5 +1,5 @@
--- What is so of every call of a part: of those that are open or wait in its cells, and of those whose turns a step
--- begins. A step adds none but the one that is asked.
+-- What holds of every call of a part: of those that are open or wait in its cells, and of those whose turns a step
+-- begins. A step adds no call but the one that it makes.
 use Rattle.std.proofs.Common.{◌≡◌, ℕ, Bool, true, false, not, ◌&&◌, ◌+◌, List, [], ◌∷◌, ◌++◌, Option, None, Some, refl, sym, ap, ◌∙◌, subst, inl, inr}
 use Rattle.std.specs.Prelude.{zero, suc, nat_lt, ◌==◌, max, is_some, option_map}
 use Rattle.std.specs.declared.result.Result.TheVariants.{Ok}
@@ -50,7 +50,7 @@ types_depth_kept e p q marks kinds r h c i =
     ]
 
 module _ (owner : PlacementTable → ActorKey → Option HostInfo) (Q : ActorKey → ℕ → Option (List ℕ) → Type 0) where
-  -- it is so of each call of a cell, of each cell, and of each turn that begins in these marks
+  -- it holds for each call of a cell, of each cell, and of each turn that begins in these marks
   pub record HasCalls (k : ActorKey) (c : CellState) : Type 0 where
     pub turns : (t : Turn) → In t c.turns → Q k t.call t.chain
     pub line : (v : Waiter) → In v c.line → Q k v.call v.chain
@@ -151,7 +151,7 @@ module _ (owner : PlacementTable → ActorKey → Option HostInfo) (Q : ActorKey
 
   -- ---- a call is asked
 
-  -- Where the reply takes the call it is under the next number; and if it is so of that call, it is so of each.
+  -- If the reply takes the call, the call has the next number; and if it holds for that call, it holds for each.
   pub record TakesCall (at : ℕ) (p : PartState) (k : ActorKey) (chain : Option (List ℕ)) (s : PartStep) : Type 0 where
     pub taken : (x : CallPlace) → place_of_call at s.reply ≡ Some x → (x ≡ record { place = at; call = p.drawn + 1 }) × (s.part.drawn ≡ p.drawn + 1)
     pub has : ((x : CallPlace) → place_of_call at s.reply ≡ Some x → Q k (p.drawn + 1) chain) → StepHas s
@@ -387,6 +387,6 @@ module _ (owner : PlacementTable → ActorKey → Option HostInfo) (Q : ActorKey
   has_at p Updated e quiet h = running_has p e quiet h
   has_at p Open e quiet h = running_has p e quiet h
 
-  -- a step that asks nothing
+  -- a step that makes no call
   pub step_has : (p : PartState) (e : PartEvent) → ((k : ActorKey) → IsAsked e k → ⊥) → AllHave p.cells → StepHas (part_step owner p e)
   step_has p e quiet h = has_at p p.stage e quiet h

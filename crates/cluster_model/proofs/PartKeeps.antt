@@ -41,7 +41,7 @@ stopped_open : Stopped ≡ Open → ⊥
 stopped_open e = cc
 
 module _ (owner : PlacementTable → ActorKey → Option HostInfo) where
-  -- a part that is open has opened at the version that it has seen, and has the table of it
+  -- a part that is open has opened at the version that it has seen, and has that version's table
   pub backed_open : (ms : List Message) (boots : ℕ) (p : PartState) → IsPartBacked owner ms boots p → p.stage ≡ Open → (p.table.version ≡ p.seen) × (p.opened ≡ p.seen)
   backed_open ms boots p s o = tied_open p.stage p o s.tied.stage
 

@@ -1,4 +1,4 @@
--- A step of the placement keeps the cluster safe, and its answer is that of the phase which it leaves.
+-- A step of the placement keeps the cluster safe, and its answer is that of the phase after the step.
 use Rattle.std.proofs.Common.{◌≡◌, ◌⊎◌, ℕ, suc, true, false, ◌&&◌, ◌+◌, ◌-◌, ◌<◌, ◌≤◌, List, [], map, Option, None, Some, refl, sym, ap, ◌∙◌, subst, inl, inr, arith}
 use Rattle.std.specs.Prelude.{nat_le, ◌==◌}
 use Rattle.std.proofs.lemmas.Bool.{and_parts, eqb-true, leb-false, cond_both, false≢true}
@@ -38,7 +38,7 @@ same_stage-true stages.Unlock stages.Lock e = absurd (false≢true e)
 same_stage-true stages.Unlock stages.Update e = absurd (false≢true e)
 same_stage-true stages.Unlock stages.Unlock e = refl
 
--- the stage of the round to a member that is pending in it
+-- the reply is the stage of the running round, to a member that is pending in it
 pub record IsOfRound (s : RoomState) (m : Member) (r : PlaceReply) : Type 0 where
   pub stage : AckStage
   pub entry : Joined
@@ -48,7 +48,7 @@ pub record IsOfRound (s : RoomState) (m : Member) (r : PlaceReply) : Type 0 wher
   pub pending : entry.pending ≡ true
   pub reply : r ≡ stage_reply stage (last_version s)
 
--- what a reply to a member says: nothing of a version, or the stage of the phase to one that is pending in it
+-- what a reply to a member says: no version, or the stage of the phase to a member that is pending in it
 abbrev pub IsReplyOf : RoomState → Member → PlaceReply → Type 0
 IsReplyOf s m r = ((space : List ℕ) → version_of (answer_of space s.table r) ≡ None) ⊎ IsOfRound s m r
 

@@ -179,7 +179,7 @@ late_among now space m (r ∷ rs) i = pick (late_among now space m rs) (bytes_eq
     pick later true k = In-left (late_of r.room.members now) (late_in rs now) m k
     pick later false k = In-right (late_of r.room.members now) (late_in rs now) m (later k)
 
--- who is late in a room is late in the placement
+-- a member that is late in a room is late in the placement
 pub late_room : (s : PlacementState) (now : ℕ) (space : List ℕ) (m : Member) → In m (late_of (room_of s space).members now) → In m (late_in s.rooms now)
 late_room s now space m i = late_among now space m s.rooms i
 

@@ -26,7 +26,7 @@ module _ (owner : PlacementTable → ActorKey → Option HostInfo) where
 
   -- ---- entries that change while a round runs
 
-  -- the entry is as before, but for the moment when it was heard, and where it acknowledged for being pending
+  -- the entry is as before, except for the moment when it was heard from and, if it acknowledged, for being pending
   pub record Follows (last : ℕ) (ps : List PartState) (stage : AckStage) (j y : Joined) : Type 0 where
     pub host : y.host ≡ j.host
     pub target : y.target ≡ j.target

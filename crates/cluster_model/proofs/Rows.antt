@@ -125,7 +125,7 @@ stopped_member_boots_again = refl
 lost_running_member_is_refused : outcomes owner part_of opened (Lost a/1 ∷ []) ≡ Err (refused.Dishonest a/1) ∷ []
 lost_running_member_is_refused = refl
 
--- what names nothing changes nothing
+-- an event that names nothing that exists changes nothing
 nothing_is_named : outcomes owner part_of opened (Beat b/2 ∷ To 2 ∷ Part 1 0 ∷ Part 2 1 ∷ Part 8 0 ∷ End 1 ∷ Leave a/1 ∷ PlacementTick ∷ [])
     ≡ done (nothing ∷ nothing ∷ nothing ∷ nothing ∷ Ignored ∷ nothing ∷ NotStopped ∷ Dropped 0 ∷ [])
 nothing_is_named = refl
@@ -147,7 +147,7 @@ calls_are_those_of_their_lines : asked_calls (Call 1 b/2 key 0 None ∷ Call 1 a
     ≡ record { number = 1; member = a/1; key = key; chain = Some c } ∷ record { number = 3; member = a/1; key = key; chain = Some d } ∷ []
 calls_are_those_of_their_lines = refl
 
--- with reentrancy off a call has no chain, also where its line names one
+-- with reentrancy off a call has no chain, even if its line names one
 chain_is_ignored_without_reentrancy : (cluster_run owner part_of opened (Call 1 a/1 key 0 (Some c) ∷ [])).marks
     ≡ record { member = a/1; what = PartOpened 0 1 } ∷ record { member = a/1; what = BecameActive key 1 } ∷ record { member = a/1; what = TurnBegan key 1 None } ∷ []
 chain_is_ignored_without_reentrancy = refl
@@ -176,7 +176,7 @@ line_is_that_of_its_number : asked_calls (Call 1 a/1 key 9 None ∷ Call 2 a/1 k
     ≡ record { number = 2; member = a/1; key = key; chain = Some c } ∷ []
 line_is_that_of_its_number = refl
 
--- the chain under which a line asks: none with reentrancy off, the one named, else the part's own
+-- the chain under which a line makes its call: none with reentrancy off, the one named, else the part's own
 chain_is_none_without_reentrancy : chain_under (new_part a/1 0 []) key 2 (Some c) ≡ None
 chain_is_none_without_reentrancy = refl
 

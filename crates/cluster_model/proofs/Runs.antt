@@ -1,4 +1,4 @@
--- Over every list of events: the marks tell what the parts are, no actor is active twice in them, and turns overlap
+-- Over every list of events: the marks say what the parts are, no actor is active twice in them, and turns overlap
 -- only under one chain.
 use Rattle.std.proofs.Common.{◌≡◌, ◌⊎◌, ℕ, cond, ◌+◌, ◌≤◌, List, [], ◌∷◌, ◌++◌, length, set, Option, Some, refl, sym, ap, ◌∙◌, subst, inl, inr, arith}
 use Rattle.std.specs.Prelude.{zero, suc, slice_get, bytes_eq}
@@ -38,7 +38,7 @@ use Rattle.cluster_model.specs.Invariant.{IsSafeWorld}
 use Rattle.cluster_model.proofs.Lines.{AreKept, run_kept}
 use Rattle.cluster_model.proofs.Worlds.{step_safe, safe_kept, new_world_safe}
 
--- a place in two lists joined
+-- an element of two joined lists
 pub get-append : {A : Type 0} (xs ys : List A) (i : ℕ) (x : A) → slice_get (xs ++ ys) i ≡ Some x → (slice_get xs i ≡ Some x) ⊎ ((j : ℕ) × (i ≡ length xs + j) × (slice_get ys j ≡ Some x))
 get-append [] ys i x e = inr (i, omega arith, e)
 get-append (z ∷ xs) ys zero x e = inl e

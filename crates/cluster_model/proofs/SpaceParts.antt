@@ -40,7 +40,7 @@ in_messages ms x space i e = In-passes (λ (y : Message). is_of space (named_in 
 pub from_messages : (ms : List Message) (x : Message) (space : List ℕ) → In x (messages_of space ms) → In x ms × (is_of space (named_in x) ≡ true)
 from_messages ms x space i = In-filter (λ (y : Message). is_of space (named_in y)) ms x i
 
--- a message more
+-- one more message
 pub pushed_own : (ms : List Message) (x : Message) (space : List ℕ) → is_of space (named_in x) ≡ true → messages_of space (ms ++ x ∷ []) ≡ messages_of space ms ++ x ∷ []
 pushed_own ms x space e = filter-append (λ (y : Message). is_of space (named_in y)) ms (x ∷ []) ∙ ap (λ (b : Bool). messages_of space ms ++ (if b then x ∷ [] else [])) e
 
@@ -87,7 +87,7 @@ module _ (owner : PlacementTable → ActorKey → Option HostInfo) where
   pub reached_own : (ps : List PartState) (m : Member) (stage : AckStage) (v : ℕ) (space : List ℕ) → MemberReached owner ps m stage v → MemberReached owner (parts_of space ps) m stage v
   reached_own ps m stage v space h p i e = h p (from_parts ps p space i) e
 
-  -- what a part has among the messages of its space it has among all
+  -- what a part has among the messages of its space, it has among all messages
   pub backed : (w : ClusterState) → IsSafeWorld owner w → (p : PartState) → In p w.parts → IsPartBacked owner w.messages w.boots p
   backed w s p i =
       let space = p.member.space in
@@ -111,7 +111,7 @@ module _ (owner : PlacementTable → ActorKey → Option HostInfo) where
         go None e f = absurd (cc)
         go (Some h) e f = keeps t k h e
 
-    -- What a cluster that is safe says of its members' tables and parts, over all spaces.
+    -- What a safe cluster says of its members' tables and parts, over all spaces.
     pub record AreSpacesApart (ms : List Message) (ps : List PartState) : Type 0 where
       -- a table gives a member actors of its space
       pub given : (m : Member) (t : PlacementTable) (k : ActorKey) → In (Tells m (UpdateTo t)) ms → Gives owner t k m → k.space ≡ m.space

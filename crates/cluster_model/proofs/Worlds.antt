@@ -116,7 +116,7 @@ module _ (owner : PlacementTable → ActorKey → Option HostInfo) (part_of : Ac
   asked_backed w space (Ack m st v) may = (reached_own owner w.parts m st v space may.0, may.1)
   asked_backed w space (Leave m) may = (stopped_own w.parts m space may.0, may.1)
 
-  -- a reply that speaks of no version
+  -- a reply that gives no version
   silent_plain : (ps : List PartState) (boots : ℕ) (m : Member) (a : Answer) → version_of a ≡ None → IsPlain owner ps boots (Tells m a)
   silent_plain ps boots m a e =
       record {

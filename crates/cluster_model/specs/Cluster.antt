@@ -36,9 +36,10 @@ IsMember s m = HasMember (hosts_of s.room.members) m
 abbrev pub last_of : SpaceState → ℕ
 last_of s = last_version s.room
 
--- Every version is below the next one, and each version that a part has now came by a message. A round's version is
--- the next one less one; those pending are targets, and who was told its version and is a member is one. So each message of
--- its version went to one of its targets, but for members that have gone since, whose parts have all stopped.
+-- Every version is below the next one, and each version that a part has now came by a message. The running round's
+-- version is the next one less one, and not 0. Pending members are targets, and so is each member that was told the
+-- round's version. So each message of that version went to one of its targets, except for members that have gone since,
+-- whose parts have all stopped.
 pub record VersionsBelowNext (s : SpaceState) : Type 0 where
   pub messages : (m : Member) (v : ℕ) → WasTold s.messages m v → v < s.room.next_version
   pub seen : (p : PartState) → In p s.parts → p.seen < s.room.next_version
@@ -54,7 +55,8 @@ pub record VersionsBelowNext (s : SpaceState) : Type 0 where
   pub unlock_came : (p : PartState) → In p s.parts → 0 < p.opened → In (Tells p.member (UnlockAt p.opened)) s.messages
 
 -- The Update messages of a version carry one table, which is that of each part that installed the version, and of the
--- round from its second stage on.
+-- round from its second stage on. Before that stage there is no Update of the round's version, nor before the third an
+-- Unlock.
 pub record OneTablePerVersion (s : SpaceState) : Type 0 where
   pub messages : (m n : Member) (t u : PlacementTable) → In (Tells m (UpdateTo t)) s.messages → In (Tells n (UpdateTo u)) s.messages → t.version ≡ u.version → t ≡ u
   pub installed : (p : PartState) (m : Member) (t : PlacementTable) → In p s.parts → In (Tells m (UpdateTo t)) s.messages → t.version ≡ p.table.version → t ≡ p.table
@@ -64,8 +66,9 @@ pub record OneTablePerVersion (s : SpaceState) : Type 0 where
   pub updating_table : s.room.phase ≡ Running stages.Update → (m : Member) (t : PlacementTable) → In (Tells m (UpdateTo t)) s.messages → t.version ≡ last_of s → t ≡ table_of s.space (last_of s) s.room.table
   pub unlocking_table : s.room.phase ≡ Running stages.Unlock → (m : Member) (t : PlacementTable) → In (Tells m (UpdateTo t)) s.messages → t.version ≡ last_of s → t ≡ table_of s.space (last_of s) s.room.table
 
--- Who was told a version is a member, or its parts have all stopped; who asks to leave has stopped. Boots are known and
--- drawn, a node has one member, and before the first round the placement is the opening one.
+-- A member that was told a version is still a member, or its parts have all stopped; those of one that asks to leave
+-- have all stopped. Boots are known and drawn, a node has one member, and before the first round the placement is the
+-- opening one.
 pub record MembersOrStopped (s : SpaceState) : Type 0 where
   pub told : (m : Member) (v : ℕ) → WasTold s.messages m v → IsMember s m ⊎ AllStopped s.parts m
   pub leaves : (m : Member) → In (Asks (Leave m)) s.messages → AllStopped s.parts m
@@ -101,16 +104,17 @@ pub record NamedWereBooted (w : ClusterState) : Type 0 where
 
 -- ---- the history
 
--- Between an Active of an actor on a member and the next Inactive of both no other member has an Active of it.
+-- Between an Active mark of an actor on a member and the next Inactive mark of both, no other member has an Active mark
+-- of the actor.
 abbrev pub SingleActivation : ClusterState → Type 0
 SingleActivation w =
     (before middle after : List TraceMark) (m n : Member) (k : ActorKey) (u v : ℕ) →
     w.marks ≡ before ++ record { member = m; what = BecameActive k u } ∷ (middle ++ record { member = n; what = BecameActive k v } ∷ after) →
     (In (record { member = m; what = BecameInactive k }) middle → ⊥) → m ≡ n
 
--- Two turns of one actor that overlap, the first not having ended before the second begins, are on one member, under one
--- identifier, and the type has reentrancy on. At most the depth of turns of an actor are open on a member at any moment,
--- with reentrancy off one; and turns of it are open on one member at most.
+-- Two turns of one actor that overlap (the first hasn't ended before the second begins) are on one member, under one
+-- identifier, and the type has reentrancy on. At any moment, at most as many turns of an actor are open on a member as
+-- the depth, one with reentrancy off; and turns of it are open on at most one member.
 pub record TurnsIsolated (w : ClusterState) : Type 0 where
   pub one_chain : (before middle after : List TraceMark) (m n : Member) (k : ActorKey) (a b : ℕ) (x y : Option (List ℕ)) →
       w.marks ≡ before ++ record { member = m; what = TurnBegan k a x } ∷ (middle ++ record { member = n; what = TurnBegan k b y } ∷ after) →
@@ -120,24 +124,25 @@ pub record TurnsIsolated (w : ClusterState) : Type 0 where
       In t (history before m k no_activity).turns → In u (history before n k no_activity).turns → m ≡ n
 
 module _ (owner : PlacementTable → ActorKey → Option HostInfo) (part_of : ActorKey → ℕ → ℕ) where
-  -- An acknowledged stage is reached by its member; from the second stage on the targets have reached the one before, and
-  -- a target that isn't pending has reached the stage itself.
+  -- A member that acknowledged a stage has reached it; from the second stage on the targets have reached the stage
+  -- before, and a target that isn't pending has reached the stage itself.
   pub record AcksAreReached (s : SpaceState) : Type 0 where
     pub acks : (m : Member) (stage : AckStage) (v : ℕ) → In (Asks (Ack m stage v)) s.messages → MemberReached owner s.parts m stage v
     pub updating : s.room.phase ≡ Running stages.Update → (j : Joined) → In j s.room.members → j.target ≡ true → MemberReached owner s.parts j.host.member stages.Lock (last_of s)
     pub unlocking : s.room.phase ≡ Running stages.Unlock → (j : Joined) → In j s.room.members → j.target ≡ true → MemberReached owner s.parts j.host.member stages.Update (last_of s)
     pub not_pending : (stage : AckStage) (j : Joined) → s.room.phase ≡ Running stage → In j s.room.members → j.target ≡ true → j.pending ≡ false → MemberReached owner s.parts j.host.member stage (last_of s)
 
-  -- An active cell is owned in the table at which its part opened last. Where at any place of the marks a member had an
-  -- actor active while its part had opened last at a version, an Update and an Unlock of it went to the member and that
-  -- table gives it the actor; a later Active elsewhere has a greater version.
+  -- An active cell is owned in the table at which its part opened last. If at any place of the marks a member had an
+  -- actor active while its part had opened last at a version, an Update and an Unlock of that version went to the
+  -- member and the Update's table gives it the actor; a later Active elsewhere has a greater version.
   pub record ActiveMeansOwned (w : ClusterState) : Type 0 where
     pub owned : (p : PartState) (c : ActorCell) → In p w.parts → In c p.cells → c.active ≡ true → IsOwnedAtOpening owner w.messages p c
     pub given : AreGiven owner part_of w.settings.parts w.messages w.marks
     pub rise : DoVersionsRise owner part_of w.settings.parts w.marks
 
-  -- Once an Unlock of a version exists, each running part of a member that was told a version of at most it has seen it,
-  -- and so has each running part that has seen any; an active cell of a part that opened before is owned in its table.
+  -- Once an Unlock of a version exists, that version or a later one was seen by each running part of a member that was
+  -- told the version or an earlier one, and by each running part that has seen any; an active cell of a part that
+  -- opened before the version is owned in the version's table.
   pub record NobodyBehindUnlock (s : SpaceState) : Type 0 where
     pub told : (v u : ℕ) (p : PartState) → IsUnlocked s.messages u → In p s.parts → WasTold s.messages p.member v → v ≤ u → (p.stage ≡ Stopped) ⊎ (u ≤ p.seen)
     pub seen : (u : ℕ) (p : PartState) → IsUnlocked s.messages u → In p s.parts → 0 < p.seen → (p.stage ≡ Stopped) ⊎ (u ≤ p.seen)
@@ -152,7 +157,7 @@ module _ (owner : PlacementTable → ActorKey → Option HostInfo) (part_of : Ac
     pub within : (p : PartState) (c : ActorCell) → In p w.parts → In c p.cells → length c.inner.turns ≤ most_turns (depth_in w.settings c.key.kind)
     pub no_idle_waiter : (p : PartState) → In p w.parts → NoIdleWaiter owner p
 
-  -- the cluster invariant, with the first part of the headline: what holds in each space, and of all of them together
+  -- the cluster invariant, with the first part of the headline: what holds in each space, and over all of them together
   pub record ClusterInvariant (w : ClusterState) : Type 0 where
     pub versions : (space : List ℕ) → VersionsBelowNext (seen_in w space)
     pub tables : (space : List ℕ) → OneTablePerVersion (seen_in w space)

@@ -10,7 +10,7 @@ use Rattle.part_core.specs.Marks.{PartMark, TurnBegan, TurnEnded}
 use Rattle.part_core.specs.Part.{PartState}
 use Rattle.cluster_model.specs.World.{ClusterState, TraceMark}
 
--- one for the begin of a turn, and one for its end
+-- one for the beginning of a turn, and one for its end
 abbrev pub begins : PartMark → ℕ
 begins (TurnBegan key call chain) = 1
 begins mark = 0

@@ -1,4 +1,4 @@
--- What the marks tell: which actor is active on which member, and with which open turns. Own.
+-- What the marks say: which actor is active on which member, and with which open turns. Own.
 use Rattle.std.specs.Prelude.{if◌then◌else◌, ◌≡◌, ◌==◌, ℕ, ◌<◌, true, List, [], ◌∷◌, ◌++◌, length, Option, Some}
 use Rattle.actor_names.specs.declared.member.Member.{Member}
 use Rattle.actor_names.specs.declared.actor_key.ActorKey.{ActorKey}
@@ -13,7 +13,7 @@ use Rattle.cluster_model.specs.Invariant.{Gives}
 use Rattle.cluster_model.specs.Messages.{UpdateTo, UnlockAt, Message, Tells}
 use Rattle.cluster_model.specs.World.{TraceMark}
 
--- what a member's marks tell of an actor
+-- what a member's marks say of an actor
 abbrev pub history : List TraceMark → Member → ActorKey → Activity → Activity
 history [] m k a = a
 history (x ∷ xs) m k a = history xs m k (if same_member m x.member then (if is_mark_of x.what k then after_mark x.what a else a) else a)
@@ -24,8 +24,8 @@ IsNeverTwice marks =
     (before after : List TraceMark) (m n : Member) (k : ActorKey) (v : ℕ) → marks ≡ before ++ record { member = n; what = BecameActive k v } ∷ after →
     (history before m k no_activity).active ≡ true → m ≡ n
 
--- At each Began of an actor, where turns of it are open, they are on that member, carry that chain, an identifier, and are fewer than the
--- depth of its type: so no other two turns overlap, and those that do are of a type with reentrancy on.
+-- At each Began of an actor, if turns of it are open, they are on that member, carry that chain, an identifier, and are
+-- fewer than the depth of its type: so no other two turns overlap, and those that do are of a type with reentrancy on.
 abbrev pub IsOneChain : (List ℕ → ℕ) → List TraceMark → Type 0
 IsOneChain depth marks =
     (before after : List TraceMark) (m n : Member) (k : ActorKey) (call : ℕ) (chain : Option (List ℕ)) → marks ≡ before ++ record { member = n; what = TurnBegan k call chain } ∷ after →
@@ -41,7 +41,7 @@ opened_version_at [] m i v = v
 opened_version_at (x ∷ xs) m i v = opened_version_at xs m i (if same_member m x.member then opened_at x.what i v else v)
 
 module _ (owner : PlacementTable → ActorKey → Option HostInfo) (part_of : ActorKey → ℕ → ℕ) (parts : ℕ) where
-  -- at some place of the marks a member had an actor active while its part had opened last at a version
+  -- at some place of the marks, a member had an actor active while its part had last opened at a version
   pub record HadActive (marks : List TraceMark) (m : Member) (k : ActorKey) (u : ℕ) : Type 0 where
     pub before : List TraceMark
     pub after : List TraceMark

@@ -1,5 +1,5 @@
 -- What is true of a cluster after every list of events. Each group reads only the fields that it is given, so that a
--- change of another field leaves it as it is. Own.
+-- change of another field doesn't affect it. Own.
 use Rattle.std.specs.Prelude.{◌≡◌, ◌⊎◌, ℕ, ◌<◌, ◌≤◌, true, false, List, Option, None, Some}
 use Rattle.actor_names.specs.declared.member.Member.{Member}
 use Rattle.actor_names.specs.declared.actor_key.ActorKey.{ActorKey}
@@ -58,7 +58,7 @@ IsBooted ps m = (p : PartState) × In p ps × (p.member ≡ m)
 
 -- ---- messages and members
 
--- Versions in messages are used ones, a version has one table, and boots are known.
+-- Versions in messages were used, a version has one table, and boots are known.
 pub record AreMessagesSound (last : ℕ) (hosts : List HostInfo) (known : List Known) (ms : List Message) : Type 0 where
   pub told_below : (m : Member) (v : ℕ) → WasTold ms m v → v ≤ last
   pub told_above : (m : Member) (v : ℕ) → WasTold ms m v → 0 < v
@@ -66,7 +66,7 @@ pub record AreMessagesSound (last : ℕ) (hosts : List HostInfo) (known : List K
   pub told_boot : (m : Member) (v : ℕ) → WasTold ms m v → m.boot ≤ greatest_boot known m.node
   pub member_boot : (m : Member) → HasMember hosts m → m.boot ≤ greatest_boot known m.node
 
--- nobody is named that wasn't booted
+-- every member that is named was booted
 pub record AreBooted (hosts : List HostInfo) (ms : List Message) (boots : ℕ) : Type 0 where
   pub joined : (m : Member) → HasMember hosts m → m.boot ≤ boots
   pub told : (m : Member) (v : ℕ) → WasTold ms m v → m.boot ≤ boots
@@ -150,12 +150,12 @@ module _ (owner : PlacementTable → ActorKey → Option HostInfo) where
   abbrev pub IsSafe : RoomState → List PartState → List Message → ℕ → Type 0
   IsSafe s ps ms boots = IsSafeAt (last_version s) s.members s.boots s.table s.phase ps ms boots
 
-  -- what a space sees of a cluster is safe: its room is one that a run reaches, and so are its parts and messages
+  -- what a space sees of a cluster is safe: a run reaches its room, and its parts and messages are safe
   pub record IsSafeSpace (v : SpaceState) : Type 0 where
     pub reached : IsReached v.room
     pub safe : IsSafe v.room v.parts v.messages v.boots
 
-  -- a cluster is safe: each space is, and a table goes to members of its space alone
+  -- a cluster is safe: each space is, and a table goes only to members of its space
   pub record IsSafeWorld (w : ClusterState) : Type 0 where
     pub spaces : (space : List ℕ) → IsSafeSpace (seen_in w space)
     pub tables : (m : Member) (t : PlacementTable) → In (Tells m (UpdateTo t)) w.messages → t.space ≡ m.space

@@ -34,7 +34,7 @@ use Rattle.world_events.specs.declared.error.WorldError.{WorldError}
 use Rattle.world_events.specs.declared.error.WorldError.TheVariants as refused
 use Rattle.cluster_model.specs.Messages.{Request, Register, Beat, Ack, Leave, Answer, Message, Asks, Tells, answer_of, change_of, asker_of, told_event}
 
--- where a call of the script was asked: the place of the part, and the part's number for it
+-- where a call of the script was made: the place of the part, and the part's number for it
 pub record CallPlace : Type 0 where
   pub place : ℕ
   pub call : ℕ
@@ -55,12 +55,12 @@ pub record ClusterState : Type 0 where
   pub marks : List TraceMark
   pub events : ℕ
 
--- the cluster after an event, and what comes of it, or why it is refused, which changes nothing
+-- the cluster after an event, and what comes of it, or why it is refused; a refusal changes nothing
 pub record WorldStep : Type 0 where
   pub world : ClusterState
   pub outcome : Result Outcome WorldError
 
--- counters end here
+-- the greatest number of events
 abbrev pub most_events : ℕ
 most_events = 2 ^ 62
 
@@ -68,7 +68,7 @@ abbrev pub opening_cluster : WorldSettings → ClusterState
 opening_cluster settings =
     record { settings = settings; placement = new_placement; parts = []; boots = 0; messages = []; now = 0; calls = []; marks = []; events = 0 }
 
--- the part of an actor among so many, by the place of its id; no proof looks into it
+-- the part of an actor, given how many parts there are, by the place of its id; no proof unfolds it
 unfoldable pub key_part : ActorKey → ℕ → ℕ
 key_part key parts = key_place key.id % parts
 
@@ -114,7 +114,7 @@ abbrev pub message_at : ClusterState → ℕ → Option Message
 message_at w zero = None
 message_at w (suc k) = slice_get w.messages k
 
--- a type that no setting names
+-- the settings of a type that no setting names
 abbrev pub unnamed_settings : WorldSettings → List ℕ → TypeSettings
 unnamed_settings s kind = record { kind = kind; idle_ms = s.idle_ms; drain_ms = s.drain_ms; depth = 0 }
 
@@ -129,7 +129,7 @@ settings_for s (kind ∷ kinds) = settings_in s kind ∷ settings_for s kinds
 abbrev pub depth_in : WorldSettings → List ℕ → ℕ
 depth_in s kind = (settings_in s kind).depth
 
--- the parts of a new member, so many from this number on
+-- the given number of parts of a new member, numbered from this number on
 abbrev pub new_parts : Member → List TypeSettings → ℕ → ℕ → List PartState
 new_parts m kinds i zero = []
 new_parts m kinds i (suc n) = new_part m i kinds ∷ new_parts m kinds (suc i) n
@@ -212,7 +212,7 @@ abbrev pub honest_tick : ClusterState → Option Member → WorldStep
 honest_tick w None = placement_does w changes.Tick dropped_outcome
 honest_tick w (Some m) = dishonest w m
 
--- the version of the round that a restart starts in a room, 0 where it starts none
+-- the version of the round that a restart starts in a room, 0 if it starts none
 abbrev pub restarted_version : RoomState → RoomState → ℕ
 restarted_version old new = if last_version new == last_version old then 0 else last_version new
 
@@ -230,7 +230,7 @@ script_number [] n place call = 0
 script_number (None ∷ cs) n place call = script_number cs (suc n) place call
 script_number (Some c ∷ cs) n place call = if (c.place == place) && (c.call == call) then n else script_number cs (suc n) place call
 
--- where a call is asked: none where it was refused
+-- where a call is made: none if it was refused
 abbrev pub place_of_call : ℕ → PartReply → Option CallPlace
 place_of_call n (replies.Begun call chain) = Some (record { place = n; call = call })
 place_of_call n (replies.Waits call place) = Some (record { place = n; call = call })
@@ -244,7 +244,7 @@ abbrev pub call_at : List (Option CallPlace) → ℕ → Option CallPlace
 call_at cs zero = None
 call_at cs (suc n) = the_call (slice_get cs n)
 
--- the script's number of the call that began at a place, where one did
+-- the script's number of the call that began at a place, if one did
 abbrev pub next_number : List (Option CallPlace) → ℕ → Option ℕ → Option ℕ
 next_number cs place None = None
 next_number cs place (Some next) = Some (script_number cs 1 place next)
@@ -317,7 +317,7 @@ abbrev pub stop_outcome : PartReply → Outcome
 stop_outcome (replies.StoppedNow r) = out.Stopped
 stop_outcome reply = out.Turn turn.NotThere
 
--- the call's event: that of a caller that says no version where it says none
+-- the call's event: `Ask` if the caller gives no version, which is 0
 abbrev pub ask_of : ActorKey → ℕ → Option (List ℕ) → ℕ → PartEvent
 ask_of key zero chain now = events.Ask key chain now
 ask_of key (suc least) chain now = events.AskAt key chain (suc least) now
@@ -327,7 +327,7 @@ abbrev pub weight_of : Result Outcome WorldError → ℕ
 weight_of (Ok outcome) = 1
 weight_of (Err error) = 0
 
--- The owner of an actor in a table, and its part among so many, are parameters of what follows.
+-- The owner of an actor in a table, and its part among a number of parts, are parameters of what follows.
 module _ (owner : PlacementTable → ActorKey → Option HostInfo) (part_of : ActorKey → ℕ → ℕ) where
   -- the part at a place takes a step
   abbrev pub with_step : ClusterState → ℕ → PartState → PartStep → ClusterState
@@ -366,7 +366,8 @@ module _ (owner : PlacementTable → ActorKey → Option HostInfo) (part_of : Ac
   poll_call w call None = nothing w
   poll_call w call (Some c) = step_of_part w c.place (events.Poll c.call) (call_outcome call) (slice_get w.parts c.place)
 
-  -- so many turns were ended before, and the parts at these places take a Tick each
+  -- how many turns ended, as an outcome says; below, the parts at these places take a Tick each, with so many turns
+  -- ended before
   abbrev pub turns_ended : Result Outcome WorldError → ℕ
   turns_ended (Ok (out.TickEnded turns)) = turns
   turns_ended outcome = 0

@@ -1,4 +1,4 @@
--- Words of the form pass clap, and clap's matches are what the words give.
+-- Words that have the form of options pass clap, and clap's matches are what the words give.
 use Rattle.std.proofs.Common.{◌≡◌, Bool, true, false, ◌&&◌, List, [], Option, None, Some, is_some, refl, ap, ◌∙◌}
 use Rattle.std.specs.Prelude.{if◌then◌else◌, option_and_then}
 use Rattle.clap.specs.Walk.{Text, rows_after, first_of}

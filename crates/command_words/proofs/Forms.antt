@@ -1,11 +1,11 @@
--- How the walk over the words stands against what they give.
+-- How the walk over the words relates to what they give.
 use Rattle.std.proofs.Common.{◌≡◌, ℕ, ◌+◌, ◌<◌, ◌≤◌, length, drop, get_or, subst, true, false, ◌++◌, List, [], ◌∷◌, map, Option, None, Some, is_some, refl, ap, sym, ◌∙◌}
 use Rattle.std.specs.Borrow.{Bor}
 use Rattle.std.specs.Prelude.{option_map, option_and_then, if◌then◌else◌}
 use Rattle.std.proofs.lemmas.List.{at_drop_more, at_drop_all}
 use Rattle.command_words.specs.Options.{Text, Options, Given, Meaning, Refused, Names, Gives, meaning_of, names_of, read_from, has_needed, complete, options_given}
 
--- after the options of these names the rest gives what the whole does
+-- after the options of these names, the rest gives what all the words give
 abbrev pub StandsAt : Options → List Text → List Text → Option Text → List Text → Type 0
 StandsAt options words names awaited rest = (given : Given) × (names_of given ≡ names) × (read_from options [] None words ≡ read_from options given awaited rest)
 

@@ -1,4 +1,4 @@
--- What clap holds of the options given.
+-- What clap holds for the options given.
 use Rattle.std.proofs.Common.{◌≡◌, Bool, true, false, ◌&&◌, ◌||◌, not, ◌++◌, List, [], ◌∷◌, map, None, Some, append-nil, refl, ap, ◌∙◌}
 use Rattle.std.specs.List.{list_all}
 use Rattle.std.specs.Str.{bytes_eq}
@@ -26,7 +26,7 @@ pub has_row-rows_for : (given : Given) (name : Text) → has_row name (rows_for 
 has_row-rows_for [] name = refl
 has_row-rows_for (g ∷ given) name = ap (λ b. bytes_eq g.0 name || b) (has_row-rows_for given name)
 
--- a row that isn't there comes to the end
+-- a row that isn't there is added at the end
 at_row-absent : (id : Text) (change : Row → List Row) (missing rows : List Row) → has_row id rows ≡ false → at_row id change missing rows ≡ rows ++ missing
 at_row-absent id change missing [] none = refl
 at_row-absent id change missing (r ∷ rows) none = go (bytes_eq r.id id) refl (at_row-absent id change missing rows)

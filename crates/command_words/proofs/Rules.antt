@@ -1,4 +1,4 @@
--- What clap builds of a command with options.
+-- What clap builds from a command with options.
 use Rattle.std.proofs.Common.{◌≡◌, ℕ, ◌+◌, ◌<◌, length, take, get_or, Bool, true, false, ◌&&◌, ◌||◌, not, ◌++◌, List, [], ◌∷◌, map, Some, is_some, refl, ap, sym, ◌∙◌}
 use Rattle.std.specs.Prelude.{fold, count_by, if◌then◌else◌}
 use Rattle.std.specs.List.{list_all, list_any}
@@ -92,7 +92,7 @@ known-Found (o ∷ options) name known = go (bytes_eq o.0 name) refl (known-Foun
         let rest = more (rw e at known) in
         record { needed = rest.needed; by_long = rw e rest.by_long; by_id = rw e rest.by_id }
 
--- an option more
+-- one more option
 pub option_app-more : {A : Type 0} (name : Text) (f : A → Text × Bool) (xs : List A) (i : ℕ) (d : A) → i < length xs
     → with_rule (option_app name (map f (take i xs))) (option_rule (f (get_or xs i d))) ≡ option_app name (map f (take (i + 1) xs))
 option_app-more name f xs i d lt =

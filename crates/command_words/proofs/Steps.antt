@@ -12,13 +12,13 @@ use Rattle.command_words.proofs.Walks.{Pending, held, between, wanting, attached
 use Rattle.command_words.proofs.Rules.{built_rule, built_rules, built_shape, known-Found}
 use Rattle.command_words.proofs.Rows.{rows_for, rows_for-push, has_row-rows_for, used-absent, use_passes-absent}
 
--- clap holds what was given, and waits for the value that is awaited
+-- clap holds what was given, and waits for the awaited value
 abbrev pub Stands : Options → Given → Option Text → Walk → Type 0
 Stands options given None w =
     (rows : List Row) × (p : Pending) × (w ≡ between rows p) × (settled_rows (built_rules options) p rows ≡ rows_for given) × (settle_passes (built_rules options) false (held rows p) ≡ true)
 Stands options given (Some name) w = (w ≡ wanting (rows_for given) name) × (is_known options name ≡ true) × (is_among (names_of given) name ≡ false)
 
--- a word of this meaning passes, and the walk stands where the meaning says
+-- a word of this meaning passes, and the walk is then where the meaning says
 abbrev pub Taken : Text → Options → Given → Walk → Text → Meaning → Type 0
 Taken command options given w word Refused = Unit {0}
 Taken command options given w word (Names name) =

@@ -1,4 +1,4 @@
--- What clap makes of one word that stands in the form.
+-- What clap makes of one word that has the form.
 use Rattle.std.proofs.Common.{◌≡◌, true, false, List, [], ◌∷◌, Option, None, Some, refl}
 use Rattle.std.specs.Str.{bytes_eq}
 use Rattle.clap.specs.Lexer.{long_of, short_of}
@@ -13,7 +13,7 @@ Pending = Option (Text × List Text)
 abbrev pub held : List Row → Pending → Held
 held rows pending = record { rows = rows; pending = pending; skip = 0 }
 
--- between two options, where the last may not be used yet
+-- between two options, when the last may not be used yet
 abbrev pub between : List Row → Pending → Walk
 between rows pending = record { held = held rows pending; waiting = idle; position = 1; is_trailing = false; stopped = None }
 

@@ -5,16 +5,16 @@ use Rattle.lists_and_limits.specs.Decimals.{digits_number}
 abbrev pub from_one : ℕ → Option ℕ
 from_one n = if nat_le 1 n then Some n else None
 
--- the count from 1 to 1,000 that the digits stand for
+-- the count from 1 to 1,000 that the digits denote
 abbrev pub count_of : List ℕ → Option ℕ
 count_of text = option_and_then from_one (digits_number 1000 text)
 
--- the number up to the greatest one that the digits stand for, of which there is one at least
+-- the number up to `most` that the digits denote; there must be at least one digit
 abbrev pub number_up_to : ℕ → List ℕ → Option ℕ
 number_up_to most [] = None
 number_up_to most (b ∷ bs) = digits_number most (b ∷ bs)
 
--- no zero stands first
+-- the first byte isn't a zero
 abbrev pub IsUnpadded : List ℕ → Type 0
 IsUnpadded [] = Unit {0}
 IsUnpadded (b ∷ bs) = b ≢ 48

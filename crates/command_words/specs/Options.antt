@@ -1,4 +1,4 @@
--- The options behind a command's name: `--NAME VALUE` or `--NAME=VALUE`, in any order, each at most once. Own; the
+-- The options after a command's name: `--NAME VALUE` or `--NAME=VALUE`, in any order, each at most once. Own; the
 -- spelling is that of GNU's long options.
 use Rattle.std.specs.Prelude.{ℕ, ◌==◌, ◌&&◌, ◌||◌, ◌++◌, Bool, false, not, if◌then◌else◌, List, [], ◌∷◌, map, Option, None, Some, option_and_then}
 use Rattle.std.specs.List.{list_all, list_any, before_first, after_first}
@@ -20,7 +20,7 @@ abbrev pub behind : ℕ → Text → Option Text
 behind byte [] = None
 behind byte (b ∷ bs) = if b == byte then Some bs else None
 
--- the name up to the first `=`, and the value behind it where there is one
+-- the name up to the first `=`, and the value after it, if there is one
 abbrev pub name_and_value : Text → Text × Option Text
 name_and_value text = (
   before_first (λ b. b == 61) text,
@@ -47,7 +47,7 @@ is_known options name = list_any (λ o. bytes_eq o.0 name) options
 abbrev pub is_among : List Text → Text → Bool
 is_among names name = list_any (λ n. bytes_eq n name) names
 
--- what one word is: no word that can stand there, an option whose value is the next word, or an option's value
+-- what one word is: a word that isn't allowed there, an option whose value is the next word, or an option's value
 pub data Meaning : Type 0 where
   Refused : Meaning
   Names : Text → Meaning
@@ -62,7 +62,7 @@ abbrev pub option_meaning : Options → List Text → Option (Text × Option Tex
 option_meaning options names None = Refused
 option_meaning options names (Some p) = if is_known options p.0 && not (is_among names p.0) then value_or_next p.0 p.1 else Refused
 
--- a word after the options of these names, where one of them may still want its value
+-- a word after the options of these names, one of which may still need its value
 abbrev pub meaning_of : Options → List Text → Option Text → Text → Meaning
 meaning_of options names None word = option_meaning options names (option_word word)
 meaning_of options names (Some name) word = if begins_with_hyphen word then Refused else Gives name word
@@ -88,6 +88,6 @@ has_needed options names = list_all (λ o. not o.1 || is_among names o.0) option
 abbrev pub complete : Options → Given → Option Given
 complete options given = if has_needed options (names_of given) then Some given else None
 
--- what the words give, where all of them are options of the command and those that it needs are there
+-- what the words give, if all of them are options of the command and those that it needs are there
 abbrev pub options_given : Options → List Text → Option Given
 options_given options words = option_and_then (complete options) (read_from options [] None words)

@@ -4,7 +4,7 @@ use Rattle.std.specs.Str.{bytes_eq}
 use Rattle.command_words.specs.Options.{Text, Options, Given, options_given}
 use Rattle.command_words.specs.Counts.{count_of, number_up_to}
 
--- the words of `schedule`: an absent text is the empty one, an absent count is 10
+-- the words of `schedule`: an absent text is empty, an absent count is 10
 pub record Asking : Type 0 where
   pub now : Text
   pub due : Text
@@ -27,7 +27,7 @@ pub data Said : Type 0 where
 abbrev pub schedule_options : Options
 schedule_options = (codes "now", true) ∷ (codes "due", false) ∷ (codes "period", false) ∷ (codes "ttl", false) ∷ (codes "count", false) ∷ []
 
--- the value of an option, where it is given
+-- the value of an option, if it is given
 abbrev pub value_of : Text → Given → Option Text
 value_of name given = option_map (λ g. g.1) (find (λ g. bytes_eq g.0 name) given)
 
@@ -48,7 +48,7 @@ asking given count = record {
   count = count;
 }
 
--- the words behind `schedule`
+-- the words after `schedule`
 abbrev pub schedule_said : Given → Option Said
 schedule_said given = option_map (λ count. Schedule (asking given count)) (count_or_ten (value_of (codes "count") given))
 
@@ -65,7 +65,7 @@ drill_options = (codes "seed", true) ∷ (codes "steps", true) ∷ []
 abbrev pub drilling : ℕ → ℕ → Said
 drilling seed steps = Drill (record { seed = seed; steps = steps })
 
--- the words behind `drill`
+-- the words after `drill`
 abbrev pub drill_said : Given → Option Said
 drill_said given =
     option_and_then (λ seed. option_map (drilling seed) (number_up_to most_steps (text_of (codes "steps") given)))

@@ -8,7 +8,7 @@ use actor_names::read_decimal;
 /// The greatest count.
 const MOST_COUNT: u64 = 1000;
 
-/// The digits without the zeros before them.
+/// The digits without leading zeros.
 fn without_zeros(text: &[u8]) -> &[u8]
     ensures same { (most : ℕ) → digits_number most result.now ≡ digits_number most text.now }
     ensures plain { IsUnpadded result.now }
@@ -20,7 +20,7 @@ fn without_zeros(text: &[u8]) -> &[u8]
     rest
 }
 
-/// The count from 1 to 1,000 that the digits stand for; leading zeros are allowed.
+/// The count from 1 to 1,000 that the digits denote; leading zeros are allowed.
 pub(crate) fn read_count(text: &[u8]) -> Option<u32>
     ensures { result ≡ count_of text.now }
 {
@@ -32,7 +32,7 @@ pub(crate) fn read_count(text: &[u8]) -> Option<u32>
     }
 }
 
-/// The number up to `most` that the digits stand for; leading zeros are allowed.
+/// The number up to `most` that the digits denote; leading zeros are allowed.
 pub(crate) fn read_number(text: &[u8], most: u64) -> Option<u64>
     ensures { result ≡ number_up_to most text.now }
 {

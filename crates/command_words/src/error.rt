@@ -1,4 +1,4 @@
-// Why there is no command.
+// Why words give no command.
 use std::alloc::{AllocError, AllocFailed};
 use thiserror::Error;
 

@@ -9,8 +9,8 @@ use crate::meaning::{Meaning, meaning_of};
 use crate::options::{CommandOption, has_needed};
 use std::alloc::Global;
 
-/// Whether all the words are options of the command, each with its value and at most once, and those that the
-/// command needs are there.
+/// Whether all the words are options of the command, each with its value and at most once, and no option that the
+/// command needs is missing.
 pub(crate) fn is_form(
     alloc: Global,
     options: &[CommandOption],

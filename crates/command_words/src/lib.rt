@@ -1,7 +1,7 @@
 // The words of the command line.
 //
-// Promise: `read_words` gives the command exactly where the words have a reading (`specs/Reading`), and then all
-// that they say. Stands on actor_names (numbers) and clap.
+// Promise: `read_words` gives the command with all that the words say if they have a reading (`specs/Reading`), and
+// refuses only words that have none; else it ran out of memory. Depends on actor_names (numbers) and clap.
 #![tactic(auto)]
 
 mod count;

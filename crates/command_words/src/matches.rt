@@ -45,7 +45,7 @@ fn command_of<'a>(
     Ok(command)
 }
 
-/// Why clap gave no matches: any refusal but want of memory is one of the words.
+/// Why clap gave no matches: out of memory, or the words.
 fn error_of(error: Error) -> WordsError
     ensures { kind_of error ≡ kind.OutOfMemory → result ≡ OutOfMemory }
 {
@@ -55,7 +55,7 @@ fn error_of(error: Error) -> WordsError
     }
 }
 
-/// The matches of a command's options, where the words are these.
+/// The matches of a command's options in these words.
 pub(crate) fn read_options<'a>(
     alloc: Global,
     name: &'a str,

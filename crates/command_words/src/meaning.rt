@@ -5,10 +5,10 @@ ghost use Rattle.command_words.specs.Told.{told_option, told_meaning};
 
 use crate::options::{CommandOption, is_among, is_known};
 
-/// What a word behind a command's name is.
+/// What a word after a command's name is.
 #[derive(Clone, Copy)]
 pub(crate) enum Meaning<'a> {
-    /// A word that can't stand there.
+    /// A word that isn't allowed there.
     Refused,
     /// The name of an option whose value is the next word.
     Names(&'a str),
@@ -33,7 +33,7 @@ fn begins_with_hyphen(word: &str) -> bool
     }
 }
 
-/// The name up to the first `=`, and the value behind it where there is one.
+/// The name up to the first `=`, and the value after it, if there is one.
 fn name_and_value(text: &str) -> (&str, Option<&str>)
     ensures { (result.0.now, option_map (λ s. s.now) result.1) ≡ name_and_value text.now }
 {
@@ -64,7 +64,7 @@ fn value_or_next<'a>(name: &'a str, value: Option<&'a str>) -> Meaning<'a>
     }
 }
 
-/// What a word is that may name an option.
+/// What a word is if no option waits for its value.
 fn option_meaning<'a>(options: &[CommandOption], names: &[&str], word: &'a str) -> Meaning<'a>
     ensures { told_meaning result ≡ option_meaning (map told_option options.now) (map (λ n. n.now) names.now) (option_word word.entry.now) }
 {
@@ -80,7 +80,7 @@ fn option_meaning<'a>(options: &[CommandOption], names: &[&str], word: &'a str) 
     }
 }
 
-/// What a word is after the options of these names, where `awaited` still wants its value.
+/// What a word is after the options of these names; `awaited` is an option that still needs its value.
 pub(crate) fn meaning_of<'a>(
     options: &[CommandOption],
     names: &[&str],

@@ -32,7 +32,7 @@ pub(crate) fn optional(name: &str) -> CommandOption<'_>
     }
 }
 
-/// Whether an option of this name is there.
+/// Whether there is an option of this name.
 pub(crate) fn is_known(options: &[CommandOption], name: &str) -> bool
     ensures { result ≡ is_known (map told_option options.now) name.now }
 {
@@ -44,7 +44,7 @@ pub(crate) fn is_known(options: &[CommandOption], name: &str) -> bool
     false
 }
 
-/// Whether the name is among those.
+/// Whether the name is among these.
 pub(crate) fn is_among(names: &[&str], name: &str) -> bool
     ensures { result ≡ is_among (map (λ n. n.now) names.now) name.now }
 {
@@ -56,7 +56,7 @@ pub(crate) fn is_among(names: &[&str], name: &str) -> bool
     false
 }
 
-/// Whether each option that is needed is among the names.
+/// Whether each option that is needed is among these names.
 pub(crate) fn has_needed(options: &[CommandOption], names: &[&str]) -> bool
     ensures { result ≡ has_needed (map told_option options.now) (map (λ n. n.now) names.now) }
 {

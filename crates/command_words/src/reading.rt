@@ -13,7 +13,7 @@ use crate::options::{CommandOption, needed, optional};
 use clap::ArgMatches;
 use std::alloc::Global;
 
-/// How many moments are asked for where the words don't say it.
+/// How many moments are asked for if the words don't say.
 const USUAL_COUNT: u32 = 10;
 
 /// The greatest number of steps of a drill.
@@ -37,7 +37,7 @@ pub struct ScheduleWords<'a> {
 /// What the words of `drill` say.
 #[derive(Clone, Copy, Debug)]
 pub struct DrillWords {
-    /// Where the generator begins.
+    /// The seed of the generator.
     pub seed: u64,
     /// How many steps are taken, up to 200,000.
     pub steps: u32,
@@ -46,7 +46,7 @@ pub struct DrillWords {
 /// A command with what its words say.
 #[derive(Clone, Copy, Debug)]
 pub enum CommandWords<'a> {
-    /// `replay`: replay the script that comes by the input.
+    /// `replay`: replay the script from the input.
     Replay,
     /// `schedule`: print the moments of a schedule.
     Schedule(ScheduleWords<'a>),
@@ -67,7 +67,7 @@ fn schedule_options() -> [CommandOption<'static>; 5]
     ]
 }
 
-/// The value of an option, or the empty text where it isn't given.
+/// The value of an option, or the empty text if it isn't given.
 fn text_of<'a>(matches: &ArgMatches<'a>, name: &str) -> &'a str
     ensures { result.now ≡ unwrap_or (first_value (found_of matches.now) name.now) [] }
 {
@@ -77,7 +77,7 @@ fn text_of<'a>(matches: &ArgMatches<'a>, name: &str) -> &'a str
     }
 }
 
-/// The count that is given, or the usual one.
+/// The count that is given, or 10.
 fn count_or_ten(text: Option<&str>) -> Option<u32>
     ensures { result ≡ count_or_ten (option_map (λ t. t.now) text.entry) }
 {
@@ -87,7 +87,7 @@ fn count_or_ten(text: Option<&str>) -> Option<u32>
     }
 }
 
-/// The words behind `schedule`.
+/// The words after `schedule`.
 fn schedule_words<'a>(alloc: Global, words: &'a [String]) -> Result<CommandWords<'a>, WordsError>
     ensures { MatchResult result
         (λ c. option_and_then schedule_said (options_given schedule_options (map string_bytes words.entry.now)) ≡ Some (told c))
@@ -126,7 +126,7 @@ fn drill_of<'a>(matches: &ArgMatches<'a>) -> Option<CommandWords<'a>>
     }))
 }
 
-/// The words behind `drill`.
+/// The words after `drill`.
 fn drill_words<'a>(alloc: Global, words: &'a [String]) -> Result<CommandWords<'a>, WordsError>
     ensures { MatchResult result
         (λ c. option_and_then drill_said (options_given drill_options (map string_bytes words.entry.now)) ≡ Some (told c))
@@ -140,7 +140,7 @@ fn drill_words<'a>(alloc: Global, words: &'a [String]) -> Result<CommandWords<'a
     }
 }
 
-/// The words behind `replay`: none.
+/// The words after `replay`: none.
 fn replay_words<'a>(words: &'a [String]) -> Result<CommandWords<'a>, WordsError>
     ensures { MatchResult result
         (λ c. replay_said (map string_bytes words.entry.now) ≡ Some (told c))
@@ -152,14 +152,15 @@ fn replay_words<'a>(words: &'a [String]) -> Result<CommandWords<'a>, WordsError>
     }
 }
 
-/// Reads the words after the program's name: the first is the command, `replay` without options, `schedule`
-/// with `--now M` and perhaps `--due T`, `--period T`, `--ttl T` and `--count N`, N from 1 to 1,000 and 10 where
-/// it isn't given, or `drill` with `--seed N`, below 2^64, and `--steps N`, up to 200,000. Options are written `--name value` or `--name=value`, in any order, each at most once; a value
-/// that is a word of its own doesn't begin with `-`. Help and version words have no reading. Own.
+/// Reads the words after the program's name: the first is the command, `replay` without options, `schedule` with
+/// `--now M` and perhaps `--due T`, `--period T`, `--ttl T` and `--count N`, N from 1 to 1,000 and 10 if it isn't
+/// given, or `drill` with `--seed N`, below 2^64, and `--steps N`, up to 200,000. Options are written `--name value`
+/// or `--name=value`, in any order, each at most once; a value that is a word of its own doesn't begin with `-`. Help
+/// and version words have no reading. Own.
 pub fn read_words<'a>(alloc: Global, words: &'a [String]) -> Result<CommandWords<'a>, WordsError>
-    // The command is the words' reading.
+    // The command is what the words read as.
     ensures read { IfOk result (λ c. reading (map string_bytes words.entry.now) ≡ Some (told c)) }
-    // Only words without a reading are refused, and only those of `schedule` and `drill` take memory.
+    // Only words without a reading are refused, and only those of `schedule` and `drill` may run out of memory.
     ensures usage { IfErr result (λ e. e ≡ Usage → reading (map string_bytes words.entry.now) ≡ None) }
     ensures memory { IfErr result (λ e. e ≡ OutOfMemory → has_options (map string_bytes words.entry.now) ≡ true) }
 {

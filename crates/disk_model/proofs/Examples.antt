@@ -18,7 +18,7 @@ written = after_write {T = ℕ} 1 (88 ∷ 89 ∷ []) (new_disk (97 ∷ 98 ∷ []
 write_waits_for_sync : written.disk ≡ record { bytes = 97 ∷ 88 ∷ 89 ∷ []; instant = record { synced = 97 ∷ 98 ∷ []; pending = Over 1 2 ∷ [] }; past = record { synced = 97 ∷ 98 ∷ []; pending = [] } ∷ [] }
 write_waits_for_sync = refl
 
--- a crash then may leave nothing of it, one byte of another value, or all
+-- a crash may then leave nothing of it, one byte of another value, or all
 crash_loses_write : MayLeave written.disk.instant (97 ∷ 98 ∷ [])
 crash_loses_write = (_, record { before = refl; after = refl; no_shorter = omega arith; no_longer = omega arith }, refl)
 

@@ -1,4 +1,4 @@
--- How a run of calls on a disk goes on.
+-- What holds of a disk's moments from call to call.
 use Rattle.std.proofs.Common.{◌≡◌, ℕ, List, [], ◌∷◌, ◌++◌, refl, sym, ◌∙◌, ap, subst, append_assoc}
 use Rattle.std.proofs.lemmas.List.{append-nil, same_from_push}
 use Rattle.std.specs.List.{AllByRecursion}
@@ -13,11 +13,11 @@ all_append : {X : Type 0} (P : X → Type 0) (xs ys : List X) → AllByRecursion
 all_append P [] ys all more = more
 all_append P (x ∷ xs) ys all more = (all.0, all_append P xs ys all.1 more)
 
--- nothing was called yet
+-- before any call
 pub later_here : (P : Facts) (d : DiskState) → Later P d d
 later_here P d = record { recent = []; grows = sym (append-nil (moments d)); each = tt }
 
--- one moment more, of which a crash leaves what has P
+-- one moment more, at which all that a crash may leave has P
 pub later_more : (P : Facts) (d e f : DiskState) → Later P d e → moments f ≡ moments e ++ f.instant ∷ [] → LeavesOnly P f.instant → Later P d f
 later_more P d e f so_far next leaves = record {
   recent = so_far.recent ++ f.instant ∷ [];
@@ -52,13 +52,13 @@ later_weaker P Q d e f so_far = record {
   each = all_weaker (LeavesOnly P) (LeavesOnly Q) so_far.recent (λ i leaves c image. f c (leaves c image)) so_far.each;
 }
 
--- a durable disk leaves what it reads
+-- a crash of a durable disk leaves the bytes that it reads
 pub leaves_durable : (P : Facts) (d : DiskState) → IsDurable d → P d.bytes → LeavesOnly P d.instant
 leaves_durable P d durable here c image =
     let at : MayLeave (record { synced = d.bytes; pending = [] }) c = subst (λ (i : Instant). MayLeave i c) durable image in
     subst P (sym at) here
 
--- after one change of a durable disk a crash leaves what the change may make of its bytes
+-- after one change of a durable disk, a crash leaves what the change may make of its bytes
 pub leaves_change : (P : Facts) (d e : DiskState) (change : Change) (bytes : List ℕ) → IsDurable d → e ≡ changed d change bytes → ((c : List ℕ) → MayMake change d.bytes c → P c) → LeavesOnly P e.instant
 leaves_change P d e change bytes durable is makes c image =
     let there : MayLeave (changed d change bytes).instant c = subst (λ (g : DiskState). MayLeave g.instant c) is image in

@@ -1,4 +1,4 @@
--- A disk as it reads is one of those that a crash may leave.
+-- The bytes that a disk reads are among those that a crash may leave.
 use Rattle.std.proofs.Common.{◌≡◌, inl, inr, ℕ, ◌≤◌, List, [], ◌∷◌, ◌++◌, length, take, Result, Ok, Err, Vec, refl, sym, subst, arith}
 use Rattle.std.specs.Prelude.{IfOk}
 use Rattle.actor_ports.specs.declared.port.PortError.{PortError}
@@ -16,13 +16,13 @@ lead_push (first ∷ changes) change old mid new led made = (led.0, led.1, lead_
 changed_reads : (d e : DiskState) (change : Change) (bytes : List ℕ) → ReadsAnImage d → MayMake change d.bytes bytes → e ≡ changed d change bytes → ReadsAnImage e
 changed_reads d e change bytes reads made is = subst ReadsAnImage (sym is) (lead_push d.instant.pending change d.instant.synced d.bytes bytes reads made)
 
--- each change may have done nothing
+-- perhaps no change has done anything
 pub nothing_made : (changes : List Change) (bytes : List ℕ) → MayLead changes bytes bytes
 nothing_made [] bytes = refl
 nothing_made (Over at n ∷ changes) bytes = (bytes, record { before = refl; after = refl; no_shorter = omega arith; no_longer = omega arith }, nothing_made changes bytes)
 nothing_made (CutTo len ∷ changes) bytes = (bytes, inl refl, nothing_made changes bytes)
 
--- the bytes of a crash, from a result that has them
+-- what holds of the bytes that a crash leaves holds of a result that has them
 pub left_as : {Z E : Type 0} (r : Result (Vec ℕ Z) E) (P : List ℕ → Type 0) (bytes : List ℕ) → P bytes → IfOk r (λ v. v.items ≡ bytes) → IfOk r (λ v. P v.items)
 left_as (Ok v) P bytes here same = subst P (sym same) here
 left_as (Err e) P bytes here same = tt

@@ -20,11 +20,12 @@ pub record DiskState : Type 0 where
 abbrev pub moments : DiskState → List Instant
 moments d = d.past ++ d.instant ∷ []
 
--- a disk whose bytes are all on it, and that has no past
+-- a disk whose bytes are all synced, and that has no past
 abbrev pub fresh : List ℕ → DiskState
 fresh bytes = record { bytes = bytes; instant = record { synced = bytes; pending = [] }; past = [] }
 
--- what n bytes written at a place may have left after a crash: any bytes in the range, which the file may have grown into; the same outside it
+-- what n bytes written at a place may have left after a crash: any bytes in the range, into which the file may have
+-- grown, and outside it the same bytes
 pub record Torn (at n : ℕ) (old new : List ℕ) : Type 0 where
   pub before : take at new ≡ take at old
   pub after : drop (at + n) new ≡ drop (at + n) old
@@ -36,7 +37,7 @@ abbrev pub MayMake : Change → List ℕ → List ℕ → Type 0
 MayMake (Over at n) old new = Torn at n old new
 MayMake (CutTo len) old new = (new ≡ old) ⊎ (new ≡ take len old)
 
--- what these changes may have made, one after the other
+-- what these changes may have made of the bytes, one after the other
 abbrev pub MayLead : List Change → List ℕ → List ℕ → Type 0
 MayLead [] old new = new ≡ old
 MayLead (change ∷ changes) old new = (mid : List ℕ) × MayMake change old mid × MayLead changes mid new
@@ -45,7 +46,7 @@ MayLead (change ∷ changes) old new = (mid : List ℕ) × MayMake change old mi
 abbrev pub MayLeave : Instant → List ℕ → Type 0
 MayLeave i image = MayLead i.pending i.synced image
 
--- the bytes with others in their place from there on; they may pass the end
+-- the bytes, overwritten from there on by others, which may pass the end
 abbrev pub overwritten : List ℕ → ℕ → List ℕ → List ℕ
 overwritten bytes at new = take at bytes ++ new ++ drop (at + length new) bytes
 
@@ -61,13 +62,13 @@ changed d change bytes = record {
 abbrev pub flushed : DiskState → DiskState
 flushed d = record { bytes = d.bytes; instant = record { synced = d.bytes; pending = [] }; past = moments d }
 
--- a write puts the bytes there; a failed one was not made, or has any bytes in their place
+-- a write puts the bytes there; a failed one did nothing, or left any bytes in their place
 abbrev pub Writes : {T : Type 0} → ℕ → List ℕ → Result T PortError → DiskState → DiskState → Type 0
 Writes at new (Ok x) d e = e ≡ changed d (Over at (length new)) (overwritten d.bytes at new)
 Writes at new (Err Failed) d e = (e ≡ d) ⊎ ((left : List ℕ) × Torn at (length new) d.bytes left × (e ≡ changed d (Over at (length new)) left))
 Writes at new (Err OutOfMemory) d e = e ≡ d
 
--- a cut leaves so many bytes; a failed one was not made, or a crash may still cut
+-- a cut leaves so many bytes; a failed one did nothing, or the file now reads as cut or as before, with the cut pending
 abbrev pub Cuts : {T : Type 0} → ℕ → Result T PortError → DiskState → DiskState → Type 0
 Cuts len (Ok x) d e = e ≡ changed d (CutTo len) (take len d.bytes)
 Cuts len (Err Failed) d e = (e ≡ d) ⊎ ((left : List ℕ) × ((left ≡ d.bytes) ⊎ (left ≡ take len d.bytes)) × (e ≡ changed d (CutTo len) left))
@@ -84,12 +85,13 @@ abbrev pub Reads : ℕ → ℕ → List ℕ → List ℕ → Result ℕ PortErro
 Reads at most before after (Ok n) d = (n ≡ length (take most (drop at d.bytes))) × (after ≡ before ++ take most (drop at d.bytes))
 Reads at most before after (Err e) d = after ≡ before
 
--- Where a disk tells its state before a call it tells the one after it, and the call led there; where it doesn't, it doesn't then.
--- The same of several disks, whose states are told as one.
+-- A disk that reports its state before a call reports it after the call, and the call led from the first to the
+-- second. A disk that doesn't report it before doesn't report it after.
+-- The same holds for several disks whose states are reported as one.
 abbrev pub Tells : {S : Type 0} → (S → S → Type 0) → Option S → Option S → Type 0
 Tells {S} step None after = after ≡ None
 Tells {S} step (Some d) after = (e : S) × (after ≡ Some e) × step d e
 
--- a count of faults that can rise no more
+-- a count of faults that can't rise any more
 abbrev pub IsSpent : ℕ → Type 0
 IsSpent faults = 18446744073709551615 ≤ faults

@@ -14,11 +14,11 @@ pub record DiskMemory : Type 0 where
   pub faults : ℕ
   pub failing : List ℕ
 
--- a disk as it is made: all bytes are on it, and nothing was called yet
+-- a new disk: all bytes are synced, and nothing was called yet
 abbrev pub new_disk : List ℕ → List ℕ → DiskMemory
 new_disk bytes failing = record { disk = fresh bytes; calls = 0; faults = 0; failing = failing }
 
--- a moment that is past, as it is kept
+-- a past moment, from the form in which it is kept
 abbrev pub instant_of : Past → Instant
 instant_of p = record { synced = p.synced.items; pending = p.pending.items }
 
@@ -26,7 +26,7 @@ instant_of p = record { synced = p.synced.items; pending = p.pending.items }
 abbrev pub disk_of : List ℕ → List ℕ → List Change → List Past → DiskState
 disk_of bytes synced pending past = record { bytes = bytes; instant = record { synced = synced; pending = pending }; past = map instant_of past }
 
--- the moment joins those that are kept
+-- the moment is added to those that are kept
 abbrev pub Keeps : List ℕ → List Change → List Past → List Past → Type 0
 Keeps synced pending old new = map instant_of new ≡ map instant_of old ++ record { synced = synced; pending = pending } ∷ []
 
@@ -34,7 +34,8 @@ Keeps synced pending old new = map instant_of new ≡ map instant_of old ++ reco
 abbrev pub call_after : ℕ → ℕ
 call_after calls = min (calls + 1) 18446744073709551615
 
--- a disk after a call that failed: the fault is counted and nothing else changed; after want of memory nothing did
+-- a disk after a call that failed: the call and the fault are counted and nothing else changed; OutOfMemory changes
+-- nothing
 abbrev pub after_error : DiskMemory → PortError → DiskMemory
 after_error m Failed = record m { calls = call_after m.calls; faults = m.faults + 1 }
 after_error m OutOfMemory = m

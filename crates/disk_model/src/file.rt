@@ -1,4 +1,4 @@
-// A disk over a file of the library.
+// A disk over one of the library's files.
 ghost use Rattle.std.specs.Prelude.{◌≡◌, ◌≤◌, ◌+◌, None, IfOk, IfErr, IfSome, IsErrOf, length, take};
 ghost use Rattle.actor_ports.specs.Port.{HasCause, Appends, faults_after};
 ghost use Rattle.actor_ports.specs.Real.{Counted};
@@ -15,7 +15,7 @@ use std::os::unix::fs::FileExt;
 // The most bytes that one read asks the library for.
 const PIECE: usize = 65_536;
 
-/// A disk over one of the library's files. It tells nothing of what the file holds.
+/// A disk over one of the library's files. It reports nothing of what the file holds.
 ///
 /// The file has to be open for reading and writing, and nobody else may write it.
 #[derive(Drop)]
@@ -37,8 +37,8 @@ impl<F: FileExt + OpenFile + Drop> Model for FileDisk<F> {
 }
 
 impl<F: FileExt + OpenFile + Drop> FileDisk<F> {
-    /// A disk over this file, with the room for one piece of 65,536 bytes.
-    /// Want of memory is its one error, and drops the file.
+    /// A disk over this file, with room for one piece of 65,536 bytes.
+    /// The only error is `OutOfMemory`, which drops the file.
     pub fn new(alloc: Global, file: F) -> Result<FileDisk<F>, PortError>
         ensures holds { IfOk result (λ d. d ≡ record { inner = file; faults = 0 }) }
         ensures memory { IfErr result (λ e. e ≡ PortError.OutOfMemory) }
@@ -53,7 +53,7 @@ impl<F: FileExt + OpenFile + Drop> FileDisk<F> {
         })
     }
 
-    // A call that failed, while the count can rise.
+    // The error of a call that failed: `Failed`, with one fault more, as long as the count can rise.
     fn fail(&mut self) -> PortError
         ensures same { self.new.inner ≡ self.old.inner }
         ensures counted { result ≡ PortError.Failed → self.new.faults ≡ self.old.faults + 1 }
@@ -108,7 +108,7 @@ impl<F: FileExt + OpenFile + Drop> Disk for FileDisk<F> {
         }
     }
 
-    /// Each failure is counted; a front of the bytes may have been written then.
+    /// Each failure is counted; a prefix of the bytes may have been written then.
     fn write_at(&mut self, at: u64, bytes: &[u8]) -> Result<(), PortError>
         ensures memory { IsErrOf result PortError.OutOfMemory → IsSpent self.old.faults }
         ensures cause { HasCause self.old.faults self.new.faults result }
@@ -151,7 +151,7 @@ impl<F: FileExt + OpenFile + Drop> Disk for FileDisk<F> {
     }
 }
 
-// Appends the bytes from a place on, at most so many, and answers how many; `None` where the file failed.
+// Appends the bytes from `at` on to `into`, at most `most`, and answers how many; `None` if the file failed.
 fn fill_from<F: FileExt>(
     file: &F,
     piece: &mut [u8],
@@ -181,7 +181,7 @@ fn fill_from<F: FileExt>(
     Ok(Some(done))
 }
 
-// One read of the library, again after each interruption.
+// One read of the library; it tries again after each interruption.
 fn read_piece<F: FileExt>(file: &F, piece: &mut [u8], at: u64) -> Option<usize>
     ensures length { length piece.new ≡ length piece.old }
     ensures bound { IfSome result (λ n. n ≤ length piece.old) }

@@ -1,8 +1,8 @@
 // A disk as a journal sees it, and what a crash may leave of it.
 //
-// A disk that tells its state goes by one machine of plain data: what a read gives, what a crash now
-// may leave, and every moment before. The form in memory tells all; the form over a file tells nothing,
-// and is trusted and tested. It stands on actor_ports for the error of the outside.
+// A disk that reports its state follows one state machine of plain data: what a read gives, what a crash
+// now may leave, and every moment before. The disk in memory reports all of it; the disk over a file reports
+// nothing, and is trusted and tested. It depends on actor_ports for the error of the outside.
 #![tactic(auto)]
 
 mod change;

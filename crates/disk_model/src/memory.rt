@@ -1,4 +1,4 @@
-// A disk in memory, which keeps each moment that it has had.
+// A disk in memory, which keeps each of its past moments.
 ghost use Rattle.std.specs.Prelude.{◌≡◌, ◌<◌, ◌≤◌, ℕ, ◌+◌, ◌↔◌, List, [], ◌∷◌, ◌++◌, length, take, drop, Some, IfOk, IfErr, IsTrue, IsErrOf, Contains};
 ghost use Rattle.actor_ports.specs.Port.{HasCause, Appends};
 ghost use Rattle.disk_model.specs.Disk.{DiskState, Tells, Writes, Cuts, Syncs, Reads, IsSpent, MayMake, MayLeave};
@@ -14,9 +14,9 @@ use std::marker::Model;
 
 /// A disk in memory, which fails at the calls whose numbers it was given.
 ///
-/// For tests: it tells what a crash may leave, and its faults come where they are asked for, or where
-/// its growth is refused. Calls are numbered from 1, of all methods together; one that ends for want of
-/// memory has no number, nor has one past the number 2^64 - 1.
+/// For tests: it reports what a crash may leave, and its faults come where they are asked for, or when
+/// there is no memory for its growth. Calls of all methods are numbered together, from 1; a call that
+/// answers `OutOfMemory` has no number, nor has one past the number 2^64 - 1.
 #[derive(Drop)]
 pub struct MemDisk {
     alloc: Global,
@@ -56,7 +56,7 @@ fn next_call(calls: u64) -> u64
     if calls == u64::MAX { calls } else { calls + 1 }
 }
 
-// The changes with one more.
+// The changes, and one more after them.
 fn with_change(alloc: Global, pending: &[Change], change: Change) -> Result<Vec<Change>, AllocError>
     ensures { IfOk result (λ v. v.items ≡ pending.now ++ change ∷ []) }
 {
@@ -65,7 +65,7 @@ fn with_change(alloc: Global, pending: &[Change], change: Change) -> Result<Vec<
     Ok(changes)
 }
 
-// The bytes from a place on, at most so many.
+// The bytes from `at` on, at most `most` of them.
 fn piece_of(bytes: &[u8], at: usize, most: usize) -> &[u8]
     ensures { result.now ≡ take most (drop at bytes.now) }
 {
@@ -80,7 +80,7 @@ fn piece_of(bytes: &[u8], at: usize, most: usize) -> &[u8]
     }
 }
 
-// A disk whose bytes are all on it.
+// A disk with these bytes, all of them synced.
 fn disk_with(alloc: Global, bytes: Vec<u8>, failing: &[u64]) -> Result<MemDisk, AllocError>
     ensures { IfOk result (λ m. m ≡ new_disk bytes.items failing.now) }
 {
@@ -99,8 +99,8 @@ fn disk_with(alloc: Global, bytes: Vec<u8>, failing: &[u64]) -> Result<MemDisk, 
 }
 
 impl MemDisk {
-    /// A disk with these bytes, all of them on it, whose calls of the numbers in `failing` are to fail.
-    /// Want of memory is its one error.
+    /// A disk with these bytes, all of them synced, whose calls with the numbers in `failing` are to fail.
+    /// The only error is `OutOfMemory`.
     pub fn new(alloc: Global, bytes: &[u8], failing: &[u64]) -> Result<MemDisk, PortError>
         ensures holds { IfOk result (λ m. m ≡ new_disk bytes.now failing.now) }
         ensures memory { IfErr result (λ e. e ≡ PortError.OutOfMemory) }
@@ -114,17 +114,17 @@ impl MemDisk {
         }
     }
 
-    /// Lends what a read gives.
+    /// Lends the bytes that a read gives.
     pub fn bytes(&self) -> &[u8]
         ensures { result.now ≡ self.now.disk.bytes }
     {
         self.bytes.as_slice()
     }
 
-    /// A disk that a crash now may leave, without listed failures. Want of memory is its one error.
+    /// A disk that a crash now may leave, without listed failures. The only error is `OutOfMemory`.
     ///
-    /// At choice 0 no change since the last sync came through, at 1 all did. At any other each write has
-    /// left the low byte of `choice` in its whole range, and each cut was made where the byte above that is even.
+    /// With choice 0 no change since the last sync came through, with 1 all did. With any other choice each write has
+    /// filled its whole range with the low byte of `choice`, and each cut was made if the byte above that is even.
     pub fn image(&self, choice: u64) -> Result<MemDisk, PortError>
         ensures leaves { IfOk result (λ m. (left : List ℕ) × MayLeave self.now.disk.instant left × (m ≡ new_disk left [])) }
         ensures nothing { choice ≡ 0 → IfOk result (λ m. m.disk.bytes ≡ self.now.disk.instant.synced) }
@@ -155,7 +155,7 @@ impl MemDisk {
 }
 
 impl MemDisk {
-    // A change that is done but isn't synced: all memory is taken first.
+    // Makes a change that isn't synced yet; all memory is taken first.
     fn change(&mut self, change: Change, next: Vec<u8>) -> Result<(), PortError>
         requires { MayMake change self.old.disk.bytes next.items }
         ensures after { self.new ≡ after_change change next.items self.old result }
@@ -173,7 +173,7 @@ impl MemDisk {
         Ok(())
     }
 
-    // A call that fails: one fault more, while the count can rise.
+    // The error of a call that fails: one fault more, as long as the count can rise.
     fn refuse(&mut self) -> PortError
         ensures after { self.new ≡ after_error self.old result }
         ensures numbered { self.old.calls < u64.MAX → result ≡ PortError.Failed }
@@ -193,7 +193,7 @@ impl Disk for MemDisk {
 
     ghost disk_faults = { λ m. m.faults };
 
-    /// It fails exactly where the number of the call is listed.
+    /// It fails exactly if the number of the call is listed.
     fn len(&mut self) -> Result<u64, PortError>
         ensures length { IfOk result (λ n. (d : DiskState) → Some self.old.disk ≡ Some d → n ≡ length d.bytes) }
         ensures same { Some self.new.disk ≡ Some self.old.disk }
@@ -210,7 +210,7 @@ impl Disk for MemDisk {
         Ok(self.bytes.len() as u64)
     }
 
-    /// It fails exactly where the number of the call is listed.
+    /// It fails exactly if the number of the call is listed.
     fn read(&mut self, at: u64, most: usize, into: &mut Vec<u8>) -> Result<usize, PortError>
         ensures read { (d : DiskState) → Some self.old.disk ≡ Some d → Reads at most into.old.items into.new.items result d }
         ensures most { IfOk result (λ n. n ≤ most) }
@@ -233,7 +233,7 @@ impl Disk for MemDisk {
         Ok(count)
     }
 
-    /// It fails where the number of the call is listed, and where there is no memory for the change.
+    /// It fails if the number of the call is listed, and if there is no memory for the change.
     fn write_at(&mut self, at: u64, bytes: &[u8]) -> Result<(), PortError>
         requires { (d : DiskState) → Some self.old.disk ≡ Some d → at ≤ length d.bytes }
         ensures written { Tells (Writes at bytes.now result) (Some self.old.disk) (Some self.new.disk) }
@@ -253,7 +253,7 @@ impl Disk for MemDisk {
         self.change(Change::Over { at, n }, next)
     }
 
-    /// It fails where the number of the call is listed, and where there is no memory for the change.
+    /// It fails if the number of the call is listed, and if there is no memory for the change.
     fn cut(&mut self, len: u64) -> Result<(), PortError>
         requires { (d : DiskState) → Some self.old.disk ≡ Some d → len ≤ length d.bytes }
         ensures cut { Tells (Cuts len result) (Some self.old.disk) (Some self.new.disk) }
@@ -272,7 +272,7 @@ impl Disk for MemDisk {
         self.change(Change::CutTo { len }, next)
     }
 
-    /// It fails where the number of the call is listed, and where there is no memory for the change.
+    /// It fails if the number of the call is listed, and if there is no memory for the change.
     fn sync(&mut self) -> Result<(), PortError>
         ensures synced { Tells (Syncs result) (Some self.old.disk) (Some self.new.disk) }
         ensures memory { IsErrOf result PortError.OutOfMemory → IsSpent self.old.faults }

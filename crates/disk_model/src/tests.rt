@@ -1,4 +1,4 @@
-// The forms at worked examples, and the form over a file at a real file and at one that fails.
+// Worked examples of both disks; the disk over a file runs on a real file and on one that fails.
 use super::{Disk, FileDisk, MemDisk};
 use actor_ports::PortError;
 use std::fs::{File, Metadata, OpenFile, OpenOptions};
@@ -95,7 +95,7 @@ fn file_gives_back_what_was_written(rt: HostRuntime) -> Result<(), Fail> {
     Ok(())
 }
 
-// Gives and takes one byte a call, fails at its fourth byte, and at all but reads and writes.
+// A file that gives and takes one byte a call. It fails at its fourth byte, and at all but reads and writes.
 #[derive(Drop)]
 struct Frail;
 

@@ -1,11 +1,11 @@
-// What a crash may make of a disk in memory: one of its images, chosen by a number.
+// What a crash may leave of a disk in memory: one of its images, chosen by a number.
 ghost use Rattle.std.specs.Prelude.{◌≡◌, ◌<◌, ◌≤◌, ℕ, length, IfOk};
 ghost use Rattle.disk_model.specs.Disk.{MayMake, MayLead, overwritten};
 
 use crate::change::Change;
 use std::alloc::{AllocError, Global};
 
-// The bytes with others in their place, from `at` on.
+// The bytes, overwritten by `new` from `at` on.
 pub(crate) fn overwrite(
     alloc: Global,
     bytes: &[u8],
@@ -23,14 +23,14 @@ pub(crate) fn overwrite(
     Ok(next)
 }
 
-// So many bytes of one value.
+// `n` bytes of one value.
 fn fill(alloc: Global, value: u8, n: usize) -> Result<Vec<u8>, AllocError>
     ensures { IfOk result (λ v. length v.items ≡ n) }
 {
     Ok(vec![in alloc; value; n]?)
 }
 
-// What is left where a write was under way: one value in its whole range.
+// What a crash leaves of a write that wasn't synced: one value in its whole range.
 // A range that a cut has put past the end has no effect.
 fn tear_write(
     alloc: Global,
@@ -49,7 +49,7 @@ fn tear_write(
     overwrite(alloc, bytes, place, &torn)
 }
 
-// What is left where a cut was under way.
+// What a crash leaves of a cut that wasn't synced.
 fn tear_cut(alloc: Global, bytes: &[u8], len: u64, is_made: bool) -> Result<Vec<u8>, AllocError>
     ensures { IfOk result (λ v. MayMake (Change.CutTo len) bytes.now v.items) }
 {
@@ -61,8 +61,8 @@ fn tear_cut(alloc: Global, bytes: &[u8], len: u64, is_made: bool) -> Result<Vec<
     }
 }
 
-// What is left where a change was under way: a write has the low byte of `choice` in its whole range,
-// and a cut was made where the byte above it is even.
+// What a crash leaves of a change that wasn't synced: a write has filled its whole range with the low byte
+// of `choice`, and a cut was made if the byte above it is even.
 fn tear(alloc: Global, bytes: &[u8], change: Change, choice: u64) -> Result<Vec<u8>, AllocError>
     ensures { IfOk result (λ v. MayMake change bytes.now v.items) }
 {
@@ -72,7 +72,7 @@ fn tear(alloc: Global, bytes: &[u8], change: Change, choice: u64) -> Result<Vec<
     }
 }
 
-// What is left of the bytes where all these changes were under way.
+// What a crash leaves of the bytes if none of these changes was synced.
 pub(crate) fn tear_all(
     alloc: Global,
     synced: &[u8],

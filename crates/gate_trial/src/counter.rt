@@ -1,7 +1,7 @@
 // A machine that counts its steps.
 use step_gate::{Machine, News};
 
-/// One step more.
+/// The event of one more step.
 #[derive(Drop)]
 pub struct Up;
 

@@ -9,7 +9,7 @@ use std::thread;
 use std::thread::Threads;
 use step_gate::{Gate, Machine, Seat};
 
-/// So many steps of one thread.
+/// Makes `steps` steps in one thread.
 fn count_steps<R: Wait>(rt: &R, gate: &Gate<Counter>, seat: Seat<Counter>, steps: u32)
     requires { IsSeatOf CounterMoves gate.now seat }
 {
@@ -51,7 +51,7 @@ fn count_in<R: Threads + Wait + Sync>(
     )
 }
 
-/// How many steps there were in the end; none where there is no memory.
+/// Returns how many steps there were in the end; `None` if memory runs out.
 pub fn count_at_gate<R: Threads + Wait + Sync>(
     rt: &R,
     alloc: Global,
@@ -63,7 +63,7 @@ pub fn count_at_gate<R: Threads + Wait + Sync>(
     Some(gate.close(rt, seat).count)
 }
 
-/// So many steps of one thread.
+/// Makes `steps` steps in one thread.
 fn count_locked<R: Wait>(rt: &R, counter: &Mutex<Counter>, steps: u32) {
     for _ in 0..steps {
         let mut counter = counter.lock(rt);

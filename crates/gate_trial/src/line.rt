@@ -1,4 +1,4 @@
-// Calls of one actor, each by a thread of its own, whose turns follow each other.
+// Calls of one actor, each from its own thread, whose turns follow each other.
 ghost use Rattle.step_gate.specs.Gates.{IsSeatOf};
 ghost use Rattle.part_core.specs.Machine.{PartAllows};
 ghost use Rattle.part_core.specs.Rooms.{IsInRange};
@@ -14,7 +14,7 @@ use std::thread::Threads;
 use std::time::{Clock, Duration};
 use step_gate::{Gate, Seat};
 
-/// Polls until the call waits no more.
+/// Polls until the call no longer waits.
 fn wait_for_turn<R: Wait>(
     rt: &R,
     gate: &Gate<Part>,
@@ -35,7 +35,7 @@ fn wait_for_turn<R: Wait>(
     (seat, reply.ok())
 }
 
-/// Asks for a turn, waits until it begins, and ends it after a time. Tells whether it was had.
+/// Asks for a turn, waits until it begins, and ends it after `time`. Returns whether the call had its turn.
 pub fn take_turn<R: Wait + Clock>(
     rt: &R,
     alloc: Global,
@@ -102,7 +102,7 @@ fn take_turns_in<R: Threads + Wait + Clock + Sync>(
     )
 }
 
-/// How many turns were had; none where there is no memory.
+/// Returns how many of the calls had their turn; `None` if memory runs out.
 pub fn take_turns<R: Threads + Wait + Clock + Sync>(
     rt: &R,
     alloc: Global,

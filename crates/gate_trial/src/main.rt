@@ -1,10 +1,10 @@
 // What threads do at a gate, as a program whose runs can be timed.
 //
-//     gate THREADS STEPS     so many threads make so many steps each at one gate of a counter
+//     gate THREADS STEPS     THREADS threads make STEPS steps each at one gate of a counter
 //     mutex THREADS STEPS    the same under a plain mutex
-//     line CALLS MILLIS      so many calls of one actor, each by a thread of its own, whose turns take so long each
+//     line CALLS MILLIS      CALLS calls of one actor, each from its own thread, with turns of MILLIS milliseconds
 //
-// It prints how many steps or turns there were. It promises nothing of its own. Stands on step_gate, part_core,
+// It prints how many steps or turns there were. It promises nothing of its own. Depends on step_gate, part_core,
 // timer_book, schedule_text, place_table and actor_names.
 #![tactic(auto)]
 
@@ -30,7 +30,7 @@ fn main(rt: HostRuntime) -> io::Result<()> {
     }
 }
 
-/// Does what the words say, and counts; none where they say nothing, or there is no memory.
+/// Does what the arguments say, and returns the count; `None` if the arguments make no sense or memory runs out.
 fn run<R: Env + AllocGlobal + Threads + Wait + Clock + Sync>(rt: &R) -> io::Result<Option<u64>> {
     let mut words = env::args(rt)?;
     let _name = words.next();

@@ -1,11 +1,11 @@
-// A part that is open.
+// An open part.
 use actor_names::{default_space, read_actor_type, read_address, read_app_id, read_member};
 use part_core::{Part, PartEvent, PartSettings, TypeList};
 use place_table::{ActorTypes, HostInfo, build_table};
 use std::alloc::Global;
 
-/// The part of number 3 of `a/1` after the round of a table of version 1, whose one host it is and serves `counter`;
-/// none where there is no memory.
+/// Part 3 of `a/1` after the round of a table of version 1 whose only host is `a/1` and serves `counter`; `None` if
+/// memory runs out.
 pub fn open_part(alloc: Global) -> Option<Part> {
     let settings = PartSettings {
         member: read_member(b"a/1").ok()?,

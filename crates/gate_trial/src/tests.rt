@@ -20,7 +20,7 @@ use timer_book::{Timer, TimerBook, TimerEvent, TimerReply, TimerText};
 /// How many numbers each thread draws.
 const DRAWS: usize = 1000;
 
-/// The numbers that one thread is told.
+/// The numbers that one thread draws.
 fn draw_often<R: Wait>(
     rt: &R,
     alloc: Global,
@@ -91,7 +91,7 @@ fn poll_second<R: Wait>(rt: &R, gate: &Gate<Part>, seat: Seat<Part>) -> Result<P
     reply
 }
 
-/// A call of `counter/7`.
+/// An Ask of `counter/7`.
 fn ask(alloc: Global) -> Result<PartEvent, Fail>
     ensures { IfOk result IsInRange }
 {
@@ -124,7 +124,7 @@ fn two_seats_hand_over_turn(rt: HostRuntime) -> Result<(), Fail> {
     Ok(())
 }
 
-/// A moment of so many nanoseconds.
+/// The moment at this many nanoseconds.
 fn at(nanos: u128) -> Result<Moment, Fail> {
     Ok(Moment::from_nanos(nanos).ok_or("no moment")?)
 }
@@ -133,7 +133,7 @@ fn text(alloc: Global, text: &str) -> Result<TimerText, Fail> {
     Ok(TimerText::from_string(String::from_str(alloc, text)?))
 }
 
-/// The registration of a timer that is due after a second.
+/// The event that registers a timer that is due after a second.
 fn set_timer(alloc: Global) -> Result<TimerEvent, Fail> {
     let timer = Timer {
         schedule: read_schedule("1s", "", "", at(0)?)?,

@@ -13,7 +13,7 @@ use Rattle.http_edge.specs.Carry.{AtEnd}
 use Rattle.http_edge.specs.Requests.{Refuses, ReadsNext, pair_of}
 use Rattle.http_edge.specs.Steps.{IsHeadOf, Fills, FillsOver}
 
--- a head has a byte
+-- a head has at least one byte
 some_byte : (p a b c : List ℕ) → p ++ [] ≡ a ++ (b ++ c) → 0 < length b → 0 < length p
 some_byte p a b c e some = omega (arith, ap length (sym (append-nil p) ∙ e), length-append a (b ++ c), length-append b c, some)
 
@@ -36,7 +36,7 @@ swap_empty : (p b x y : List ℕ) → (x ≡ []) ⊎ (y ≡ []) → (p ++ (b ++ 
 swap_empty p b x y (inl e) = rw (e, append-nil b, append-nil (p ++ (b ++ y))) (append_assoc p b y)
 swap_empty p b x y (inr e) = rw (e, append-nil b, append-nil (p ++ (b ++ x))) (sym (append_assoc p b x))
 
--- nothing is left of the bytes kept, or nothing came
+-- none of the kept bytes are left, or nothing came
 one_empty : (behind old got body : List ℕ) (size : ℕ) → old ≡ take size behind → body ≡ old ++ got → length body ≡ size → (drop size behind ≡ []) ⊎ (got ≡ [])
 one_empty behind old got body size from is long =
     let a = ap length is in

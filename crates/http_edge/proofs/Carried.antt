@@ -1,4 +1,4 @@
--- What goes over a connection adds up.
+-- What goes over a connection in successive calls adds up.
 use Rattle.std.proofs.Common.{sym, refl, ap, subst, ◌∙◌, ◌≡◌, ℕ, List, [], ◌++◌, take, drop, Option, Some, None, option_map, Result, Ok, Err, append_assoc}
 use Rattle.std.proofs.lemmas.List.{append-nil, take-append-drop, length-take-le}
 use Rattle.actor_ports.specs.declared.port.PortError.{PortError}

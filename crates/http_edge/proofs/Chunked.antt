@@ -27,7 +27,7 @@ drop_taken n front behind e = ap (λ m. drop m (front ++ behind)) (sym e) ∙ dr
 pub long_data : (have size n : ℕ) → have ≤ most_body → most_body - have < size → n ≡ min (size + have) 18446744073709551615 → (most_body < have + size) × (n ≡ min (have + size) 18446744073709551615)
 long_data have size n small lt is = (omega arith, omega (arith, is))
 
--- CR LF at the end doesn't stop at nothing
+-- bytes that no more bytes can make a CR LF aren't empty
 some_end : (stream : List ℕ) → NeverEndsLine stream → 0 < length stream
 some_end [] never = absurd (never crlf_bytes [] refl)
 some_end (x ∷ xs) never = omega arith
@@ -49,7 +49,7 @@ end_breaks have size bytes stream OutOfMemory fits long f = absurd f
 split_there : (size : ℕ) (stream rest : List ℕ) → rest ≡ drop size stream → stream ≡ take size stream ++ rest
 split_there size stream rest e = sym (take-append-drop size stream) ∙ ap (λ l. take size stream ++ l) (sym e)
 
--- the bytes came, and not CR LF
+-- the bytes of the chunk came, but not the CR LF
 pub end_fails : (T : Type 0) (size : ℕ) (old mid new : Arrived) (body more : List ℕ) (x : T) (a b d : Option Traffic) (e : EdgeError)
     → length body + size ≤ most_body → TakesData size old mid body more a b (Ok x) → AwaitsPart DataEnd mid new b d (Err e) → ReadsData {T = T} size old new body more a d (Err e)
 end_fails T size old mid new body more x a b d e fits t w =
@@ -90,7 +90,7 @@ data_ended y size n old mid new body more x a b d fits t w =
 
 -- ---- one chunk
 
--- what is behind the line of a chunk isn't there
+-- what should be behind the line of a chunk isn't there
 behind_breaks : (have size : ℕ) (line : ChunkLine) (stream rest behind : List ℕ) (e : EdgeError)
     → ReadsChunkLine stream line rest → length (print_chunk_line line) ≤ most_head → size ≡ chunk_size line → BreaksBehindLine have size behind e → BreaksChunk have (print_chunk_line line ++ behind) e
 behind_breaks have size line stream rest behind e reads short is f =
@@ -252,7 +252,7 @@ chunks_fail T old mid new body more a b d e h r =
           (λ x f. (h.0, r.0, h.2, refl, subst (λ n. BreaksChunk n r.0 x) have f)) (omega arith) r.2,
     )
 
--- how many bytes were taken, by those of the body
+-- how many bytes were taken, bounded by those of the body, after one more chunk
 pub chunk_counts : (mid new : Arrived) (body more : List ℕ) (b d : Option Traffic) → ReadsChunk mid new body more b d (Ok true)
     → length body ≤ mid.taken → mid.taken ≤ most_head + 16387 * length body → (length more ≤ new.taken) × (new.taken ≤ most_head + 16387 * length more)
 chunk_counts mid new body more b d r counted taken =

@@ -1,4 +1,4 @@
--- Streams that grow, and the causes that hold of them.
+-- Streams that grow, and the causes of errors that hold of them.
 use Rattle.std.proofs.Common.{refl, sym, ap, subst, ◌∙◌, ◌≡◌, ◌<◌, ◌≤◌, ◌+◌, ◌⊎◌, inl, inr, ℕ, List, [], ◌∷◌, ◌++◌, length, take, drop, Option, Some, None, Result, Ok, Err, append_assoc, length-append, arith}
 use Rattle.std.proofs.lemmas.List.{append-nil}
 use Rattle.actor_ports.specs.Traffic.{Traffic}
@@ -16,7 +16,7 @@ use Rattle.http_edge.proofs.Carried.{over_nothing, over_then, end_told}
 pub extends_none : (old : List ℕ) (a : Option Traffic) → Extends old a a old
 extends_none old a = ([], sym (append-nil old), over_nothing a)
 
--- behind a front that was taken, more came
+-- behind a prefix that was taken, more came
 pub extends_then : (old whole front mid stream : List ℕ) (a b d : Option Traffic) → Extends old a b whole → whole ≡ front ++ mid → Extends mid b d stream → Extends old a d (front ++ stream)
 extends_then old whole front mid stream a b d x e y = (
   x.0 ++ y.0,
@@ -27,7 +27,7 @@ extends_then old whole front mid stream a b d x e y = (
 pub extends_more : (old mid stream : List ℕ) (a b d : Option Traffic) → Extends old a b mid → Extends mid b d stream → Extends old a d stream
 extends_more old mid stream a b d x y = extends_then old mid [] mid stream a b d x refl y
 
--- a cause that follows from another, of a call that was made later
+-- a cause that follows from the cause of a later call
 pub fails_then : (Cause Other : EdgeError → Type 0) (n m : ℕ) (old mid : List ℕ) (a b d : Option Traffic) (e : EdgeError)
     → Extends old a b mid → ((x : EdgeError) → Cause x → Other x) → n ≡ m → Fails Cause n b d e → Fails Other m a d e
 fails_then Cause Other n m old mid a b d BadHead x h same f = h BadHead f
@@ -59,7 +59,7 @@ fetch_fails T Cause old new stream a b (CutShort k) full cut f = (f.2, f.3, subs
 fetch_fails T Cause old new stream a b ConnFault full cut f = tt
 fetch_fails T Cause old new stream a b OutOfMemory full cut f = tt
 
--- what began the stream so far may still become whole, and no more bytes came
+-- what has come so far may still become whole, and no more bytes came
 pub wait_fails : (T : Type 0) (Cause : List ℕ → EdgeError → Type 0) (start old new : Arrived) (a b d : Option Traffic) (e : EdgeError)
     → Extends start.rest a b old.rest → old.taken ≡ start.taken
     → (length old.rest ≡ most_head → Cause old.rest HeadTooLong) → ((n : ℕ) → length old.rest < most_head → Cause old.rest (CutShort n))

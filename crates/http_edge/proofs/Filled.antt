@@ -1,4 +1,4 @@
--- The bytes of a body that came before, and those that come straight into it.
+-- The bytes of a body that had come before, and those that are read straight into it.
 use Rattle.std.proofs.Common.{refl, sym, ap, subst, ◌∙◌, ◌≡◌, ◌<◌, ◌≤◌, ◌+◌, ◌-◌, ◌⊎◌, inl, inr, ⊎_elim, min, ℕ, List, [], ◌++◌, length, take, drop, Option, Result, Ok, Err, append_assoc, length-append, arith}
 use Rattle.std.proofs.lemmas.List.{append-nil, take-append-drop, length-take-le, length-take, length-drop, drop_all}
 use Rattle.std.proofs.lemmas.Bool.{cases_lt as order}
@@ -12,7 +12,7 @@ use Rattle.http_edge.specs.Arrivals.{Arrived, Extends}
 use Rattle.http_edge.specs.Content.{IsShort, TakesData}
 use Rattle.http_edge.proofs.Received.{empty_list}
 
--- what a front of a stream and what came behind it give: the bytes wanted, and what is left
+-- what had come of a stream and what came behind it give the bytes that were wanted, and what is left
 record IsFilled (size have : ℕ) (rest got body new : List ℕ) : Type 0 where
   pub enough : size ≤ length (rest ++ got)
   pub bytes : new ≡ body ++ take size (rest ++ got)
@@ -21,7 +21,7 @@ record IsFilled (size have : ℕ) (rest got body new : List ℕ) : Type 0 where
 pub take_whole : (n : ℕ) (l : List ℕ) → length l ≡ n → take n l ≡ l
 take_whole n l e = sym (append-nil (take n l)) ∙ ap (λ x. take n l ++ x) (sym (drop_all n l (omega (arith, e)))) ∙ take-append-drop n l
 
--- all that came before is wanted
+-- all that had come before is wanted
 filled_all : (size have : ℕ) (rest got body mid new : List ℕ) → length rest ≤ size → have ≡ length rest → mid ≡ body ++ take have rest → new ≡ mid ++ got → length new ≡ length mid + (size - have)
     → IsFilled size have rest got body new
 filled_all size have rest got body mid new le is from more long =
@@ -35,7 +35,7 @@ filled_all size have rest got body mid new le is from more long =
       left = drop_all have rest (omega arith) ∙ sym (drop_all size (rest ++ got) (omega arith));
     }
 
--- nothing more had to come
+-- nothing more has to come
 filled_front : (size have : ℕ) (rest got body mid new : List ℕ) → size < length rest → have ≡ size → mid ≡ body ++ take have rest → new ≡ mid ++ got → length new ≡ length mid + (size - have)
     → IsFilled size have rest got body new
 filled_front size have rest got body mid new lt is from more long =
@@ -110,7 +110,7 @@ pub data_cut :
 data_cut T size have others whole old new body mid more a b e is sum from count f =
     (old.rest ++ f.0, (f.0, refl, f.2), data_fails T size have others whole old body mid more f.0 a b e is sum from f.1 count f.3)
 
--- the bytes of the reply that are none of its body
+-- the number of bytes of the reply that aren't in its body
 pub front_counted : (size have now others taken : ℕ) (rest body mid : List ℕ) → have ≡ min size (length rest) → mid ≡ body ++ take have rest → now ≡ taken + have → others ≡ length mid → length body ≤ taken
     → (now - others) + length mid ≡ taken + have
 front_counted size have now others taken rest body mid is from count long less =

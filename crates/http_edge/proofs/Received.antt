@@ -13,7 +13,7 @@ use Rattle.http_edge.specs.Requests.{Refuses, Gives, ReadsNext}
 use Rattle.http_edge.specs.Steps.{HeadGives, AwaitsHead, EndsAt}
 use Rattle.http_edge.proofs.Carried.{over_nothing, over_then, end_told, told_along}
 
--- these bytes came over the connection, behind the old ones
+-- the new bytes are the old ones and those that came over the connection
 abbrev pub Came : List ℕ → List ℕ → Option Traffic → Option Traffic → Type 0
 Came old new a b = (got : List ℕ) × (new ≡ old ++ got) × Over a b (record { read = got; written = [] })
 
@@ -31,7 +31,7 @@ pub empty_list : (l : List ℕ) → length l ≡ 0 → l ≡ []
 empty_list [] e = refl
 empty_list (x ∷ xs) e = absurd (omega arith)
 
--- nothing came at the end
+-- at the end nothing came
 pub same_at_end : (mid new : List ℕ) (b d : Option Traffic) → Reads b d mid new (Ok 0) → new ≡ mid
 same_at_end mid new b d more = more.2 ∙ ap (λ x. mid ++ x) (empty_list more.0 more.1) ∙ append-nil mid
 

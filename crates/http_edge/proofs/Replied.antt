@@ -1,4 +1,4 @@
--- A reply, its head first and then its body.
+-- A reply: first its head, then its body.
 use Rattle.std.proofs.Common.{refl, sym, ap, subst, ◌∙◌, ◌≡◌, ◌<◌, ◌≤◌, ◌+◌, ◌⊎◌, inl, inr, ℕ, List, [], ◌∷◌, ◌++◌, length, take, drop, map, Option, Result, Ok, Err, length-append, arith}
 use Rattle.std.proofs.lemmas.List.{append-nil, take-append-drop, length-take-le, drop_all}
 use Rattle.actor_ports.specs.Traffic.{Traffic}

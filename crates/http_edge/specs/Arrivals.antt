@@ -1,4 +1,4 @@
--- The bytes of a reply as they come, and what single steps of reading it give: own definitions.
+-- The bytes of a reply as they come, and what each step of reading it gives: own definitions.
 use Rattle.std.specs.Prelude.{◌≡◌, ◌<◌, ◌≤◌, ◌+◌, ◌⊎◌, ℕ, List, [], ◌++◌, length, map, take, drop, All, Option, Some, None, Result, Ok, Err}
 use Rattle.actor_ports.specs.Traffic.{Traffic}
 use Rattle.httparse.specs.Ascii.{crlf_bytes}
@@ -15,7 +15,7 @@ use Rattle.http_edge.specs.Fields.{most_head, most_fields}
 use Rattle.http_edge.specs.Requests.{pair_of}
 use Rattle.http_edge.specs.Replies.{StartsWithReply, reply_pairs, form_of, IsSmallForm, BreaksHead, RefusesHead, BreaksLine, BreaksTrailer, NeverEndsLine, IsCutEnd, Fails}
 
--- bytes that came and aren't taken yet, and how many were taken before them
+-- the bytes that have come and aren't taken yet, and how many were taken before them
 pub record Arrived : Type 0 where
   pub rest : List ℕ
   pub taken : ℕ
@@ -27,7 +27,7 @@ nothing_arrived = record { rest = []; taken = 0 }
 abbrev pub skipped : ℕ → Arrived → Arrived
 skipped n a = record { rest = drop n a.rest; taken = a.taken + n }
 
--- bytes came over the connection, which make the old ones this stream
+-- this stream is the old bytes and those that came over the connection
 abbrev pub Extends : List ℕ → Option Traffic → Option Traffic → List ℕ → Type 0
 Extends old before after stream = (got : List ℕ) × (stream ≡ old ++ got) × Over before after (record { read = got; written = [] })
 
@@ -45,7 +45,7 @@ Fetches old new before after result = (stream : List ℕ) × Extends old.rest be
 
 -- ---- the head
 
--- this is the head at the front of the stream, of a final reply whose body has a form
+-- this is the head at the start of the stream, of a final reply whose body has a form
 pub record IsReplyHead (stream : List ℕ) (h : ReplyHead) : Type 0 where
   pub head : ResponseHead
   pub behind : List ℕ
@@ -73,7 +73,7 @@ LooksAtReply stream (Err ConnFault) = ⊥
 LooksAtReply stream (Err OutOfMemory) = Unit {0}
 LooksAtReply stream (Err e) = HasRefusedHead stream e
 
--- why there is no head that isn't refused
+-- why there is no head, or one that is refused
 abbrev pub BreaksAtHead : List ℕ → EdgeError → Type 0
 BreaksAtHead stream e = BreaksHead stream e ⊎ HasRefusedHead stream e
 
@@ -86,20 +86,20 @@ AwaitsReply old new before after result = (stream : List ℕ) × Extends old.res
 
 -- ---- the parts of a body in chunks
 
--- a part of len bytes with a number stands at the front: a chunk line, CR LF, or a trailer part
+-- the stream begins with a part of len bytes and its number: a chunk line, CR LF, or a trailer part
 abbrev pub HasPart : Part → List ℕ → ℕ → ℕ → Type 0
 HasPart Line stream len size = (line : ChunkLine) × IsChunkLineAt stream len size line
 HasPart DataEnd stream len size = (stream ≡ crlf_bytes ++ drop len stream) × (len ≡ 2)
 HasPart Trailer stream len size =
     (fields : List Field) × (last : LineEnd) × ReadsSection stream fields last (drop len stream) × (len ≡ length (print_section fields last)) × (length fields ≤ most_fields)
 
--- more bytes may make it one
+-- more bytes may make it a part
 abbrev pub MayHavePart : Part → List ℕ → Type 0
 MayHavePart Line stream = HasNoChunkLine stream × MayBecomeChunkLine stream
 MayHavePart DataEnd stream = IsCutEnd stream
 MayHavePart Trailer stream = HasNoSection stream × MayBecomeSection stream
 
--- what stands there is no part, whatever follows
+-- what is there is no part, whatever follows
 abbrev pub RefusesPart : Part → List ℕ → EdgeError → Type 0
 RefusesPart Line stream BadLength = NeverHasChunkLine stream
 RefusesPart DataEnd stream BadLength = NeverEndsLine stream
@@ -118,7 +118,7 @@ BreaksEnd stream BadLength = NeverEndsLine stream
 BreaksEnd stream (CutShort n) = IsCutEnd stream
 BreaksEnd stream e = ⊥
 
--- why a part isn't there
+-- why there is no part
 abbrev pub BreaksPart : Part → List ℕ → EdgeError → Type 0
 BreaksPart Line = BreaksLine
 BreaksPart DataEnd = BreaksEnd

@@ -1,4 +1,4 @@
--- What single steps of reading a reply's body give: own definitions, each a case of what the reply's definition says.
+-- What each step of reading a reply's body gives: own definitions, each a case of what the reply's definition says.
 use Rattle.std.specs.Prelude.{◌≡◌, ◌<◌, ◌≤◌, ◌+◌, ℕ, Bool, true, false, List, [], ◌++◌, length, take, drop, All, Option, Result, Ok, Err}
 use Rattle.actor_ports.specs.Traffic.{Traffic}
 use Rattle.httparse.specs.Ascii.{crlf_bytes}
@@ -13,7 +13,7 @@ use Rattle.http_edge.specs.Fields.{most_head, most_fields, most_body}
 use Rattle.http_edge.specs.Replies.{Chunk, IsChunk, print_chunk, print_chunks, joined, HasBody, HasReply, BreaksData, BreaksChunk, BreaksBody, Fails, HasNoReading}
 use Rattle.http_edge.specs.Arrivals.{Arrived, Extends, skipped}
 
--- fewer bytes came
+-- fewer bytes came than the size
 abbrev pub IsShort : ℕ → List ℕ → EdgeError → Type 0
 IsShort size stream (CutShort n) = length stream < size
 IsShort size stream e = ⊥
@@ -63,7 +63,7 @@ abbrev pub HasChunks : Arrived → Arrived → List ℕ → Option Traffic → O
 HasChunks old new body before after =
     (chunks : List Chunk) × (stream : List ℕ) × All IsChunk chunks × Extends old.rest before after stream × (stream ≡ print_chunks chunks ++ new.rest) × (body ≡ joined chunks) × (new.taken ≡ old.taken + length (print_chunks chunks))
 
--- a body of its form
+-- a body in this form
 abbrev pub BodyGives : {T : Type 0} → BodyForm → Arrived → List ℕ → List ℕ → Option Traffic → Option Traffic → Result T EdgeError → Type 0
 BodyGives form old body stream before after (Ok x) = HasBody form stream body before after
 BodyGives form old body stream before after (Err e) = Fails (BreaksBody form stream) (old.taken + length stream) before after e

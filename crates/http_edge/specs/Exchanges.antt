@@ -7,11 +7,11 @@ use Rattle.http_edge.specs.declared.error.EdgeError.TheVariants.{ConnFault, OutO
 use Rattle.http_edge.specs.Carry.{Carried, IsFront, Over}
 use Rattle.http_edge.specs.Replies.{HasReply, HasNoReading}
 
--- a front of the text was written, and nothing was read before all of it was
+-- a prefix of the text was written, and nothing was read before all of it was written
 abbrev pub IsCutExchange : List ℕ → Carried → Type 0
 IsCutExchange text c = IsFront c.written text × ((c.written ≡ text) ⊎ (c.read ≡ []))
 
--- the text was written, and what was read has this reply or none; a fault or want of memory may have cut both
+-- the text was written, and what was read has this reply or none; a fault or OutOfMemory may have cut both short
 abbrev pub ExchangeGives : List ℕ → Carried → Option Traffic → Option Traffic → Result HttpResponse EdgeError → Type 0
 ExchangeGives text c before after (Ok r) = (c.written ≡ text) × HasReply c.read before after r
 ExchangeGives text c before after (Err ConnFault) = IsCutExchange text c

@@ -24,19 +24,19 @@ sized_form (Err e) = Err e
 abbrev pub coded_form : List ℕ → Result BodyForm EdgeError
 coded_form coding = if is_same_word coding (codes "chunked") then Ok ByChunks else Err Chunked
 
--- the form of a reply's body by the values of Transfer-Encoding and of Content-Length, or why there is none
+-- the form of a reply's body, from the values of Transfer-Encoding and of Content-Length, or why there is none
 abbrev pub form_by : List (List ℕ) → List (List ℕ) → Result BodyForm EdgeError
 form_by [] [] = Ok ToEnd
 form_by [] (v ∷ vs) = sized_form (at_most_body (length_told (v ∷ vs)))
 form_by (v ∷ []) lengths = coded_form v
 form_by (v ∷ w ∷ vs) lengths = Err Chunked
 
--- the same by the status and the fields: 204 and 304 have no body
+-- the same from the status and the fields: 204 and 304 have no body
 abbrev pub form_told : ℕ → List (List ℕ × List ℕ) → Result BodyForm EdgeError
 form_told status fields =
     if status == 204 || status == 304 then Ok (BySize 0) else form_by (values_of (codes "Transfer-Encoding") fields) (values_of (codes "Content-Length") fields)
 
--- a length is one that a body may have
+-- the length, if it has one, is one that a body may have
 abbrev pub IsSmallForm : BodyForm → Type 0
 IsSmallForm (BySize n) = n ≤ most_body
 IsSmallForm form = Unit {0}
@@ -93,7 +93,8 @@ reply_pairs h = map name_and_value h.fields
 abbrev pub form_of : ResponseHead → Result BodyForm EdgeError
 form_of h = form_told (status_code h) (reply_pairs h)
 
--- what is behind a head begins with that body of its form; without a length it is all up to the end of the input
+-- what is behind a head begins with this body in its form; with neither length nor chunks, it is all up to the end of
+-- the input
 abbrev pub HasBody : BodyForm → List ℕ → List ℕ → Option Traffic → Option Traffic → Type 0
 HasBody (BySize n) behind body before after = (length body ≡ n) × ((rest : List ℕ) × (behind ≡ body ++ rest))
 HasBody ByChunks behind body before after = (text : List ℕ) × IsChunkedText text body × ((rest : List ℕ) × (behind ≡ text ++ rest))
@@ -121,7 +122,7 @@ BreaksHead stream TooManyFields = (length stream ≤ most_head) × ResponseExcee
 BreaksHead stream (CutShort n) = (length stream < most_head) × HasNoResponse stream × MayBecomeResponse stream
 BreaksHead stream e = ⊥
 
--- a whole head is refused: by its status first, and then by its fields
+-- a whole head is refused: first by its status, and then by its fields
 abbrev pub RefusesHead : ResponseHead → EdgeError → Type 0
 RefusesHead head BadHead = status_code head < 200
 RefusesHead head e = (200 ≤ status_code head) × (form_of head ≡ Err e)
@@ -141,15 +142,15 @@ BreaksTrailer rest TooManyFields = (length rest ≤ most_head) × SectionExceeds
 BreaksTrailer rest (CutShort n) = (length rest < most_head) × HasNoSection rest × MayBecomeSection rest
 BreaksTrailer rest e = ⊥
 
--- the bytes don't begin with CR LF, and whatever follows
+-- the bytes don't begin with CR LF, whatever follows them
 abbrev pub NeverEndsLine : List ℕ → Type 0
 NeverEndsLine bytes = (more rest : List ℕ) → bytes ++ more ≢ crlf_bytes ++ rest
 
--- the bytes are a front of CR LF, and not all of it
+-- the bytes are a prefix of CR LF, but not all of it
 abbrev pub IsCutEnd : List ℕ → Type 0
 IsCutEnd bytes = (bytes ≡ []) ⊎ (bytes ≡ 13 ∷ [])
 
--- in the bytes of a chunk of this size or in the CR LF behind them, where so many bytes of the body came before
+-- in the bytes of a chunk of this size or in the CR LF behind them, after `have` bytes of the body
 abbrev pub BreaksData : ℕ → ℕ → List ℕ → EdgeError → Type 0
 BreaksData have size rest (BodyTooLong n) = (most_body < have + size) × (n ≡ min (have + size) 18446744073709551615)
 BreaksData have size rest (CutShort n) = (have + size ≤ most_body) × IsCutEnd (drop size rest)
@@ -189,13 +190,14 @@ Breaks stream e =
     BreaksHead stream e
     ⊎ ((head : ResponseHead) × (behind : List ℕ) × StartsWithReply stream head behind × (RefusesHead head e ⊎ BreaksBehind head behind e))
 
--- a cause of an answer, and for a cut also that so many bytes came and no more will; faults and want of memory have none
+-- the cause of an error; for CutShort also that so many bytes came and no more will; ConnFault and OutOfMemory have no
+-- cause here
 abbrev pub Fails : (EdgeError → Type 0) → ℕ → Option Traffic → Option Traffic → EdgeError → Type 0
 Fails Cause count before after ConnFault = Unit {0}
 Fails Cause count before after OutOfMemory = Unit {0}
 Fails Cause count before after (CutShort n) = (n ≡ count) × AtEnd before after × Cause (CutShort n)
 Fails Cause count before after e = Cause e
 
--- why a stream, all bytes that came, has no reply
+-- why a stream, which is all the bytes that came, has no reply
 abbrev pub HasNoReading : List ℕ → Option Traffic → Option Traffic → EdgeError → Type 0
 HasNoReading stream before after e = Fails (Breaks stream) (length stream) before after e

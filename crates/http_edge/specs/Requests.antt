@@ -1,4 +1,4 @@
--- A request on a connection: heads as `httparse` states them, and a body of the length that the head tells (RFC 9112).
+-- A request on a connection: heads as `httparse` states them, and a body of the length that the head gives (RFC 9112).
 use Rattle.std.specs.Prelude.{◌≡◌, ◌<◌, ◌≤◌, ◌⊎◌, ◌==◌, ◌||◌, ℕ, Bool, List, [], ◌++◌, length, map, Option, Some, None, Result, Ok, Err}
 use Rattle.actor_ports.specs.declared.port.PortError.{PortError}
 use Rattle.actor_ports.specs.declared.port.PortError.TheVariants as ports
@@ -20,11 +20,11 @@ pair_of f = (f.name, f.value)
 abbrev pub pairs_of : RequestHead → List (List ℕ × List ℕ)
 pairs_of h = map name_and_value h.fields
 
--- a request is the last of its connection
+-- whether a request is the last of its connection
 abbrev pub closes : RequestHead → Bool
 closes h = h.minor == 0 || says_close (pairs_of h)
 
--- this text is that request: a whole head within its limits, and a body of the length that the head tells
+-- this text is that request: a whole head within its limits, and a body of the length that the head gives
 pub record IsRequestText (text : List ℕ) (q : HttpRequest) : Type 0 where
   pub head : RequestHead
   pub valid : IsRequestHead head
@@ -43,11 +43,11 @@ pub record StartsWithHead (stream : List ℕ) (head : RequestHead) (behind : Lis
   pub short : length (print_request head) ≤ most_head
   pub few : length head.fields ≤ most_fields
 
--- a stream ends inside a head, or inside a target that no bytes complete
+-- a stream ends inside a head, or inside a target that no further bytes complete
 abbrev pub IsCutHead : List ℕ → Type 0
 IsCutHead stream = (length stream < most_head) × HasNoRequest stream × MayBecomeRequest stream
 
--- a stream ends inside the body that its head tells
+-- a stream ends inside the body whose length its head gives
 abbrev pub IsCutBody : List ℕ → Type 0
 IsCutBody stream =
     (head : RequestHead) × (behind : List ℕ) × (size : ℕ) × StartsWithHead stream head behind × (body_told (pairs_of head) ≡ Ok size) × (length behind < size)
@@ -56,7 +56,7 @@ IsCutBody stream =
 abbrev pub RefusesBody : List ℕ → EdgeError → Type 0
 RefusesBody stream e = (head : RequestHead) × (behind : List ℕ) × StartsWithHead stream head behind × (body_told (pairs_of head) ≡ Err e)
 
--- Why a stream gives no request, the stream being the bytes from the request's first one on that have come.
+-- Why a stream gives no request. The stream is all bytes that have come, from the request's first one on.
 abbrev pub Refuses : List ℕ → Option Traffic → Option Traffic → EdgeError → Type 0
 Refuses stream before after BadHead = (length stream ≤ most_head) × NeverHasRequest stream
 Refuses stream before after HeadTooLong = (length stream ≡ most_head) × HasNoRequest stream × MayBecomeRequest stream
@@ -77,7 +77,7 @@ abbrev pub ReadsNext : List ℕ → List ℕ → Option Traffic → Option Traff
 ReadsNext old new before after result =
     (got : List ℕ) × Over before after (record { read = got; written = [] }) × Gives (old ++ got) new before after result
 
--- what a reader holds: bytes not yet taken, and the error that it answers for good
+-- what a reader holds: the bytes not yet taken, and the error that it answers from now on
 pub record ReaderState : Type 0 where
   pub kept : List ℕ
   pub failed : Option EdgeError
@@ -85,7 +85,7 @@ pub record ReaderState : Type 0 where
 abbrev pub new_reader : ReaderState
 new_reader = record { kept = []; failed = None }
 
--- the count rose where the connection failed
+-- the count of faults doesn't fall, and rises if the connection failed
 abbrev pub EdgeCause : {T : Type 0} → ℕ → ℕ → Result T EdgeError → Type 0
 EdgeCause before after (Err ConnFault) = before < after
 EdgeCause before after result = before ≤ after

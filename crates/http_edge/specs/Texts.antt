@@ -11,14 +11,14 @@ use Rattle.http_edge.specs.declared.error.EdgeError.TheVariants.{ConnFault, OutO
 use Rattle.http_edge.specs.Carry.{Over, IsFront, nothing}
 use Rattle.http_edge.specs.Fields.{is_same_word}
 
--- a field that tells where a message ends, which the writer makes by itself
+-- a field that says where a message ends, which the writer makes by itself
 abbrev pub is_framing : List ℕ → Bool
 is_framing name = is_same_word name (codes "Content-Length") || is_same_word name (codes "Transfer-Encoding")
 
 abbrev pub field_line : HttpField → List ℕ
 field_line f = f.name ++ codes ": " ++ f.value ++ codes "\r\n"
 
--- the lines of the fields in their order, but for those that tell where the message ends
+-- the lines of the fields in their order, except those that say where the message ends
 abbrev pub field_lines : List HttpField → List ℕ
 field_lines [] = []
 field_lines (f ∷ fs) = if is_framing f.name then field_lines fs else field_line f ++ field_lines fs
@@ -27,19 +27,19 @@ field_lines (f ∷ fs) = if is_framing f.name then field_lines fs else field_lin
 abbrev pub sized : List ℕ → List ℕ
 sized body = codes "Content-Length: " ++ decimal (length body) ++ codes "\r\n\r\n" ++ body
 
--- what ends a response: of 204 and 304 the empty line alone
+-- what ends a response; for 204 and 304 the empty line alone
 abbrev pub ending : ℕ → List ℕ → List ℕ
 ending status body = if status == 204 || status == 304 then codes "\r\n" else sized body
 
--- the phrase that `http` gives to a status of three digits; any other number has none
+-- the phrase that `http` gives for a status of three digits; any other number has none
 abbrev pub phrase_of : ℕ → List ℕ
 phrase_of status = if nat_le 100 status && nat_lt status 1000 then unwrap_or (reason_phrase status) [] else []
 
--- what stands in front of the phrase
+-- what comes before the phrase
 abbrev pub status_start : ℕ → List ℕ
 status_start status = codes "HTTP/1.1 " ++ decimal status ++ codes " "
 
--- a status line; without a phrase the space in front of it stands all the same
+-- a status line; without a phrase, the space before it is still written
 abbrev pub status_line : ℕ → List ℕ
 status_line status = status_start status ++ phrase_of status ++ codes "\r\n"
 
@@ -54,7 +54,7 @@ request_line method target = method ++ codes " " ++ target ++ codes " HTTP/1.1\r
 unfoldable pub request_text : HttpRequest → List ℕ
 request_text q = request_line q.method q.target ++ field_lines q.fields ++ sized q.body
 
--- a text was written; where the connection failed a front of it, and for want of memory nothing
+-- a text was written; if the connection failed a prefix of it, and after OutOfMemory nothing
 abbrev pub WritesText : {T : Type 0} → Option Traffic → Option Traffic → List ℕ → Result T EdgeError → Type 0
 WritesText before after text (Ok x) = Over before after (record { read = []; written = text })
 WritesText before after text (Err ConnFault) = (front : List ℕ) × IsFront front text × Over before after (record { read = []; written = front })

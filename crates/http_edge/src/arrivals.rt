@@ -12,7 +12,7 @@ use std::marker::Model;
 
 const MOST_HEAD: usize = 16_384;
 
-// The bytes of a message that came, at most 16,384, of which the first `at` are taken.
+// The bytes of a message that have come, at most 16,384, of which the first `at` are taken.
 #[derive(Drop)]
 pub(crate) struct Arrivals {
     bytes: Vec<u8>,
@@ -51,7 +51,7 @@ impl Arrivals {
         &self.bytes.as_slice()[self.at..]
     }
 
-    // How many bytes were taken.
+    // How many bytes were taken so far.
     pub(crate) fn taken(&self) -> u64
         ensures { result ≡ self.now.taken }
     {
@@ -68,7 +68,7 @@ impl Arrivals {
         self.before += n as u64;
     }
 
-    // Counts n bytes that were taken as they came.
+    // Counts n bytes that were taken straight from the connection.
     pub(crate) fn count(&mut self, n: usize)
         requires small { self.old.taken + n < 18446744073709551616 }
         ensures { self.new ≡ record { rest = self.old.rest; taken = self.old.taken + n } }
@@ -76,7 +76,7 @@ impl Arrivals {
         self.before += n as u64;
     }
 
-    // Lets more bytes come behind those that aren't taken.
+    // Reads more bytes from the connection, behind those that aren't taken yet.
     pub(crate) fn fetch<C: Conn>(&mut self, conn: &mut C) -> Result<(), EdgeError>
         requires small { self.old.taken + most_head < 18446744073709551616 }
         ensures fetches { Fetches self.old self.new (C.read_traffic conn.old) (C.read_traffic conn.new) result }
@@ -89,7 +89,7 @@ impl Arrivals {
     }
 }
 
-// Lets more bytes come behind these, before which so many were taken.
+// Reads more bytes from the connection, behind these; `before` bytes were taken before them.
 fn receive_more<C: Conn>(conn: &mut C, bytes: &mut Vec<u8>, before: u64) -> Result<(), EdgeError>
     requires short { vec_len bytes.old ≤ most_head }
     requires small { before + most_head < 18446744073709551616 }

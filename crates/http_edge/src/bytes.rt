@@ -1,11 +1,11 @@
-// A text of bytes.
+// A sequence of bytes.
 ghost use Rattle.std.specs.Prelude.{◌≡◌, IfOk, refl};
 
 use lists_and_limits::OutOfMemory;
 use std::alloc::Global;
 use std::marker::Model;
 
-/// Bytes of a message, which contracts see as their list.
+/// Bytes of a message; contracts see them as a list.
 #[derive(Debug, Drop)]
 pub struct Bytes {
     bytes: Vec<u8>,
@@ -44,7 +44,7 @@ impl Bytes {
         self.bytes.as_slice()
     }
 
-    /// The vector; takes no memory.
+    /// The vector. It takes no memory.
     pub fn into_vec(self) -> Vec<u8>
         ensures { result.items ≡ self }
     {

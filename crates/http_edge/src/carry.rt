@@ -1,4 +1,4 @@
-// Reads and writes of a connection, told by what went over it.
+// Reads and writes of a connection, specified by what went over it.
 ghost use Rattle.std.specs.Prelude.{◌≡◌, ◌<◌, ◌≤◌, ◌++◌, [], List, ℕ, length, IfOk};
 ghost use Rattle.actor_ports.specs.Port.{HasCause};
 ghost use Rattle.http_edge.specs.Carry.{Over, Writes, Reads};
@@ -13,7 +13,7 @@ pub(crate) fn send<C: Conn>(conn: &mut C, bytes: &[u8]) -> Result<(), PortError>
     conn.write(bytes)
 }
 
-/// Appends the next bytes, none of them exactly at the end.
+/// Appends the next bytes, at most `most`, and answers how many; 0 only at the end of the input.
 pub(crate) fn receive<C: Conn>(
     conn: &mut C,
     into: &mut Vec<u8>,

@@ -18,7 +18,7 @@ use lists_and_limits::OutOfMemory;
 
 const MOST_BODY: usize = 4_194_304;
 
-// Appends those of the next `size` bytes that came; how many.
+// Appends those of the next `size` bytes that have come, and answers how many.
 fn take_front(
     arrivals: &mut Arrivals,
     body: &mut Vec<u8>,
@@ -37,7 +37,7 @@ fn take_front(
     Ok(have)
 }
 
-// Appends the next `size` bytes of the body: those that came, and then more as they come.
+// Appends the next `size` bytes of the body: those that have come, and then more as they come.
 fn take_data<C: Conn>(
     arrivals: &mut Arrivals,
     conn: &mut C,
@@ -93,7 +93,7 @@ fn read_data<C: Conn>(
     }
 }
 
-// Reads a chunk, whose bytes are appended; false where it was the last one, whose trailer part is taken too.
+// Reads a chunk and appends its bytes. It answers false if it was the last one, whose trailer part is taken too.
 fn read_chunk<C: Conn>(
     arrivals: &mut Arrivals,
     conn: &mut C,
@@ -121,7 +121,7 @@ fn read_chunk<C: Conn>(
     }
 }
 
-// Reads the chunks of a body, and joins their bytes.
+// Reads all chunks of a body, and joins their bytes.
 fn read_chunks<C: Conn>(
     arrivals: &mut Arrivals,
     conn: &mut C,
@@ -169,7 +169,7 @@ fn read_to_end<C: Conn>(
     })
 }
 
-// Reads the body that is behind a head.
+// Reads the body behind a head, in this form.
 pub(crate) fn read_body<C: Conn>(
     form: BodyForm,
     arrivals: &mut Arrivals,

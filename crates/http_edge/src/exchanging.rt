@@ -37,11 +37,12 @@ fn read_reply<C: Conn>(alloc: Global, conn: &mut C) -> Result<HttpResponse, Edge
     }
 }
 
-/// Writes one request and reads its reply to its end, however the bytes come: with the fields as they stand in its
-/// head, and a body of at most 4,194,304 bytes that has the length that the head tells, or is its chunks joined, or is
-/// all up to the end of the input. The request's fields are written in their order, but for Content-Length and
-/// Transfer-Encoding, and then the length of its body; `close` is not looked at. Bytes behind a reply may have been
-/// read too, so a connection serves for one exchange.
+/// Writes one request and reads its reply to the end, however the bytes come.
+///
+/// The reply has the fields of its head, and a body of at most 4,194,304 bytes: as long as the head says, or its
+/// chunks joined, or all up to the end of the input. The request's fields are written in their order, except
+/// Content-Length and Transfer-Encoding, and then the length of its body; `close` is ignored. Bytes behind the reply
+/// may have been read too, so a connection serves for one exchange.
 pub fn exchange<C: Conn>(
     alloc: Global,
     request: &HttpRequest,

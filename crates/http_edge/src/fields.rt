@@ -1,4 +1,4 @@
-// What the fields of a head say: its body's length, and whether the message is the last.
+// What the fields of a head say: the length of its body, and whether the message is the last.
 ghost use Rattle.std.specs.Prelude.{◌≡◌, ◌≤◌, length, map, take, All, IfOk};
 ghost use Rattle.httparse.specs.Spans.{header_bytes, IsHeaderWithin};
 ghost use Rattle.http_edge.specs.Fields.{is_same_word, values_of, length_of, at_most_body, most_body, body_told, says_close};
@@ -14,7 +14,7 @@ use std::alloc::Global;
 
 const MOST_BODY: u64 = 4_194_304;
 
-// The value of a field that may stand once.
+// The value of a field that may occur only once.
 #[derive(Clone, Copy)]
 pub(crate) enum Told {
     Absent,
@@ -22,14 +22,14 @@ pub(crate) enum Told {
     Often,
 }
 
-// Whether two words are equal but for the case of ASCII letters.
+// Whether two words are equal except for the case of ASCII letters.
 pub(crate) fn is_same_word(a: &[u8], b: &[u8]) -> bool
     ensures { result ≡ is_same_word a.now b.now }
 {
     a.eq_ignore_ascii_case(b)
 }
 
-// How often a field of this name stands, and its value where that is once.
+// How often a field of this name occurs, and where its value is if it occurs once.
 pub(crate) fn find_value(bytes: &[u8], spans: &[HeaderSpan], name: &[u8]) -> Told
     requires { All (IsHeaderWithin (length bytes.now)) spans.now }
     ensures { IsTold bytes.now (values_of name.now (map (header_bytes bytes.now) spans.now)) result }
@@ -49,7 +49,7 @@ pub(crate) fn find_value(bytes: &[u8], spans: &[HeaderSpan], name: &[u8]) -> Tol
     }
 }
 
-// The number that 1 to 18 decimal digits write.
+// The number that 1 to 18 decimal digits spell; `None` for any other text.
 pub(crate) fn read_length(text: &[u8]) -> Option<u64>
     ensures { result ≡ length_of text.now }
 {
@@ -66,7 +66,7 @@ pub(crate) fn read_length(text: &[u8]) -> Option<u64>
     Some(number)
 }
 
-// The length, where a body may have it.
+// The length, if a body may have it: at most 4,194,304.
 pub(crate) fn check_length(length: Option<u64>) -> Result<usize, EdgeError>
     ensures is { result ≡ at_most_body length }
     ensures small { IfOk result (λ n. n ≤ most_body) }

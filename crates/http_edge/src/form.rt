@@ -8,7 +8,7 @@ use crate::error::EdgeError;
 use crate::fields::{Told, check_length, find_value, is_same_word, read_length};
 use httparse::spans::HeaderSpan;
 
-// The form of a reply's body: so many bytes, chunks, or all up to the end of the input.
+// The form of a reply's body: a number of bytes, chunks, or all up to the end of the input.
 #[derive(Clone, Copy)]
 pub(crate) enum BodyForm {
     BySize(usize),

@@ -1,4 +1,4 @@
-// A look at the bytes of a request so far.
+// Looks at the bytes of a request that have come so far.
 ghost use Rattle.std.specs.Prelude.{◌≡◌, ◌≤◌, ◌==◌, ◌||◌, length, map, take, slice_range, IfOk};
 ghost use Rattle.httparse.specs.Spans.{header_bytes, span_bytes, IsRequestOf, IsRequestWithin};
 ghost use Rattle.http_edge.specs.Fields.{body_told, says_close, most_head};
@@ -16,7 +16,7 @@ use std::alloc::Global;
 
 const MOST_FIELDS: usize = 64;
 
-// A head that is whole: its parts, how many bytes it has, and how many its body.
+// A whole head: its parts, how many bytes it has, and how many its body has.
 #[derive(Drop)]
 pub(crate) struct Head {
     pub(crate) method: Bytes,
@@ -56,7 +56,7 @@ fn copy_head(
     })
 }
 
-// The head that is whole, or why its fields are refused.
+// The whole head, or why its fields are refused.
 fn take_head(
     alloc: Global,
     bytes: &[u8],
@@ -79,7 +79,7 @@ fn take_head(
     }
 }
 
-/// The head at the front of the bytes; None where more bytes are needed.
+/// The head at the start of the bytes; `None` if more bytes are needed.
 pub(crate) fn look_at_head(alloc: Global, bytes: &[u8]) -> Result<Option<Head>, EdgeError>
     requires { length bytes.now ≤ most_head }
     ensures { Looks bytes.now result }

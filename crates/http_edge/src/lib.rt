@@ -1,7 +1,7 @@
-// HTTP/1.1 messages over connections: requests that are read, responses that are written, one exchange.
+// HTTP/1.1 messages over connections: reading requests, writing responses, and one whole exchange.
 //
-// Promise: however the bytes are cut, what is read is what the grammar says of them, and each refusal comes by its
-// cause. Heads are read by httparse. Stands on actor_ports.
+// Promise: however the bytes are cut, what is read is what the grammar says of them, and each refusal has its
+// cause. Heads are read by httparse. It depends on actor_ports and lists_and_limits.
 #![tactic(auto)]
 
 mod arrivals;

@@ -11,7 +11,7 @@ pub struct HttpField {
     pub value: Bytes,
 }
 
-/// The fields of a head in their order, which contracts see as their list.
+/// The fields of a head in their order; contracts see them as a list.
 #[derive(Debug, Drop)]
 pub struct HttpFields {
     fields: Vec<HttpField>,
@@ -41,7 +41,7 @@ impl HttpFields {
         self.fields.as_slice()
     }
 
-    /// The vector; takes no memory.
+    /// The vector. It takes no memory.
     pub fn into_vec(self) -> Vec<HttpField>
         ensures { result.items ≡ self }
     {
@@ -50,7 +50,7 @@ impl HttpFields {
     }
 }
 
-/// A request. `close` says that no further one follows on its connection.
+/// A request. `close` says that no further request follows on its connection.
 #[derive(Debug, Drop)]
 pub struct HttpRequest {
     pub method: Bytes,
@@ -60,7 +60,7 @@ pub struct HttpRequest {
     pub close: bool,
 }
 
-/// A response or reply.
+/// A response that is written, or a reply that is read.
 #[derive(Debug, Drop)]
 pub struct HttpResponse {
     pub status: u16,

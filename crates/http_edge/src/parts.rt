@@ -1,4 +1,4 @@
-// The parts of a body in chunks, and the wait for each.
+// The parts of a body in chunks, and reading until one is whole.
 ghost use Rattle.std.specs.Prelude.{◌≡◌, ◌≤◌, ◌<◌, ◌+◌, length};
 ghost use Rattle.http_edge.specs.Arrivals.{LooksAtPart, AwaitsPart};
 ghost use Rattle.http_edge.specs.Fields.{most_head};
@@ -20,7 +20,7 @@ pub(crate) enum Part {
     Trailer,
 }
 
-// The length of a chunk line and the number in it; None where more bytes are needed.
+// The length of a chunk line and the number in it; `None` if more bytes are needed.
 fn look_at_line(bytes: &[u8]) -> Result<Option<(usize, u64)>, EdgeError>
     ensures { LooksAtPart Part.Line bytes.now result }
 {
@@ -65,7 +65,7 @@ fn look_at_part(part: Part, bytes: &[u8]) -> Result<Option<(usize, u64)>, EdgeEr
     }
 }
 
-// Reads until a part is whole, and takes it; the number in it.
+// Reads until a part is whole, takes it, and answers the number in it.
 pub(crate) fn await_part<C: Conn>(
     part: Part,
     arrivals: &mut Arrivals,

@@ -17,8 +17,8 @@ use std::marker::Model;
 
 const MOST_HEAD: usize = 16_384;
 
-/// Reads the requests of a connection, and keeps the bytes behind each for the next one: at most 16,384, since no
-/// more are read for a head, and for a body no more than it has.
+/// Reads the requests of a connection, and keeps the bytes behind each for the next one. It keeps at most 16,384
+/// bytes, since it reads no more for a head, and for a body no more than the body has.
 #[derive(Drop)]
 pub struct RequestReader {
     alloc: Global,
@@ -50,8 +50,8 @@ impl RequestReader {
         }
     }
 
-    /// Reads the next request; None where the input ended before its first byte. After an error it answers that error
-    /// for good, and leaves the connection alone.
+    /// Reads the next request; `None` if the input ended before its first byte. Each call after an error answers that
+    /// error again, and leaves the connection alone.
     pub fn read<C: Conn>(&mut self, conn: &mut C) -> Result<Option<HttpRequest>, EdgeError>
         ensures reads { self.old.failed ≡ None → ReadsNext self.old.kept self.new.kept (C.read_traffic conn.old) (C.read_traffic conn.new) result }
         ensures cause { self.old.failed ≡ None → EdgeCause (C.read_faults conn.old) (C.read_faults conn.new) result }
@@ -67,7 +67,7 @@ impl RequestReader {
     }
 }
 
-// The error of an answer.
+// The error of an answer, if it has one.
 fn error_of(answer: &Result<Option<HttpRequest>, EdgeError>) -> Option<EdgeError>
     ensures { result ≡ result_err answer.now }
 {
@@ -77,7 +77,7 @@ fn error_of(answer: &Result<Option<HttpRequest>, EdgeError>) -> Option<EdgeError
     }
 }
 
-// What is answered where the input ended with so many bytes kept, which are no request.
+// The answer if the input has ended with `kept` bytes left that aren't a request.
 fn at_end(kept: usize) -> Result<Option<Head>, EdgeError>
     ensures { EndsAt kept result }
 {
@@ -87,7 +87,7 @@ fn at_end(kept: usize) -> Result<Option<Head>, EdgeError>
     Err(EdgeError::CutShort { n: kept as u64 })
 }
 
-// Reads until a head is whole. Each read is followed by one look at what is kept.
+// Reads until a head is whole. After each read it looks once at what is kept.
 fn await_head<C: Conn>(
     alloc: Global,
     kept: &mut Vec<u8>,
@@ -120,7 +120,7 @@ fn await_head<C: Conn>(
     }
 }
 
-// Reads the rest of a body of so many bytes, beside so many bytes of its message that are none of it.
+// Reads the rest of a body of `size` bytes. `len` bytes of its message came that aren't in the body.
 pub(crate) fn read_rest<C: Conn>(
     conn: &mut C,
     body: &mut Vec<u8>,
@@ -147,7 +147,7 @@ pub(crate) fn read_rest<C: Conn>(
     Ok(())
 }
 
-// The bytes behind the first n are kept.
+// Keeps only the bytes behind the first n.
 fn keep_rest(kept: &mut Vec<u8>, n: usize)
     requires { n ≤ vec_len kept.old }
     ensures { kept.new.items ≡ drop n kept.old.items }
@@ -169,7 +169,7 @@ fn with_body(head: Head, body: Vec<u8>) -> HttpRequest
     }
 }
 
-// The front of a body that is kept behind a head of so many bytes; what is behind the body stays kept.
+// Takes as much of a body of `size` bytes as is kept behind a head of `len` bytes; what is behind the body stays kept.
 fn split_body(
     alloc: Global,
     kept: &mut Vec<u8>,
@@ -193,7 +193,7 @@ fn split_body(
     Ok(body)
 }
 
-// The request of a head that is at the front of what is kept.
+// Reads the request whose head is at the start of what is kept.
 fn take_body<C: Conn>(
     alloc: Global,
     kept: &mut Vec<u8>,

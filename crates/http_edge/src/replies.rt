@@ -1,4 +1,4 @@
-// A look at the head of a reply, and the wait for it.
+// The head of a reply: looking at its bytes, and reading until it is whole.
 ghost use Rattle.std.specs.Prelude.{◌≡◌, ◌≤◌, ◌<◌, ◌+◌, length, map, take, slice_range, IfOk};
 ghost use Rattle.httparse.specs.Spans.{header_bytes, IsResponseOf, IsResponseWithin};
 ghost use Rattle.http_edge.specs.Arrivals.{LooksAtReply, AwaitsReply};
@@ -18,7 +18,7 @@ use std::alloc::Global;
 
 const MOST_FIELDS: usize = 64;
 
-// A head that is whole: its status and fields, the form of the body behind it, and how many bytes it has.
+// A whole head: its status and fields, the form of the body behind it, and how many bytes it has.
 #[derive(Drop)]
 pub(crate) struct ReplyHead {
     pub(crate) status: u16,
@@ -27,7 +27,7 @@ pub(crate) struct ReplyHead {
     pub(crate) len: usize,
 }
 
-// The head that is whole, or why it is refused.
+// The whole head, or why it is refused.
 fn take_reply(
     alloc: Global,
     bytes: &[u8],
@@ -58,7 +58,7 @@ fn take_reply(
     }
 }
 
-// The head at the front of the bytes; None where more bytes are needed.
+// The head at the start of the bytes; `None` if more bytes are needed.
 fn look_at_reply(alloc: Global, bytes: &[u8]) -> Result<Option<ReplyHead>, EdgeError>
     requires { length bytes.now ≤ most_head }
     ensures { LooksAtReply bytes.now result }

@@ -1,4 +1,4 @@
-// Requests and replies by table, each whole and cut at every byte; texts that are written; limits; faults.
+// Tables of requests and replies, each whole and cut at every byte; texts that are written; limits; faults.
 use super::*;
 use actor_ports::MemConn;
 use std::alloc::Global;
@@ -28,7 +28,7 @@ fn add_request(request: &HttpRequest, text: &mut Vec<u8>) -> Result<(), Fail> {
     Ok(())
 }
 
-// An answer as a text: `METHOD TARGET [NAME=VALUE;..] BODY`, with ` close` where no request follows.
+// An answer as a text: `METHOD TARGET [NAME=VALUE;..] BODY`, with ` close` if no request follows.
 fn told(alloc: Global, answer: &Result<Option<HttpRequest>, EdgeError>) -> Result<Vec<u8>, Fail> {
     let mut text = Vec::new(alloc);
     match answer {
@@ -50,7 +50,7 @@ fn first(alloc: Global, input: &[u8]) -> Result<Vec<u8>, Fail> {
     told(alloc, &answer)
 }
 
-// Whether this input, cut after so many bytes, gives that answer or is told to be cut there.
+// Whether this input, cut after `n` bytes, gives the answer `wanted` or is reported as cut there.
 fn is_cut(alloc: Global, input: &[u8], n: usize, wanted: &[u8]) -> Result<bool, Fail> {
     let cut = first(alloc, &input[..n.min(input.len())])?;
     let short = if n == 0 {
@@ -344,7 +344,7 @@ fn field(alloc: Global, name: &[u8], value: &[u8]) -> Result<HttpField, Fail> {
     })
 }
 
-// What is written of a response with this field, where it has a name.
+// What is written of a response with this field, or without one if the name is empty.
 fn written(
     alloc: Global,
     status: u16,
@@ -460,7 +460,7 @@ fn reply(alloc: Global, input: &[u8]) -> Result<Vec<u8>, Fail> {
     Ok(text)
 }
 
-// Whether these bytes, cut after so many, give that answer or are told to be cut there.
+// Whether these bytes, cut after `n`, give the answer `wanted` or are reported as cut there.
 fn is_cut_reply(alloc: Global, input: &[u8], n: usize, wanted: &[u8]) -> Result<bool, Fail> {
     let cut = reply(alloc, &input[..n.min(input.len())])?;
     let short = format!(in alloc; "cut short after {n} bytes")?;

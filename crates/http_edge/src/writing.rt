@@ -70,7 +70,7 @@ fn add_phrase(status: u16, into: &mut Vec<u8>) -> Result<(), OutOfMemory>
     }
 }
 
-// What stands in front of a status line's phrase.
+// Appends what comes before the phrase of a status line.
 fn add_start(status: u16, into: &mut Vec<u8>) -> Result<(), OutOfMemory>
     ensures { OnOk result (into.new.items ≡ into.old.items ++ status_start status) }
 {
@@ -142,9 +142,9 @@ pub(crate) fn write_request<C: Conn>(
     }
 }
 
-/// Writes a response: its status line, its fields in their order but for Content-Length and Transfer-Encoding, and
-/// then, but for 204 and 304, the length of the body and the body. After `ConnFault` a front of its text was written,
-/// after `OutOfMemory` nothing.
+/// Writes a response: its status line, its fields in their order except Content-Length and Transfer-Encoding, and
+/// then, except for 204 and 304, the length of the body and the body. After `ConnFault` a prefix of its text was
+/// written, after `OutOfMemory` nothing.
 pub fn write_response<C: Conn>(
     alloc: Global,
     response: &HttpResponse,

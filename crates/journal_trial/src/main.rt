@@ -1,11 +1,12 @@
 // A journal over a real file, as a program whose runs can be timed.
 //
-//     append PATH COUNT     makes the file and appends so many payloads of 50 bytes
-//     raw PATH COUNT        writes as many records with two syncs each, with no journal
-//     open PATH COUNT       opens the file and replays its payloads
-//     read PATH COUNT       reads the file's bytes; COUNT is left aside
+//     append PATH COUNT     makes the file and appends COUNT payloads of 50 bytes
+//     raw PATH COUNT        writes as many records with two syncs each, without a journal
+//     open PATH COUNT       opens the file and replays its payloads, at most COUNT
+//     read PATH COUNT       reads the file's bytes; COUNT is ignored
 //
-// It prints how many payloads or bytes there were. It promises nothing of its own. Stands on tx_journal and disk_model.
+// It prints how many payloads or bytes there were. It has no contracts of its own. It depends on tx_journal and
+// disk_model.
 #![tactic(auto)]
 
 use disk_model::{Disk, FileDisk};
@@ -17,7 +18,7 @@ use tx_journal::Journal;
 
 const PAYLOAD: [u8; 50] = [7; 50];
 
-// A record of such a payload, with a closed gate behind it.
+// As many bytes as a record of such a payload has, with the closed gate behind it.
 const RECORD: [u8; 55] = [7; 55];
 
 fn main(rt: HostRuntime) -> io::Result<()> {
@@ -36,7 +37,7 @@ fn main(rt: HostRuntime) -> io::Result<()> {
     }
 }
 
-/// The words after the program's name.
+/// The three words after the program's name; `None` if there are fewer, or the third isn't a number.
 fn words<R: Env + AllocGlobal>(rt: &R) -> io::Result<Option<(String, String, u64)>> {
     let mut words = env::args(rt)?;
     let _name = words.next();
@@ -49,7 +50,7 @@ fn words<R: Env + AllocGlobal>(rt: &R) -> io::Result<Option<(String, String, u64
     }
 }
 
-/// Does what the word says, and counts; none where the disk failed, or the word is another.
+/// Does what `mode` says and answers the count; `None` if the disk failed, or if `mode` is none of the four.
 fn run(alloc: Global, mode: &str, file: File, count: u64) -> Option<u64> {
     let Ok(disk) = FileDisk::new(alloc, file) else {
         return None;
@@ -87,7 +88,7 @@ fn write_all(disk: FileDisk<File>, count: u64) -> Option<u64> {
     Some(count)
 }
 
-// The four calls of a record.
+// The four calls that write a record: two writes with a sync after each.
 fn write_one(disk: &mut FileDisk<File>, at: u64) -> Option<()> {
     if disk.write_at(at, &RECORD).is_err() || disk.sync().is_err() {
         return None;

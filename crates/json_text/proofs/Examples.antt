@@ -1,4 +1,4 @@
--- Worked examples, which compute.
+-- Worked examples, proved by computation.
 use Rattle.std.proofs.Common.{◌≡◌, [], ◌∷◌, false, Some, None, codes, refl}
 use Rattle.std.specs.Prelude.{negsuc}
 use Rattle.json.specs.Print.{escape_byte}
@@ -7,7 +7,7 @@ use Rattle.json_text.specs.Reading.{reading}
 use Rattle.json_text.specs.Texts.{text_of}
 use Rattle.json_text.specs.Values.{null, truth, natural, negative, other_number, text, array, object, no_items, item, no_members, member, member_at}
 
--- of two members with one key the last counts, and members stand in byte order of key
+-- the last of two members with the same key counts, and members are in byte order of key
 pub last_of_two_counts : reading (codes "{\"b\":1,\"a\":2,\"b\":[]}") ≡ Some (object (member (codes "a") (natural 2) (member (codes "b") (array no_items) no_members)))
 unfolding reading serde_json_on_literals
 last_of_two_counts = refl

@@ -1,4 +1,4 @@
--- What serde_json finds in its value is what this crate finds in the value that it stands for.
+-- What serde_json finds in its value is what this crate finds in the value for which that one stands.
 use Rattle.std.proofs.Common.{◌≡◌, ◌≤◌, ℕ, zero, suc, List, [], ◌∷◌, length, Option, Some, None, option_map, Ordering, Less, Equal, Greater, refl, sym, ap, ◌∙◌, arith}
 use Rattle.std.specs.Prelude.{is_some, max, if◌then◌else◌, option_and_then}
 use Rattle.std.specs.Ordering.{nat_cmp, is_eq, match_ordering}
@@ -124,7 +124,7 @@ found_of k (member l e ms) =
     chosen (slice_cmp nat_cmp k l) (get_member k ms) e (own.member_of k (members_of ms)) (found_of k ms)
     ∙ ap (λ b. if b then Some (json_of e) else own.member_of k (members_of ms)) (is_eq-slice_cmp k l)
 
--- the member at a key
+-- the member with a key
 pub member_found : (k : List ℕ) (d : Data) → option_map json_of (get k d) ≡ own.member_at k (json_of d)
 member_found k null = refl
 member_found k (boolean b) = refl

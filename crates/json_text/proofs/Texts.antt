@@ -1,4 +1,4 @@
--- The text that serde_json writes is the text of the value that its value stands for.
+-- The text that serde_json writes is the text of the value for which its value stands.
 use Rattle.std.proofs.Common.{◌≡◌, ℕ, List, [], ◌∷◌, ◌++◌, true, false, refl, ap, append_assoc}
 use Rattle.json.specs.Print.{quoted}
 use Rattle.serde_json.specs.Data.{unsigned, negative, float, Data, null, boolean, number, string, array, object, Items, no_items, item, Members, no_members, member}

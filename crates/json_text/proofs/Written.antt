@@ -1,4 +1,4 @@
--- Pieces that are the texts of items or members make the text of the array or object.
+-- Pieces that are the texts of items or members make up the text of the array or object.
 use Rattle.std.proofs.Common.{◌≡◌, List, [], ◌∷◌, map, refl}
 use Rattle.json_text.specs.Texts.{item_texts, member_texts}
 use Rattle.json_text.specs.Values.{Items, no_items, item, Members, no_members, member}

@@ -1,4 +1,4 @@
--- How the logic stores a value: as words, which a machine with a stack puts together again. Own; no clause reads it.
+-- How the logic stores a value: as words, from which a stack machine builds it again. Own; no clause reads it.
 use Rattle.std.specs.Prelude.{◌≡◌, ℕ, pos, negsuc, List, [], ◌∷◌, true, false, cond, ◌==◌, refl}
 use Rattle.std.proofs.Common.{◌∙◌, ap}
 use Rattle.std.specs.Coded.{Coded, code_by, coded×, coded_ℕ, coded_list}
@@ -13,7 +13,7 @@ pub data Cell : Type 0 where
   of_members : Members → Cell
 
 abbrev mutual
-  -- the words of a value, with more behind them
+  -- the words of a value, followed by more
   pub spelled : JsonValue → List Word → List Word
   spelled null more = (0, []) ∷ more
   spelled (truth false) more = (1, []) ∷ more

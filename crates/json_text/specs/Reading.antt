@@ -1,5 +1,5 @@
--- The value that a text has (RFC 8259), as `serde_json` reads it: arrays and objects nest to 127, of two members with
--- one key the last counts, and members stand in byte order of key.
+-- The value that a text has (RFC 8259), as `serde_json` reads it: arrays and objects nest up to 127 deep, the last of
+-- several members with the same key counts, and members are in byte order of key.
 use Rattle.std.specs.Prelude.{◌≡◌, ℕ, List, Option, Some, None, option_map}
 use Rattle.std.specs.Str.{IsUtf8}
 use Rattle.serde_json.specs.Read.{read}

@@ -24,7 +24,7 @@ in_braces ts = 123 ∷ (between_commas ts ++ 125 ∷ [])
 abbrev pub at_key : List ℕ → List ℕ → List ℕ
 at_key k t = quoted k ++ 58 ∷ t
 
--- Of a number that is no integer of 64 bits no text is made.
+-- No text is made of a number that isn't a 64-bit integer.
 abbrev mutual
   pub text_of : JsonValue → List ℕ
   text_of null = codes "null"

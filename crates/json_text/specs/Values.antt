@@ -1,10 +1,10 @@
--- What a JSON text says (RFC 8259), and what is found in it. Own.
+-- What a JSON text says (RFC 8259), and look-ups in it. Own.
 use Rattle.std.specs.Prelude.{ℕ, zero, suc, ℤ, pos, ◌^◌, ◌||◌, List, Bool, true, false, nat_lt, if◌then◌else◌, Option, None, Some}
 use Rattle.std.specs.Str.{bytes_eq}
 
 mutual
-  -- A number is an integer of 64 bits, `natural` from 0 to 2^64 - 1 and `negative` from -2^63 to -1, or another one,
-  -- of which nothing more is kept: no text is made of it. Texts and keys are their bytes, with no escapes.
+  -- A number is a 64-bit integer, `natural` from 0 to 2^64 - 1 or `negative` from -2^63 to -1, or another number, of
+  -- which nothing more is kept: no text is made of it. Texts and keys are their bytes, without escapes.
   pub data JsonValue : Type 0 where
     null : JsonValue
     truth : Bool → JsonValue
@@ -43,12 +43,12 @@ abbrev pub text_in : JsonValue → Option (List ℕ)
 text_in (text s) = Some s
 text_in _ = None
 
--- the number, where it is a `u64`
+-- the number, if it is a `u64`
 abbrev pub natural_in : JsonValue → Option ℕ
 natural_in (natural n) = Some n
 natural_in _ = None
 
--- the number, where it is an `i64`
+-- the number, if it is an `i64`
 abbrev pub integer_in : JsonValue → Option ℤ
 integer_in (natural n) = if nat_lt n (2 ^ 63) then Some (pos n) else None
 integer_in (negative z) = Some z
@@ -68,7 +68,7 @@ item_of n no_items = None
 item_of zero (item v vs) = Some v
 item_of (suc n) (item v vs) = item_of n vs
 
--- the item of an array at an index, from 0
+-- the item of an array at an index, counted from 0
 abbrev pub item_at : ℕ → JsonValue → Option JsonValue
 item_at n (array vs) = item_of n vs
 item_at n _ = None
@@ -77,12 +77,12 @@ abbrev pub member_of : List ℕ → Members → Option JsonValue
 member_of k no_members = None
 member_of k (member l v ms) = if bytes_eq k l then Some v else member_of k ms
 
--- the member of an object at a key
+-- the value of an object's member with this key
 abbrev pub member_at : List ℕ → JsonValue → Option JsonValue
 member_at k (object ms) = member_of k ms
 member_at k _ = None
 
--- some number in the value is no integer of 64 bits
+-- whether some number in the value isn't a 64-bit integer
 abbrev mutual
   pub has_other_number : JsonValue → Bool
   has_other_number null = false

@@ -1,4 +1,4 @@
--- The value that a value of `serde_json` stands for.
+-- The JSON value for which a value of `serde_json` stands.
 use Rattle.std.specs.Prelude.{◌≤◌}
 use Rattle.serde_json.specs.Data as data_
 use Rattle.serde_json.specs.Data.{Num, unsigned, negative, float, Data, depth}
@@ -33,6 +33,6 @@ abbrev mutual
 abbrev pub value_of : Value → JsonValue
 value_of v = json_of (view v)
 
--- arrays and objects nest no deeper than a text may have them
+-- arrays and objects nest no deeper than in a text that can be read
 abbrev pub IsShallow : Value → Type 0
 IsShallow v = depth (view v) ≤ max_depth

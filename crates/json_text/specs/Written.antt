@@ -1,4 +1,4 @@
--- The texts of arrays and objects that are put together of pieces. Own.
+-- The texts of arrays and objects that are put together from pieces. Own.
 use Rattle.std.specs.Prelude.{◌≡◌, ℕ, List, [], ◌∷◌, decimal, codes}
 use Rattle.json.specs.Print.{quoted}
 use Rattle.json_text.specs.Texts.{text_of, at_key}
@@ -16,14 +16,14 @@ piece_text Null = codes "null"
 abbrev pub member_text : Member → List ℕ
 member_text m = at_key m.key.now (piece_text m.value)
 
--- each piece is the text of the item in its place
+-- each piece is the text of the item at its place
 abbrev pub AreItems : List Piece → Items → Type 0
 AreItems [] no_items = Unit {0}
 AreItems [] (item v vs) = ⊥
 AreItems (p ∷ ps) no_items = ⊥
 AreItems (p ∷ ps) (item v vs) = (piece_text p ≡ text_of v) × AreItems ps vs
 
--- each has the key of the member in its place, and is the text of its value
+-- each has the key of the member at its place, and is the text of that member's value
 abbrev pub AreMembers : List Member → Members → Type 0
 AreMembers [] no_members = Unit {0}
 AreMembers [] (member k v vs) = ⊥

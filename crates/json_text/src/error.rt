@@ -1,10 +1,10 @@
-// Why a body has no value.
+// Why a body gives no value.
 use thiserror::Error;
 
-/// Why a body has no value.
+/// Why a body gives no value.
 #[derive(Clone, Copy, Debug, PartialEq, Eq, Error)]
 pub enum JsonError {
-    /// The bytes aren't UTF-8, or are no JSON text, or nest deeper than 127, or have a number beyond every float.
+    /// The bytes aren't UTF-8, aren't a JSON text, nest deeper than 127, or have a number beyond every float.
     #[error("no JSON")]
     NotJson,
     /// There was no memory for the value.

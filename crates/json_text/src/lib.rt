@@ -1,8 +1,8 @@
 // JSON: the value of a text, and the text of a value.
 //
-// Promise: a text is read exactly where it has a value (`specs/Reading`), each look-up is that of the value
-// (`specs/Values`), and what is written is the text of the value (`specs/Texts`), which reads back as it. Stands on
-// serde_json.
+// Promise: unless memory runs out, a text is read exactly if it has a value (`specs/Reading`); each look-up is that
+// of the value (`specs/Values`); and what is written is the text of the value (`specs/Texts`), which reads back as
+// that value. It depends on serde_json.
 #![tactic(auto)]
 
 mod error;

@@ -1,11 +1,11 @@
-// The walk over a whole value that looks for a number of no 64-bit integer, which `serde_json` keeps as a float.
+// Walks over a whole value and looks for a number that isn't a 64-bit integer; `serde_json` keeps it as a float.
 ghost use Rattle.std.specs.Prelude.{◌≡◌};
 ghost use Rattle.serde_json.specs.View.{view, items_view, members_view};
 ghost use Rattle.serde_json.specs.Written.{has_float, items_have_float, members_have_float};
 
 use serde_json::{Map, Value};
 
-/// Whether there is one in the value.
+/// Whether the value has such a number.
 #[cycle(any_float)]
 pub(crate) fn any_float(value: &Value) -> bool
     ensures { result ≡ has_float (view value.now) }

@@ -1,10 +1,10 @@
-// JSON texts by table, with values from RFC 8259 and from counting.
+// Tables of JSON texts, with values from RFC 8259 and from counting.
 use crate::{Json, JsonError, JsonRef, Member, Piece, array_text, object_text, quoted_text};
 use std::alloc::Global;
 use std::process::Abort;
 use std::test::Fail;
 
-/// What a body is: its kept text, or why it has none.
+/// What a body reads as: the text of its value, or why it has none.
 fn said(alloc: Global, body: &[u8]) -> Result<Vec<u8>, Fail> {
     match Json::read(alloc, body) {
         Ok(json) => {
@@ -76,7 +76,7 @@ fn texts_and_their_kept_texts(rt: HostRuntime) -> Result<(), Fail> {
     Ok(())
 }
 
-/// So many arrays, one in the other.
+/// `depth` arrays, each inside the one before.
 fn nested(alloc: Global, depth: usize) -> Result<Vec<u8>, Fail> {
     let mut body = Vec::new(alloc);
     for _ in 0..depth {
@@ -99,7 +99,7 @@ fn arrays_nest_to_127(rt: HostRuntime) -> Result<(), Fail> {
     Ok(())
 }
 
-/// The word of what a member is.
+/// The word for what a member is.
 fn word_of(whole: &JsonRef<'_>, key: &str) -> &'static str {
     let Some(value) = whole.member(key) else {
         return "none";

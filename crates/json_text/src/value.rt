@@ -1,4 +1,4 @@
-// Values, and what is found in them.
+// Values, and look-ups in them.
 ghost use Rattle.std.specs.Prelude.{◌≡◌, ◌≤◌, false, is_some, option_map, IfOk, Err};
 ghost use Rattle.json_text.specs.Reading.{Reads, HasNoReading};
 ghost use Rattle.json_text.specs.Texts.{text_of};
@@ -17,7 +17,7 @@ pub struct Json {
     value: Value,
 }
 
-/// A value that stands in a `Json`.
+/// A value inside a `Json`.
 #[derive(Drop)]
 pub struct JsonRef<'a> {
     value: &'a Value,
@@ -54,8 +54,8 @@ impl<'a> Model for JsonRef<'a> {
 }
 
 impl Json {
-    /// Reads a body, which may have space around its value. Takes up to some twenty-five times its length for the
-    /// time that the value lives.
+    /// Reads a body, which may have white space around its value. The value takes up to about twenty-five times the
+    /// body's length in memory as long as it lives.
     pub fn read(alloc: Global, body: &[u8]) -> Result<Json, JsonError>
         ensures read { IfOk result (λ v. Reads body.now v) }
         ensures refused { result ≡ Err NotJson → HasNoReading body.now }
@@ -72,7 +72,7 @@ impl Json {
         }
     }
 
-    /// The value, to be looked into.
+    /// The value, for look-ups.
     pub fn as_ref(&self) -> JsonRef<'_>
         ensures { result ≡ self.now }
     {
@@ -105,7 +105,7 @@ impl<'a> JsonRef<'a> {
         self.value.is_object()
     }
 
-    /// The truth value that it is.
+    /// Its truth value; `None` if it isn't one.
     #[tactic(auto, using(crate::proofs::Found::truth_found))]
     pub fn as_bool(&self) -> Option<bool>
         ensures { result ≡ truth_in self.now }
@@ -113,7 +113,7 @@ impl<'a> JsonRef<'a> {
         self.value.as_bool()
     }
 
-    /// The text that it is, with no escapes.
+    /// Its text, without escapes; `None` if it isn't a text.
     #[tactic(auto, using(crate::proofs::Found::text_found))]
     pub fn as_str(&self) -> Option<&'a str>
         ensures { option_map (λ s. s.now) result ≡ text_in self.now }
@@ -121,7 +121,7 @@ impl<'a> JsonRef<'a> {
         self.value.as_str()
     }
 
-    /// The number that it is, where that is an integer from 0 to 2^64 - 1.
+    /// Its number, if that is an integer from 0 to 2^64 - 1.
     #[tactic(auto, using(crate::proofs::Found::natural_found))]
     pub fn as_u64(&self) -> Option<u64>
         ensures { result ≡ natural_in self.now }
@@ -129,7 +129,7 @@ impl<'a> JsonRef<'a> {
         self.value.as_u64()
     }
 
-    /// The number that it is, where that is an integer from -2^63 to 2^63 - 1.
+    /// Its number, if that is an integer from -2^63 to 2^63 - 1.
     #[tactic(auto, using(crate::proofs::Found::integer_found))]
     pub fn as_i64(&self) -> Option<i64>
         ensures { result ≡ integer_in self.now }
@@ -137,7 +137,7 @@ impl<'a> JsonRef<'a> {
         self.value.as_i64()
     }
 
-    /// How many items it has, where it is an array.
+    /// How many items it has, if it is an array.
     pub fn item_count(&self) -> Option<usize>
         ensures { result ≡ count_in self.now }
     {
@@ -147,7 +147,7 @@ impl<'a> JsonRef<'a> {
         }
     }
 
-    /// The item at an index from 0, where it is an array that has one there.
+    /// The item at an index, counted from 0, if it is an array that has one there.
     pub fn item(&self, index: usize) -> Option<JsonRef<'a>>
         ensures { result ≡ item_at index self.now }
     {
@@ -157,7 +157,7 @@ impl<'a> JsonRef<'a> {
         }
     }
 
-    /// The member at a key, where it is an object that has one there.
+    /// The value of the member with this key, if it is an object that has one.
     pub fn member(&self, key: &str) -> Option<JsonRef<'a>>
         ensures { result ≡ member_at key.now self.now }
     {
@@ -175,7 +175,7 @@ impl<'a> JsonRef<'a> {
         any_float(self.value)
     }
 
-    /// Its text without space, members in byte order of key.
+    /// Its text without white space, with members in byte order of key.
     pub fn to_text(&self, alloc: Global) -> Result<Vec<u8>, AllocError>
         requires { has_other_number self.now ≡ false }
         ensures text { IfOk result (λ b. b.items ≡ text_of self.now) }

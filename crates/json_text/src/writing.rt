@@ -1,4 +1,4 @@
-// Texts put together of pieces. A text that is there already is not read again.
+// Texts that are put together from pieces. A text that exists already isn't read again.
 ghost use Rattle.std.specs.Prelude.{◌≡◌, ◌++◌, map, decimal, IfOk, OnOk};
 ghost use Rattle.json.specs.Print.{quoted};
 ghost use Rattle.json_text.specs.Texts.{after_commas, between_commas, in_braces, in_brackets, text_of};
@@ -8,12 +8,12 @@ ghost use Rattle.json_text.specs.Written.{AreItems, AreMembers, member_text, pie
 use serde_json::Value;
 use std::alloc::{AllocError, Global};
 
-/// What stands as a value in a text that is made.
+/// A value in a text that is being made.
 #[derive(Clone, Copy)]
 pub enum Piece<'a> {
-    /// The text of a value, as it is.
+    /// The text of a value, which is copied as it is.
     Kept(&'a [u8]),
-    /// A text, to be quoted.
+    /// A text, which is quoted.
     Text(&'a str),
     /// A number, in decimal.
     Natural(u64),
@@ -21,7 +21,7 @@ pub enum Piece<'a> {
     Null,
 }
 
-/// A member of an object that is made.
+/// A member of an object that is being made.
 #[derive(Clone, Copy)]
 pub struct Member<'a> {
     pub key: &'a str,
@@ -83,7 +83,7 @@ fn push_member(out: &mut Vec<u8>, member: &Member<'_>) -> Result<(), AllocError>
     push_piece(out, &member.value)
 }
 
-// Each piece with a comma before it.
+// Appends each piece with a comma before it.
 fn push_more_pieces(out: &mut Vec<u8>, pieces: &[Piece<'_>]) -> Result<(), AllocError>
     ensures { OnOk result (out.new.items
         ≡ out.old.items ++ after_commas (map piece_text pieces.now)) }
@@ -108,7 +108,7 @@ fn push_pieces(out: &mut Vec<u8>, pieces: &[Piece<'_>]) -> Result<(), AllocError
     }
 }
 
-// Each member with a comma before it.
+// Appends each member with a comma before it.
 fn push_more_members(out: &mut Vec<u8>, members: &[Member<'_>]) -> Result<(), AllocError>
     ensures { OnOk result (out.new.items
         ≡ out.old.items ++ after_commas (map member_text members.now)) }
@@ -163,8 +163,8 @@ pub fn array_text(alloc: Global, items: &[Piece<'_>]) -> Result<Vec<u8>, AllocEr
     Ok(text)
 }
 
-/// The text of an object of these members, in their order. Where that is byte order of key, it is the text of a value
-/// as `Json::read` gives it.
+/// The text of an object of these members, in their order. If that is the byte order of their keys, it is the text of
+/// a value as `Json::read` gives it.
 pub fn object_text(alloc: Global, members: &[Member<'_>]) -> Result<Vec<u8>, AllocError>
     ensures text { IfOk result (λ b. b.items ≡ in_braces (map member_text members.now)) }
     ensures value { (vs : Members) → AreMembers members.now vs

@@ -1,4 +1,4 @@
--- A decimal text is what std prints of its number, and the other way round.
+-- A decimal text is what std prints for its number, and the other way round.
 use Rattle.std.proofs.Common.{◌≡◌, ℕ, ◌+◌, ◌^◌, ◌<◌, ◌≤◌, ◌&&◌, nat_le, Bool, true, false, List, [], ◌∷◌, map, length, get_or, arith, lit≤, lit<, Some, None, if◌then◌else◌, refl, ap, sym, inl, inr, ◌∙◌}
 use Rattle.std.specs.Prelude.{decimal}
 use Rattle.std.specs.Int.Digits.{digits_of}
@@ -12,7 +12,7 @@ use Rattle.std.proofs.lemmas.Bool.{le-leb, cases_lt}
 use Rattle.lists_and_limits.specs.Decimals.{is_digit, is_decimal, is_unpadded, decimal_value, number_of}
 use Rattle.lists_and_limits.proofs.Digits.{value_from}
 
--- a `&&` that holds, holds on both sides
+-- if `a && b` holds, both sides hold
 both : (a b : Bool) → (a && b) ≡ true → (a ≡ true) × (b ≡ true)
 both true b is = (refl, is)
 both false b is = cc
@@ -23,7 +23,7 @@ digit_range b is = grind (arith, nat_tests)
 in_range : (b : ℕ) → IsInRange 48 57 b → is_digit b ≡ true
 in_range b range = grind (arith, nat_tests)
 
--- a text of digits alone
+-- a text of only digits
 abbrev pub HasDigitsAlone : List ℕ → Type 0
 HasDigitsAlone text = list_all is_digit text ≡ true
 
@@ -44,7 +44,7 @@ single : (text : List ℕ) → is_unpadded text ≡ true → (0 < length text) �
 single [] is = cc
 single (b ∷ bs) is = (omega arith, λ padded. grind (arith, nat_tests))
 
--- a decimal is what is printed of its number
+-- a decimal is what is printed for its number
 pub decimal-decimal_value : (text : List ℕ) → is_decimal text ≡ true → decimal_value text < 2 ^ 64 → decimal (decimal_value text) ≡ text
 decimal-decimal_value text is low =
     let parts = both (is_unpadded text) _ is in
@@ -58,7 +58,7 @@ read_parts most n value true read = elim (leb_tells value most) [
 ]
 read_parts most n value false read = cc
 
--- a text that reads as a number is what is printed of that number
+-- a text that reads as a number is what is printed for that number
 pub decimal-number_of : (most n : ℕ) (text : List ℕ) → most < 2 ^ 64 → number_of most text ≡ Some n → text ≡ decimal n
 decimal-number_of most n text fits read =
     let parts : (is_decimal text ≡ true) × (decimal_value text ≡ n) × (decimal_value text ≤ most) = read_parts most n (decimal_value text) (is_decimal text) read in
@@ -81,7 +81,7 @@ is_unpadded-decimal n fits = elim (cases_lt 0 n) [
   | inr none ↦ let nothing : n ≡ 0 = omega arith in rw (nothing, zero_text) refl
 ]
 
--- what is printed of a number reads as that number
+-- what is printed for a number reads as that number
 pub number_of-decimal : (most n : ℕ) → n ≤ most → n < 2 ^ 64 → number_of most (decimal n) ≡ Some n
 number_of-decimal most n low fits =
     let all : list_all is_digit (decimal n) ≡ true = digits_decimal decimal_model n fits in

@@ -1,4 +1,4 @@
--- The walk that reads digits up to a bound.
+-- The loop that reads digits up to a bound.
 use Rattle.std.proofs.Common.{◌≡◌, ℕ, ◌+◌, ◌-◌, ◌*◌, ◌<◌, ◌≤◌, ◌&&◌, nat_le, Bool, true, false, List, [], ◌∷◌, length, get_or, drop, drop-cons, suc, arith, Option, Some, None, if◌then◌else◌, refl, sym, inl, inr, ◌∙◌}
 use Rattle.std.specs.Prelude.{fold}
 use Rattle.std.specs.List.{list_all}
@@ -7,15 +7,15 @@ use Rattle.std.proofs.lemmas.Bool.Decides.{leb_tells}
 use Rattle.std.proofs.lemmas.Bool.{le-leb, leb-true, leb-false}
 use Rattle.lists_and_limits.specs.Decimals.{is_digit, digits_number}
 
--- the number with one digit more
+-- the number with one more digit
 abbrev pub with_digit : ℕ → ℕ → ℕ
 with_digit n b = n * 10 + (b - 48)
 
--- the number of all that is left, after the number so far
+-- the number after all remaining digits, from the number so far
 abbrev pub value_from : ℕ → List ℕ → ℕ
 value_from n text = fold with_digit n text
 
--- what the walk answers from here on
+-- what the loop returns from here on
 abbrev pub digits_from : ℕ → ℕ → List ℕ → Option ℕ
 digits_from most n [] = Some n
 digits_from most n (b ∷ bs) = if is_digit b && nat_le (with_digit n b) most then digits_from most (with_digit n b) bs else None
@@ -24,7 +24,7 @@ pub value_from-ge : (n : ℕ) (text : List ℕ) → n ≤ value_from n text
 value_from-ge n [] = omega arith
 value_from-ge n (b ∷ bs) = omega (arith, value_from-ge (with_digit n b) bs)
 
--- more digits make no smaller number
+-- a number above the bound stays above it with more digits
 above : (most n : ℕ) (text : List ℕ) (all : Bool) → nat_le n most ≡ false → (if all && nat_le (value_from n text) most then Some (value_from n text) else None) ≡ None
 above most n text false over = refl
 above most n text true over = elim (leb_tells (value_from n text) most) [

@@ -1,4 +1,4 @@
--- Where numbers that are drawn or counted one by one end. Own.
+-- The limit of numbers that are drawn or counted one by one. Own.
 use Rattle.std.specs.Prelude.{ℕ, ◌^◌}
 
 -- the last of them

@@ -2,7 +2,7 @@
 ghost use Rattle.std.specs.Prelude.{◌≡◌, ◌&&◌, ◌+◌, ◌-◌, ◌*◌, Some, None, nat_le, if◌then◌else◌};
 ghost use Rattle.lists_and_limits.specs.Decimals.{number_of, digits_number, is_digit};
 
-// The number with one digit more, where the byte is a digit and the number stays at most `most`.
+// The number with one more digit, if the byte is a digit and the number stays at most `most`.
 fn with_digit(number: u64, byte: u8, most: u64) -> Option<u64>
     ensures { result ≡ (if is_digit byte && nat_le (number * 10 + (byte - 48)) most
         then Some (number * 10 + (byte - 48)) else None) }
@@ -18,7 +18,7 @@ fn with_digit(number: u64, byte: u8, most: u64) -> Option<u64>
     Some(shifted + digit)
 }
 
-// The number that the digits stand for, where all of the text is digits and it is at most `most`.
+// The number that the digits stand for, if the whole text is digits and the number is at most `most`.
 fn digits_at_most(text: &[u8], most: u64) -> Option<u64>
     ensures { result ≡ digits_number most text.now }
 {
@@ -29,7 +29,7 @@ fn digits_at_most(text: &[u8], most: u64) -> Option<u64>
     Some(number)
 }
 
-/// Reads a decimal number of at most `most`: digits alone, without a sign and without leading zeros. None for
+/// Reads a decimal number of at most `most`: only digits, without a sign and without leading zeros. None for
 /// any other text.
 pub fn read_decimal(text: &[u8], most: u64) -> Option<u64>
     ensures { result ≡ number_of most text.now }

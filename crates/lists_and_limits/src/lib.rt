@@ -1,6 +1,6 @@
-// What all crates share: out of memory, the last number, decimal numbers in texts.
+// What all crates share: the out-of-memory error, the last number, decimal numbers in texts.
 //
-// Promise: a decimal is read exactly where it is the one spelling of its number. Stands on nothing.
+// Promise: a decimal is read exactly if it is the one spelling of its number. Depends on nothing.
 #![tactic(auto)]
 
 mod decimal;

@@ -1,8 +1,8 @@
-// Want of memory, as all crates answer it.
+// Out of memory, as all crates report it.
 use std::alloc::{AllocError, AllocFailed};
 use thiserror::Error;
 
-/// There was no memory for the answer; everything is as before the call.
+/// There was no memory for the answer. What the call leaves then is said in its own contract.
 #[derive(Clone, Copy, Debug, PartialEq, Eq, Error)]
 #[error("out of memory")]
 pub struct OutOfMemory;

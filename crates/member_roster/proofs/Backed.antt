@@ -30,7 +30,7 @@ backed_insert (h ∷ hs) [] t i x y e b = absurd b
 backed_insert (h ∷ hs) (s ∷ ss) t zero x y e b = (e, b)
 backed_insert (h ∷ hs) (s ∷ ss) t (suc i) x y e b = (b.0, backed_insert hs ss t i x y e b.1)
 
--- where the table is empty each copy is spare
+-- if the table is empty, each copy is spare
 pub spare_of_none : (hs : List HostInfo) (ss : List (Option HostInfo)) → AreBacked hs ss [] → AreSpare hs ss
 spare_of_none [] [] b = tt
 spare_of_none [] (s ∷ ss) b = absurd b
@@ -50,7 +50,7 @@ one_backed : (h copy : HostInfo) (s : Option HostInfo) (rest : List HostInfo) �
 one_backed h copy None rest off b = elim (in_more h copy rest b) [ inl j ↦ j | inr e ↦ absurd (off e) ]
 one_backed h copy (Some x) rest off b = b
 
--- where no host is the copy's
+-- if the copy is of no host
 pub backed_without : (hs : List HostInfo) (ss : List (Option HostInfo)) (rest : List HostInfo) (copy : HostInfo) → (IsIn copy hs → ⊥) → AreBacked hs ss (rest ++ copy ∷ []) → AreBacked hs ss rest
 backed_without [] [] rest copy off b = tt
 backed_without [] (s ∷ ss) rest copy off b = absurd b
@@ -81,7 +81,7 @@ in_place copy (h ∷ hs) a (inr i) =
     let r = in_place copy hs a.1 i in
     (suc r.0, rw (f, r.1) refl, r.2)
 
--- at the place of the host whose copy it is
+-- a copy given back at the place of its host
 pub backed_given : (hs : List HostInfo) (ss : List (Option HostInfo)) (rest : List HostInfo) (copy : HostInfo) (i : ℕ) → Ascends host_node hs → i < length hs → get_or hs i copy ≡ copy → AreBacked hs ss (rest ++ copy ∷ []) → AreBacked hs (set ss i (Some copy)) rest
 backed_given [] ss rest copy i a l e b = absurd (omega arith)
 backed_given (h ∷ hs) [] rest copy i a l e b = absurd b
@@ -138,7 +138,7 @@ backed_target (suc i) [] ss t d b l = absurd (omega arith)
 backed_target (suc i) (h ∷ hs) [] t d b l = absurd b
 backed_target (suc i) (h ∷ hs) (s ∷ ss) t d b l = (backed_end h (get_or hs i d) s t b.0, backed_target i hs ss t d b.1 (omega arith))
 
--- any other stays spare
+-- any other copy stays spare
 pub backed_other : (i : ℕ) (hs : List HostInfo) (ss : List (Option HostInfo)) (t : List HostInfo) → AreBackedTo i hs ss t → i < length hs → AreBackedTo (suc i) hs ss t
 backed_other zero [] ss t b l = absurd (omega arith)
 backed_other zero (h ∷ hs) [] t b l = absurd b

@@ -1,4 +1,4 @@
--- What a map from nodes to boots says of the known nodes.
+-- What a map from nodes to boots says about the known nodes.
 use Rattle.std.proofs.Common.{◌≡◌, ℕ, ◌+◌, Bool, ◌||◌, cond, suc, ◌<◌, ◌≤◌, true, false, List, [], ◌∷◌, length, Option, Some, None, is_some, unwrap_or, bytes_eq, refl, sym, ap, ◌∙◌, arith}
 use Rattle.std.specs.declared.cmp.Ordering.{Ordering}
 use Rattle.std.specs.declared.cmp.Ordering.TheVariants.{Less, Equal, Greater}
@@ -70,7 +70,7 @@ put_in space k boot (e ∷ es) = go (cmp k e.0) refl (put_in space k boot es)
 pub put_at : (m : Member) (es : List (List ℕ × ℕ)) → known_in (insert_entry cmp es m.node m.boot) ≡ put_boot (known_in es) m
 put_at m es = put_in m.space m.node m.boot es
 
--- it leaves no more than 65,536, where there is room for a new node
+-- it leaves at most 65,536 nodes, if there was room for a new one
 pub few_at : (k : List ℕ) (es fs : List (List ℕ × ℕ)) (before : Option ℕ) → before ≡ boot_at k es → length fs ≡ length es + cond (is_some before) 0 1 → length es ≤ 65536 → (is_known (known_in es) k ≡ false → length (known_in es) < 65536) → length fs ≤ 65536
 few_at k es fs (Some boot) is long few free = omega arith
 few_at k es fs None is long few free =

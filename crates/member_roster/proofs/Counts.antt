@@ -53,7 +53,7 @@ count-any (m ∷ ms) = go m.pending (count-any ms)
     go true e = let l = lt-ltb 0 (1 + pending_count ms) (omega arith) in cc
     go false e = let z : 0 + pending_count ms ≡ pending_count ms = omega arith in rw z e
 
--- where nobody is pending, no member is
+-- if the count of the pending marks is 0, no member is pending
 pub none_pending : (hs : List HostInfo) (ms : List Mark) (node : List ℕ) → pending_count ms ≡ 0 → is_pending_in (of_node (joined_all hs ms) node) ≡ false
 none_pending [] ms node e = refl
 none_pending (h ∷ hs) [] node e = refl

@@ -7,7 +7,7 @@ use Rattle.member_roster.specs.declared.marks.Mark.{Mark}
 use Rattle.member_roster.specs.Members.{Joined, is_late, heard_of, late_of}
 use Rattle.member_roster.specs.Roster.{joined_of, joined_all}
 
--- the mark at a place tells of the member there
+-- the mark at a place says whether the member there is late
 pub late_at : (hs : List HostInfo) (ms : List Mark) (i now : ℕ) (k : Mark) (j : Joined) → k ≡ get_or ms i k → slice_get (joined_all hs ms) i ≡ Some j → nat_le 10000 (now - k.heard) ≡ is_late now j
 late_at [] ms i now k j r e = absurd (cc)
 late_at (h ∷ hs) [] i now k j r e = absurd (cc)
@@ -32,7 +32,7 @@ late_skip (h ∷ hs) [] i now d e l m t = absurd (omega arith)
 late_skip (h ∷ hs) (k ∷ ms) zero now d e l m t = rw t refl
 late_skip (h ∷ hs) (k ∷ ms) (suc i) now d e l m t = late_skip hs ms i now d e (omega arith) (omega arith) t
 
--- one that is heard stays
+-- a member that was heard in time stays
 pub heard_keep : (hs : List HostInfo) (ms : List Mark) (i now : ℕ) (d : HostInfo) (e : Mark) → length ms ≡ length hs → i < length hs → is_late now (joined_of (get_or hs i d) (get_or ms i e)) ≡ false → joined_all (take i hs) (take i ms) ++ heard_of (joined_all (drop i hs) (drop i ms)) now ≡ joined_all (take (suc i) hs) (take (suc i) ms) ++ heard_of (joined_all (drop (suc i) hs) (drop (suc i) ms)) now
 heard_keep [] ms i now d e l m t = absurd (omega arith)
 heard_keep (h ∷ hs) [] i now d e l m t = absurd (omega arith)

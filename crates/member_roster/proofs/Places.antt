@@ -1,4 +1,4 @@
--- Where a node stands in a list in byte order of node.
+-- The place of a node in a list in byte order of node.
 use Rattle.std.proofs.Common.{◌≡◌, ℕ, suc, zero, ◌<◌, ◌≤◌, List, [], ◌∷◌, length, get_or, refl, sym, ap, ◌∙◌, arith}
 use Rattle.std.specs.declared.cmp.Ordering.{Ordering}
 use Rattle.std.specs.declared.cmp.Ordering.TheVariants.{Less, Equal, Greater}
@@ -23,7 +23,7 @@ greater a b e = let t = nat_list_cmp_total in t.antisymm b a ∙ ap ordering_rev
 pub less : (a b : List ℕ) → cmp a b ≡ Greater → cmp b a ≡ Less
 less a b e = let t = nat_list_cmp_total in t.antisymm b a ∙ ap ordering_reverse e
 
--- what is at or after the node is before what is after it
+-- what is after an element of this node is after the node
 pub after_equal : (a b node : List ℕ) → cmp a node ≡ Equal → cmp a b ≡ Less → cmp b node ≡ Greater
 after_equal a b node f e = let t = nat_list_cmp_total in greater node b (sym (t.congr a node b f) ∙ e)
 
@@ -69,7 +69,7 @@ missing key node (x ∷ xs) (suc i) le p =
     let e : cmp (key x) node ≡ Less = p.0 0 x (omega arith) (omega arith) in
     rw e (ap one_more (missing key node xs i (omega arith) (λ k d l u. p.0 (suc k) d (omega arith) (omega arith), λ k d l u. p.1 (suc k) d (omega arith) (omega arith))))
 
--- a search by halving finds the place
+-- a binary search finds the place
 pub placed : {X : Type 0} (key : X → List ℕ) (node : List ℕ) (xs : List X) (r : Result ℕ ℕ) → Ascends key xs → IsSearchInRange r (length xs) → IsBinarySearchResult (λ y. cmp (key y) node) xs r → r ≡ place_by key node xs
 placed key node xs (Ok i) a within h = sym (found key node xs i a within h)
 placed key node xs (Err i) a within h = sym (missing key node xs i within (h (rises key node xs a)))
@@ -100,7 +100,7 @@ pub none_after : {X : Type 0} (key : X → List ℕ) (first node : List ℕ) (xs
 none_after key first node [] e b = refl
 none_after key first node (x ∷ xs) e b = rw (after_greater first (key x) node e b.0) refl
 
--- the place where an element is to stand is within the list
+-- the place at which an element would be inserted is within the list
 pub err_within : {X : Type 0} (key : X → List ℕ) (node : List ℕ) (xs : List X) (i : ℕ) → place_by key node xs ≡ Err i → i ≤ length xs
 err_within key node [] i p = let z : i ≡ 0 = cc in rw z (omega arith)
 err_within key node (x ∷ xs) i p = go (cmp (key x) node) (λ j q. err_within key node xs j q) i p

@@ -1,4 +1,4 @@
--- Members where a search finds their node, and where it doesn't.
+-- Members if a search finds their node, and if it doesn't.
 use Rattle.std.proofs.Common.{◌≡◌, ℕ, suc, zero, Bool, false, ◌||◌, List, [], ◌∷◌, length, map, get_or, set, None, Some, refl, sym, ap, ◌∙◌, arith}
 use Rattle.std.specs.Prelude.{◌==◌}
 use Rattle.std.specs.List.{insert, remove, list_any}
@@ -15,7 +15,7 @@ use Rattle.member_roster.specs.Places.{host_node, Ascends, place_from, place_by}
 use Rattle.member_roster.specs.Roster.{joined_of, joined_all}
 use Rattle.member_roster.proofs.Places.{cmp, same_texts, before_texts, one_more-Ok, one_more-Err, none_after}
 
--- where a place past the end is read
+-- what is read at a place past the end
 abbrev pub no_host : HostInfo
 no_host = record { member = record { space = []; node = []; boot = 0 }; app = []; address = record { ip = 0; port = 0 }; kinds = [] }
 

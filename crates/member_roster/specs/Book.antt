@@ -1,4 +1,4 @@
--- What is seen of a map from nodes to boots. Own.
+-- The view of a map from nodes to boots. Own.
 use Rattle.std.specs.Prelude.{ℕ, List, [], ◌∷◌}
 use Rattle.member_roster.specs.declared.book.Known.{Known}
 

@@ -61,7 +61,7 @@ abbrev pub is_the : Member → Option Joined → Bool
 is_the m None = false
 is_the m (Some j) = same_member m j.host.member
 
--- whether it is a member: its node has one, which is the same
+-- whether it is a member: its node has one, and that is the same
 abbrev pub is_here : List Joined → Member → Bool
 is_here js m = is_the m (of_node js m.node)
 
@@ -69,7 +69,7 @@ abbrev pub is_pending_in : Option Joined → Bool
 is_pending_in None = false
 is_pending_in (Some j) = j.pending
 
--- whether the member is among those pending
+-- whether the member of this member's node is pending, in whichever boot
 abbrev pub is_pending : List Joined → Member → Bool
 is_pending js m = is_pending_in (of_node js m.node)
 
@@ -126,7 +126,7 @@ target_hosts (j ∷ js) = if j.target then j.host ∷ target_hosts js else targe
 abbrev pub heard_at : ℕ → Joined → Joined
 heard_at now j = record j { heard = now }
 
--- heard, and not among those pending any more
+-- heard, and no longer pending
 abbrev pub acked_at : ℕ → Joined → Joined
 acked_at now j = record j { heard = now; pending = false }
 

@@ -1,4 +1,4 @@
--- Where a node stands in a list in byte order of node. Own.
+-- The place of a node in a list in byte order of node. Own.
 use Rattle.std.specs.Prelude.{◌≡◌, ℕ, suc, List, [], ◌∷◌}
 use Rattle.std.specs.declared.cmp.Ordering.{Ordering}
 use Rattle.std.specs.declared.cmp.Ordering.TheVariants.{Less, Equal, Greater}
@@ -30,7 +30,7 @@ place_from Less later = one_more later
 place_from Equal later = Ok 0
 place_from Greater later = Err 0
 
--- the place of the node, or the one where it is to stand
+-- the index of the node, or the index at which it would be inserted
 abbrev pub place_by : {X : Type 0} → (X → List ℕ) → List ℕ → List X → Result ℕ ℕ
 place_by key node [] = Err 0
 place_by key node (x ∷ xs) = place_from (slice_cmp nat_cmp (key x) node) (place_by key node xs)

@@ -56,15 +56,15 @@ AreSpare [] (s ∷ ss) = ⊥
 AreSpare (h ∷ hs) [] = ⊥
 AreSpare (h ∷ hs) (s ∷ ss) = (s ≡ Some h) × AreSpare hs ss
 
--- of the first hosts a copy is spare or in the table, of the others a copy is spare
+-- for the first hosts a copy is spare or in the table, for the others a copy is spare
 abbrev pub AreBackedTo : ℕ → List HostInfo → List (Option HostInfo) → List HostInfo → Type 0
 AreBackedTo zero hs ss table = AreSpare hs ss
 AreBackedTo (suc i) [] ss table = AreSpare [] ss
 AreBackedTo (suc i) (h ∷ hs) [] table = ⊥
 AreBackedTo (suc i) (h ∷ hs) (s ∷ ss) table = IsBacked h s table × AreBackedTo i hs ss table
 
--- what contracts see of a roster: the members, the table that was fixed last, and for how many members there is
--- room
+-- what contracts see of a roster: the members, the table that was fixed last, and how many members there is room
+-- for
 pub record RosterState : Type 0 where
   pub members : List Joined
   pub table : List HostInfo
@@ -87,7 +87,7 @@ pub record HasCapacity (capacity hosts marks spares table : ℕ) : Type 0 where
   pub spares_capacity : capacity ≤ spares
   pub table_capacity : capacity ≤ table
 
--- whether two lists of members and a table are the same, and the room no less
+-- the members and the table are the same, and there is at least as much room
 pub record SameButCapacity (old new : RosterState) : Type 0 where
   pub members : new.members ≡ old.members
   pub table : new.table ≡ old.table

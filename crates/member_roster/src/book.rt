@@ -35,7 +35,7 @@ impl Model for BootBook {
 }
 
 impl BootBook {
-    /// No node is known.
+    /// An empty book.
     pub fn new(alloc: Global) -> BootBook
         ensures { result ≡ [] }
     {
@@ -52,7 +52,7 @@ impl BootBook {
         self.boots.len() as u32
     }
 
-    /// The greatest boot of the node, 0 for an unknown one.
+    /// The greatest boot of the node, 0 if the node is unknown.
     pub fn greatest(&self, node: &Node) -> u64
         ensures { result ≡ greatest_boot self.now node.now }
     {
@@ -69,7 +69,7 @@ impl BootBook {
         self.boots.contains_key(node)
     }
 
-    /// The member's boot is the greatest one of its node.
+    /// Makes the member's boot the greatest one of its node. If memory runs out, the book is as before.
     pub fn put(&mut self, member: Member) -> Result<(), OutOfMemory>
         requires { is_known self.old member.node ≡ false → length self.old < 65536 }
         ensures ok { OnOk result (self.new ≡ put_boot self.old member) }
@@ -79,7 +79,7 @@ impl BootBook {
         Ok(())
     }
 
-    /// No node is known.
+    /// Forgets all nodes.
     pub fn clear(&mut self)
         ensures { self.new ≡ [] }
     {

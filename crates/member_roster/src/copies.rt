@@ -11,7 +11,7 @@ use crate::reserved::push_reserved;
 use crate::search::host_place;
 use place_table::HostInfo;
 
-/// A copy that was in the table is spare again where its host is still a member.
+/// A copy that was in the table is spare again if its host is still a member.
 fn give_back(hosts: &[HostInfo], spares: &mut Vec<Option<HostInfo>>, copy: HostInfo)
     requires ascends { Ascends host_node hosts.now }
     requires long { length spares.old.items ≡ length hosts.now }
@@ -29,7 +29,7 @@ fn give_back(hosts: &[HostInfo], spares: &mut Vec<Option<HostInfo>>, copy: HostI
     }
 }
 
-/// Takes the table apart.
+/// Takes the table apart: each host's copy is spare again.
 pub(crate) fn give_back_all(
     hosts: &[HostInfo],
     spares: &mut Vec<Option<HostInfo>>,

@@ -1,4 +1,4 @@
-// Equal copies of what a placement keeps, each with room.
+// Equal copies of what a placement keeps, each with reserved room.
 ghost use Rattle.std.specs.Prelude.{◌≡◌, ◌≤◌, IfOk, vec_capacity};
 
 use crate::marks::Mark;
@@ -6,7 +6,7 @@ use actor_names::OutOfMemory;
 use place_table::HostInfo;
 use std::alloc::Global;
 
-/// Equal hosts, with room for so many.
+/// Equal hosts, with room for `capacity` of them.
 pub(crate) fn copy_hosts(
     alloc: Global,
     hosts: &[HostInfo],
@@ -22,7 +22,7 @@ pub(crate) fn copy_hosts(
     Ok(items)
 }
 
-/// An equal host, where there is one.
+/// An equal host, if there is one.
 pub fn copy_option(alloc: Global, host: &Option<HostInfo>) -> Result<Option<HostInfo>, OutOfMemory>
     ensures { IfOk result (λ copy. copy ≡ host.now) }
 {
@@ -35,7 +35,7 @@ pub fn copy_option(alloc: Global, host: &Option<HostInfo>) -> Result<Option<Host
     }
 }
 
-/// Equal spare copies, with room for so many.
+/// Equal spare copies, with room for `capacity` of them.
 pub(crate) fn copy_spares(
     alloc: Global,
     spares: &[Option<HostInfo>],
@@ -51,7 +51,7 @@ pub(crate) fn copy_spares(
     Ok(items)
 }
 
-/// Equal marks, with room for so many.
+/// Equal marks, with room for `capacity` of them.
 pub(crate) fn copy_marks(
     alloc: Global,
     marks: &[Mark],

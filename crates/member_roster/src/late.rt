@@ -9,7 +9,7 @@ use crate::list::MemberList;
 use crate::marks::Mark;
 use place_table::HostInfo;
 
-/// A member is dropped when it was not heard for so many milliseconds.
+/// A member is dropped if it was not heard for this many milliseconds.
 const SILENCE: u64 = 10_000;
 
 /// Whether a member was not heard in time.
@@ -19,7 +19,7 @@ pub(crate) fn is_mark_late(mark: Mark, now: u64) -> bool
     now.saturating_sub(mark.heard) >= SILENCE
 }
 
-/// Drops each member that is late, and lists it.
+/// Drops each member that is late, and adds it to `removed`.
 pub(crate) fn drop_late(
     hosts: &mut Vec<HostInfo>,
     marks: &mut Vec<Mark>,

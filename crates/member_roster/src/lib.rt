@@ -1,7 +1,7 @@
-// The members of a cluster, what is kept of each, and the greatest boot of each node that was ever one.
+// The members of a cluster, what is kept for each, and the greatest boot of each node that was ever a member.
 //
 // Promise: each call of a `Roster` and of a `BootBook` reads or changes its list as `specs/Members` defines.
-// Stands on `place_table` and `actor_names`.
+// Depends on `place_table` and `actor_names`.
 #![tactic(auto)]
 
 mod book;

@@ -1,4 +1,4 @@
-// Lists of members with room.
+// Lists of members with reserved room.
 ghost use Rattle.std.specs.Prelude.{◌≡◌, ◌<◌, ◌≤◌, ◌∷◌, ◌++◌, [], IfOk, OnOk, length, vec_capacity};
 
 use actor_names::{Member, OutOfMemory};
@@ -29,7 +29,7 @@ impl MemberList {
         MemberList { items }
     }
 
-    /// Puts a member at the end, for which there is room.
+    /// Adds a member at the end of a list with room for it.
     pub fn push_reserved(&mut self, member: Member)
         requires { length self.old.members < self.old.capacity }
         ensures members { self.new.members ≡ self.old.members ++ member ∷ [] }
@@ -41,7 +41,7 @@ impl MemberList {
         }
     }
 
-    /// Makes room for so many members.
+    /// Makes room for `count` members in all.
     pub fn reserve(&mut self, count: usize) -> Result<(), OutOfMemory>
         ensures members { self.new.members ≡ self.old.members }
         ensures capacity { self.old.capacity ≤ self.new.capacity }
@@ -51,7 +51,7 @@ impl MemberList {
         Ok(())
     }
 
-    /// The same members, with no less room.
+    /// The same members, with at least as much room.
     pub fn copy(&self, alloc: Global) -> Result<MemberList, OutOfMemory>
         ensures members { IfOk result (λ copy. copy.members ≡ self.now.members) }
         ensures capacity { IfOk result (λ copy. self.now.capacity ≤ copy.capacity) }
@@ -61,7 +61,7 @@ impl MemberList {
         Ok(MemberList { items })
     }
 
-    /// No members any more, with the room that there was.
+    /// Removes all members and keeps the room.
     pub fn clear(&mut self)
         ensures { self.new ≡ record { members = []; capacity = self.old.capacity } }
     {

@@ -1,4 +1,4 @@
-// What is kept of a member beside its host.
+// What is kept for a member besides its host.
 ghost use Rattle.std.specs.Prelude.{◌≡◌, map, vec_capacity};
 ghost use Rattle.member_roster.specs.Roster.{mark_weight, pending_count, entered_mark, targeted_mark, restarted_mark};
 
@@ -13,14 +13,14 @@ pub struct Mark {
     pub pending: bool,
 }
 
-/// How much it adds to the count of those pending.
+/// What a mark adds to the count of pending members.
 pub(crate) fn weigh_mark(mark: Mark) -> usize
     ensures { result ≡ mark_weight mark }
 {
     if mark.pending { 1 } else { 0 }
 }
 
-/// How many of them are pending.
+/// How many marks are pending.
 pub(crate) fn count_pending(marks: &[Mark]) -> usize
     ensures { result ≡ pending_count marks.now }
 {
@@ -31,7 +31,7 @@ pub(crate) fn count_pending(marks: &[Mark]) -> usize
     count
 }
 
-/// The targets are pending; counts them.
+/// Marks the targets as pending, and counts the pending marks.
 pub(crate) fn enter_marks(marks: &mut Vec<Mark>) -> usize
     ensures items { marks.new.items ≡ map entered_mark marks.old.items }
     ensures capacity { vec_capacity marks.new ≡ vec_capacity marks.old }
@@ -43,7 +43,7 @@ pub(crate) fn enter_marks(marks: &mut Vec<Mark>) -> usize
     count_pending(marks)
 }
 
-/// Each is a target, and pending.
+/// Marks each as a target, and as pending.
 pub(crate) fn target_marks(marks: &mut Vec<Mark>)
     ensures items { marks.new.items ≡ map targeted_mark marks.old.items }
     ensures capacity { vec_capacity marks.new ≡ vec_capacity marks.old }
@@ -54,7 +54,7 @@ pub(crate) fn target_marks(marks: &mut Vec<Mark>)
     }
 }
 
-/// Each was heard now, and there is no round.
+/// Marks each as heard now and in no round.
 pub(crate) fn restart_marks(marks: &mut Vec<Mark>, now: u64)
     ensures items { marks.new.items ≡ map (restarted_mark now) marks.old.items }
     ensures capacity { vec_capacity marks.new ≡ vec_capacity marks.old }

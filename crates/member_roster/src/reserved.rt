@@ -1,8 +1,8 @@
-// Vectors with room.
+// Vectors with reserved room.
 ghost use Rattle.std.specs.Prelude.{◌≡◌, ◌<◌, ◌≤◌, ◌∷◌, ◌++◌, [], vec_len, vec_capacity};
 ghost use Rattle.std.specs.List.{insert};
 
-/// Puts an element at a place of a vector with room for it.
+/// Inserts an element at a place of a vector with room for it.
 pub(crate) fn insert_reserved<T: Drop>(items: &mut Vec<T>, at: usize, item: T)
     requires capacity { vec_len items.old < vec_capacity items.old }
     requires place { at ≤ vec_len items.old }
@@ -15,7 +15,7 @@ pub(crate) fn insert_reserved<T: Drop>(items: &mut Vec<T>, at: usize, item: T)
     }
 }
 
-/// Puts an element at the end of a vector with room for it.
+/// Adds an element at the end of a vector with room for it.
 pub(crate) fn push_reserved<T: Drop>(items: &mut Vec<T>, item: T)
     requires { vec_len items.old < vec_capacity items.old }
     ensures items { items.new.items ≡ items.old.items ++ item ∷ [] }

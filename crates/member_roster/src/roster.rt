@@ -18,9 +18,9 @@ use place_table::HostInfo;
 use std::alloc::Global;
 use std::marker::Model;
 
-/// The members in byte order of node, at most 256, and the table that was fixed last. Of each member's host there
-/// is a second copy, which is spare or in the table. Those pending are counted, and the place of the member that was
-/// heard last is kept, since it is asked for again.
+/// The members in byte order of node, at most 256, and the table that was fixed last. Each member's host has a second
+/// copy, which is spare or in the table. The pending members are counted, and the place of the member that was heard
+/// last is kept, since it is looked up again.
 #[derive(Drop)]
 pub struct Roster {
     hosts: Vec<HostInfo>,
@@ -51,7 +51,7 @@ fn is_member(host: &HostInfo, member: &Member) -> bool
 }
 
 impl Roster {
-    /// Nobody, and no table.
+    /// An empty roster with no table.
     pub fn new(alloc: Global) -> Roster
         ensures { result ≡ record { members = []; table = []; capacity = 0 } }
     {
@@ -66,7 +66,7 @@ impl Roster {
         }
     }
 
-    /// The members' hosts.
+    /// The members' hosts, in byte order of node.
     pub fn hosts(&self) -> &[HostInfo]
         ensures hosts { result.now ≡ hosts_of self.now.members }
         ensures order { Ascends host_node result.now }
@@ -91,14 +91,14 @@ impl Roster {
         self.hosts.len() as u32
     }
 
-    /// For how many members there is room.
+    /// How many members there is room for.
     pub fn capacity(&self) -> usize
         ensures { result ≡ self.now.capacity }
     {
         self.capacity
     }
 
-    /// The boot of the member of this node.
+    /// The boot of the member of this node, if there is one.
     pub fn boot_at(&self, node: &Node) -> Option<u64>
         ensures { result ≡ option_map boot_of (of_node self.now.members node.now) }
     {
@@ -108,7 +108,7 @@ impl Roster {
         }
     }
 
-    /// Whether the member of its node is among those pending.
+    /// Whether the member of this member's node is pending, in whichever boot.
     pub fn is_pending(&self, member: &Member) -> bool
         ensures { result ≡ is_pending self.now.members member.now }
     {
@@ -121,14 +121,14 @@ impl Roster {
         }
     }
 
-    /// Whether anybody is pending.
+    /// Whether any member is pending.
     pub fn any_pending(&self) -> bool
         ensures { result ≡ any_pending self.now.members }
     {
         self.pending > 0
     }
 
-    /// The member is heard, if it is one; says whether it is.
+    /// Records that the member is heard now, if it is one; says whether it is.
     pub fn hear(&mut self, member: &Member, now: u64) -> bool
         ensures here { result ≡ is_here self.old.members member.now }
         ensures heard { IsTrue result → self.new ≡ record self.old { members = with_node self.old.members member.now.node (heard_at now) } }
@@ -148,7 +148,7 @@ impl Roster {
         }
     }
 
-    /// The member is heard, if it is one, and isn't pending any more; says whether it is one.
+    /// Records that the member is heard now and is no longer pending, if it is one; says whether it is.
     pub fn ack(&mut self, member: &Member, now: u64) -> bool
         ensures here { result ≡ is_here self.old.members member.now }
         ensures acked { IsTrue result → self.new ≡ record self.old { members = with_node self.old.members member.now.node (acked_at now) } }
@@ -171,7 +171,7 @@ impl Roster {
         }
     }
 
-    /// Makes room for one member more.
+    /// Makes room for one more member.
     pub fn reserve(&mut self) -> Result<(), OutOfMemory>
         ensures same { SameButCapacity self.old self.new }
         ensures capacity { OnOk result (length self.old.members < self.new.capacity) }
@@ -189,7 +189,7 @@ impl Roster {
         Ok(())
     }
 
-    /// A host joins, whose node has no member; `spare` is a copy of it.
+    /// Adds a host whose node has no member; `spare` is a copy of it.
     pub fn join(&mut self, host: HostInfo, spare: HostInfo, now: u64)
         requires capacity { length self.old.members < self.old.capacity }
         requires few { length self.old.members < 256 }
@@ -212,7 +212,7 @@ impl Roster {
         }
     }
 
-    /// The member is removed, if it is one; says whether it was.
+    /// Removes the member, if it is one; says whether it was.
     pub fn remove(&mut self, member: &Member) -> bool
         ensures here { result ≡ is_here self.old.members member.now }
         ensures removed { IsTrue result → self.new ≡ record self.old { members = without_node self.old.members member.now.node } }
@@ -249,7 +249,7 @@ impl Roster {
         true
     }
 
-    /// The table of the targets is fixed.
+    /// Fixes the table of the targets.
     pub fn fix(&mut self)
         ensures { self.new ≡ record self.old { table = target_hosts self.old.members } }
     {
@@ -273,7 +273,7 @@ impl Roster {
         self.pending = pending;
     }
 
-    /// Whether the member at this place, from 0 in byte order of node, was not heard for 10,000 milliseconds or more.
+    /// Whether the member at this index, from 0 in byte order of node, was not heard for 10,000 milliseconds or more.
     /// These are the members that `drop_late` drops.
     pub fn is_late(&self, at: usize, now: u64) -> bool
         requires { at < length self.now.members }
@@ -282,7 +282,7 @@ impl Roster {
         is_mark_late(self.marks[at], now)
     }
 
-    /// Drops each member that was not heard for 10,000 milliseconds, and lists it.
+    /// Drops each member that was not heard for 10,000 milliseconds or more, and adds it to `removed`.
     pub fn drop_late(&mut self, removed: &mut MemberList, now: u64)
         requires { length removed.old.members + length self.old.members ≤ removed.old.capacity }
         ensures members { self.new ≡ record self.old { members = heard_of self.old.members now } }
@@ -300,7 +300,7 @@ impl Roster {
         self.pending = pending;
     }
 
-    /// A restart: each member is heard, and there is no round and no table.
+    /// A restart: each member is heard now, and there is no round and no table.
     pub fn restart(&mut self, now: u64)
         ensures { self.new ≡ record self.old { members = map (restarted_at now) self.old.members; table = [] } }
     {
@@ -309,7 +309,7 @@ impl Roster {
         self.pending = 0;
     }
 
-    /// Nobody, and no table.
+    /// Removes all members and the table.
     pub fn clear(&mut self)
         ensures { self.new ≡ record self.old { members = []; table = [] } }
     {

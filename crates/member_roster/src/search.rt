@@ -1,4 +1,4 @@
-// Nodes in byte order, searched by halving.
+// Binary search among nodes in byte order.
 ghost use Rattle.std.specs.Prelude.{◌≡◌, length};
 ghost use Rattle.std.specs.List.Sorted.{IsSearchInRange};
 ghost use Rattle.member_roster.specs.Places.{place_by, Ascends, host_node};
@@ -6,7 +6,7 @@ ghost use Rattle.member_roster.specs.Places.{place_by, Ascends, host_node};
 use actor_names::Node;
 use place_table::HostInfo;
 
-/// Where the host of this node stands, or is to stand.
+/// The index of this node's host, or the index at which it would be inserted.
 pub(crate) fn host_place(hosts: &[HostInfo], node: &Node) -> Result<usize, usize>
     requires { Ascends host_node hosts.now }
     ensures place { result ≡ place_by host_node node.now hosts.now }
@@ -15,7 +15,7 @@ pub(crate) fn host_place(hosts: &[HostInfo], node: &Node) -> Result<usize, usize
     hosts.binary_search_by(|host| host.member.node.cmp(node))
 }
 
-/// The same, where it may well stand at `near`.
+/// The same; looks at `near` first, where the host may well be.
 pub(crate) fn host_place_near(hosts: &[HostInfo], node: &Node, near: usize) -> Result<usize, usize>
     requires { Ascends host_node hosts.now }
     ensures place { result ≡ place_by host_node node.now hosts.now }

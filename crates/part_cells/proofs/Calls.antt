@@ -18,7 +18,7 @@ key_of-lookup (e ∷ es) n = rw (tied n e.0, key_of-lookup es n) refl
 turned : (a b : ℕ) → is_eq (nat_cmp a b) ≡ (b == a)
 turned a b = tied a b ∙ (let e = nat_eq_equiv in e.symm a b)
 
--- a key that is noted or forgotten under a call
+-- a key is noted under a call, or forgotten
 pub updated : (call : ℕ) (key : Option ActorKey) (es fs : List (ℕ × ActorKey))
     → ((q : ℕ) → lookup (is_at (nat_cmp q)) fs ≡ cond (is_at (nat_cmp call) q) key (lookup (is_at (nat_cmp q)) es))
     → (n : ℕ) → key_of fs n ≡ (if n == call then key else key_of es n)

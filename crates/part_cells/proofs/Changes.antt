@@ -1,4 +1,4 @@
--- What is found after a cell was dropped or put, and which changes come to the same.
+-- What is found after a cell was dropped or put, and which changes give the same cells.
 use Rattle.std.proofs.Common.{◌≡◌, false, List, [], ◌∷◌, ◌++◌, Some, None, refl, sym, ap, subst, ◌∙◌, inl, inr, if◌then◌else◌}
 use Rattle.std.proofs.lemmas.Bool.{cond_both, cond-false}
 use Rattle.actor_names.specs.declared.actor_key.ActorKey.{ActorKey}

@@ -33,12 +33,12 @@ key-cell_at (d ∷ cs) key c e =
     (λ s q. let t = same_key-true key d.key s in let u : d ≡ c = cc in ap (λ (z : ActorCell). z.key) (sym u) ∙ sym t)
     (λ _ q. more q) e
 
--- none is found among cells of other keys
+-- no cell is found among cells of other keys
 pub at-none : (key : ActorKey) (cs : List ActorCell) → ((c : ActorCell) → In c cs → same_key key c.key ≡ false) → cell_at cs key ≡ None
 at-none key [] h = refl
 at-none key (c ∷ cs) h = cond-false (same_key key c.key) _ _ (h c (inl refl)) ∙ at-none key cs (λ d i. h d (inr i))
 
--- and where none is found, all are of other keys
+-- and if none is found, all cells are of other keys
 pub none_at : (key : ActorKey) (cs : List ActorCell) → cell_at cs key ≡ None → (c : ActorCell) → In c cs → same_key key c.key ≡ false
 none_at key [] e c i = absurd i
 none_at key (d ∷ cs) e c i =
@@ -56,12 +56,12 @@ In-drop_cell (c ∷ cs) key y h =
     let more = In-drop_cell cs key y in
     cond_both (same_key key c.key) _ _ (λ r. In y r → In y (c ∷ cs)) (λ _ i. inr (more i)) (λ _. elim [ inl e ↦ inl e | inr i ↦ inr (more i) ]) h
 
--- a drop among cells of other keys
+-- a drop among cells of other keys changes nothing
 pub drop-none : (key : ActorKey) (cs : List ActorCell) → ((c : ActorCell) → In c cs → same_key key c.key ≡ false) → drop_cell cs key ≡ cs
 drop-none key [] h = refl
 drop-none key (c ∷ cs) h = cond-false (same_key key c.key) _ _ (h c (inl refl)) ∙ ap (λ ds. c ∷ ds) (drop-none key cs (λ d i. h d (inr i)))
 
--- what is left after a drop is of other keys
+-- the cells that are left after a drop are of other keys
 pub other_key : (cs : List ActorCell) (key : ActorKey) (y : ActorCell) → In y (drop_cell cs key) → same_key key y.key ≡ false
 other_key [] key y h = absurd h
 other_key (c ∷ cs) key y h =
@@ -104,7 +104,7 @@ In-inserted (c ∷ cs) x y (inr i) =
 pub In-put_cell : (cs : List ActorCell) (x y : ActorCell) → In y (put_cell cs x) → (y ≡ x) ⊎ (In y cs × (same_key x.key y.key ≡ false))
 In-put_cell cs x y h = elim (In-insert_cell (drop_cell cs x.key) x y h) [ inl e ↦ inl e | inr i ↦ inr (In-drop_cell cs x.key y i, other_key cs x.key y i) ]
 
--- where a cell comes from when one was kept
+-- where a cell comes from after one was kept
 pub In-keep_cell : (cs : List ActorCell) (x y : ActorCell) → In y (keep_cell cs x) → ((y ≡ x) × (is_kept x ≡ true)) ⊎ (In y cs × (same_key x.key y.key ≡ false))
 In-keep_cell cs x y h =
     cond_both (is_kept x) _ _ (λ r. In y r → ((y ≡ x) × (is_kept x ≡ true)) ⊎ (In y cs × (same_key x.key y.key ≡ false)))

@@ -1,4 +1,4 @@
--- Cells in order, cut at one of them: what is looked for or changed stands on one side of it.
+-- Cells in order, cut at one of them: a cell that is looked for or changed is on one side of the cut.
 use Rattle.std.proofs.Common.{◌≡◌, false, List, [], ◌∷◌, ◌++◌, Some, refl, ap, ◌∙◌, inl, inr}
 use Rattle.std.specs.declared.cmp.Ordering.TheVariants.{Less, Equal, Greater}
 use Rattle.std.proofs.lemmas.Bool.{cond_both, cond-true, cond-false}

@@ -1,4 +1,4 @@
--- The order of keys is a total one, and tied keys are the same.
+-- The order of keys is total, and keys that compare as equal are the same.
 use Rattle.std.proofs.Common.{◌≡◌, Bool, true, false, ◌&&◌, refl, sym, ap, ◌∙◌}
 use Rattle.std.specs.Prelude.{bytes_eq}
 use Rattle.std.specs.declared.cmp.Ordering.{Ordering}
@@ -43,7 +43,7 @@ same_keys a b o e =
 pub before_keys : (a b : ActorKey) (o : Ordering) → key_cmp a b ≡ o → key_before b a ≡ is_lt (ordering_reverse o)
 before_keys a b o e = ap is_lt (back a b o e)
 
--- what is at or after the key is before what is after it
+-- if a is at or after the key and b is after a, then b is after the key
 pub after_equal : (a b key : ActorKey) → key_cmp a key ≡ Equal → key_cmp a b ≡ Less → key_cmp b key ≡ Greater
 after_equal a b key f e = let t = key_cmp_total in back key b Less (sym (t.congr a key b f) ∙ e)
 
@@ -76,7 +76,7 @@ same_key-true a b e =
 pub key_trans : (a b c : ActorKey) → key_before a b ≡ true → key_before b c ≡ true → key_before a c ≡ true
 key_trans a b c h k = let t = key_cmp_total in ap is_lt (t.trans a b c (before a b h) (before b c k))
 
--- one of two keys that differ stands before the other
+-- one of two different keys is before the other
 pub key_after : (a b : ActorKey) → key_before a b ≡ false → same_key a b ≡ false → key_before b a ≡ true
 key_after a b f s = go (key_cmp a b) refl
   where

@@ -1,4 +1,4 @@
--- How many cells a change leaves, and the sum of a number of each of them, such as of its calls.
+-- How many cells a change leaves, and the sum of a number that each cell has, such as that of its calls.
 use Rattle.std.proofs.Common.{◌≡◌, ℕ, false, ◌+◌, ◌≤◌, List, [], ◌∷◌, length, Some, None, ap, inl, inr, arith}
 use Rattle.std.proofs.lemmas.Bool.{cond_both}
 use Rattle.actor_names.specs.declared.actor_key.ActorKey.{ActorKey}
@@ -23,11 +23,11 @@ length-insert_cell (c ∷ cs) x =
     let more = length-insert_cell cs x in
     cond_both (key_before x.key c.key) _ _ (λ r. length r ≡ length (c ∷ cs) + 1) (λ _. omega arith) (λ _. omega arith)
 
--- one cell less, where there was one
+-- one cell less, if there was one
 pub length-taken : (cs : List ActorCell) (key : ActorKey) (c : ActorCell) → cell_at cs key ≡ Some c → AreInOrder cs → length (drop_cell cs key) + 1 ≡ length cs
 length-taken cs key c e o = let n = length-insert_cell (drop_cell cs key) c in let same = ap (λ (l : List ActorCell). length l) (insert-taken cs key c e o) in omega arith
 
--- as many as before, where there was a cell of its key
+-- as many as before, if there was a cell with its key
 pub length-put-found : (cs : List ActorCell) (x c : ActorCell) → cell_at cs x.key ≡ Some c → AreInOrder cs → length (put_cell cs x) ≡ length cs
 length-put-found cs x c e o = let n = length-insert_cell (drop_cell cs x.key) x in let d = length-taken cs x.key c e o in omega arith
 
@@ -57,7 +57,7 @@ module _ (f : ActorCell → ℕ) where
       let more = total-insert_cell cs x in
       cond_both (key_before x.key c.key) _ _ (λ r. total f r ≡ total f (c ∷ cs) + f x) (λ _. omega arith) (λ _. omega arith)
 
-  -- that of a cell that is taken is its own
+  -- the sum loses the number of a cell that is taken
   total-taken : (cs : List ActorCell) (key : ActorKey) (c : ActorCell) → cell_at cs key ≡ Some c → AreInOrder cs → total f (drop_cell cs key) + f c ≡ total f cs
   total-taken cs key c e o = let n = total-insert_cell (drop_cell cs key) c in let same = ap (total f) (insert-taken cs key c e o) in omega arith
 
@@ -67,14 +67,14 @@ module _ (f : ActorCell → ℕ) where
   pub total-put-found : (cs : List ActorCell) (x c : ActorCell) → cell_at cs x.key ≡ Some c → AreInOrder cs → total f (put_cell cs x) + f c ≡ total f cs + f x
   total-put-found cs x c e o = let n = total-insert_cell (drop_cell cs x.key) x in let d = total-taken cs x.key c e o in omega arith
 
-  -- that of one cell changes
+  -- the number of one cell changes
   pub total-keep-found : (cs : List ActorCell) (x c : ActorCell) → cell_at cs x.key ≡ Some c → AreInOrder cs → total f (keep_cell cs x) + f c ≤ total f cs + f x
   total-keep-found cs x c e o =
       let p = total-put-found cs x c e o in
       let d = total-taken cs x.key c e o in
       cond_both (is_kept x) _ _ (λ r. total f r + f c ≤ total f cs + f x) (λ _. omega arith) (λ _. omega arith)
 
-  -- and is all of the change where one that isn't kept has none
+  -- and that is the whole change, if a cell that isn't kept has the number zero
   module _ (cs : List ActorCell) (x : ActorCell) (idle : is_kept x ≡ false → f x ≡ 0) where
     pub total-keep-changed : (c : ActorCell) → cell_at cs x.key ≡ Some c → AreInOrder cs → total f (keep_cell cs x) + f c ≡ total f cs + f x
     total-keep-changed c e o =

@@ -6,7 +6,7 @@ use Rattle.part_cells.specs.declared.tree.Node.{Node}
 use Rattle.part_cells.specs.declared.tree.Root.{Root}
 use Rattle.part_cells.specs.declared.tree.Root.TheVariants.{Empty, Full}
 
--- the cells of a node and below it
+-- the cells in a node and below it
 abbrev pub node_cells : Node → List ActorCell
 node_cells n = n.left ++ n.cell ∷ n.right
 
@@ -18,7 +18,7 @@ root_cells (Full n) = node_cells n.value
 abbrev pub cell_in : Option (Box Node Global) → Option ActorCell
 cell_in taken = option_map (λ n. n.value.cell) taken
 
--- what a list is without its first cell
+-- the list without its first cell, which is the one taken out
 abbrev pub IsWithoutFirst : List ActorCell → List ActorCell → Option (Box Node Global) → Type 0
 IsWithoutFirst old new None = (old ≡ []) × (new ≡ [])
 IsWithoutFirst old new (Some n) = old ≡ n.value.cell ∷ new

@@ -5,22 +5,22 @@ ghost use Rattle.part_cells.specs.Cells.{is_kept};
 use actor_names::ActorKey;
 use turn_core::Cell;
 
-/// One actor's turns and line, and whether it is active or closing.
+/// One actor's turns and queue, and whether it is active or closing.
 #[derive(Drop)]
 pub struct ActorCell {
     /// The actor.
     pub key: ActorKey,
-    /// Its turns and its line.
+    /// Its turns and its queue.
     pub inner: Cell,
-    /// From its first turn until its deactivation call is over.
+    /// Whether it is active: from its first turn until its deactivation call is over.
     pub active: bool,
-    /// Taken for deactivation.
+    /// Whether it has been taken for deactivation.
     pub closing: bool,
     /// When its last turn or hold ended, in milliseconds since 1970.
     pub last: u64,
 }
 
-/// Whether a cell is kept: it is active, or a call is in its line.
+/// Whether a cell is kept: it is active, or a call is in its queue.
 pub fn is_kept(cell: &ActorCell) -> bool
     ensures { result ≡ is_kept cell.now }
 {

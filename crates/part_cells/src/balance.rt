@@ -1,11 +1,11 @@
-// The balance of a tree of cells: at each node the heights of the two sides differ by one at most. Own; as in AVL
-// trees. What is proved is that the cells and their order stay; the balance itself is for speed alone.
+// The balance of a tree of cells: at each node the heights of the two sides differ by at most one, as in AVL trees.
+// It is proved that the cells and their order stay. The balance itself matters only for speed. Own.
 ghost use Rattle.std.specs.Prelude.{◌≡◌};
 ghost use Rattle.part_cells.specs.Tree.{node_cells};
 
 use crate::tree::{Node, Root, Tree, close, emptied};
 
-// The left child comes to the top.
+// Rotates the left child to the top.
 fn raise_left(mut node: Box<Node>) -> Box<Node>
     ensures { node_cells result.value ≡ node_cells node.value }
 {
@@ -19,7 +19,7 @@ fn raise_left(mut node: Box<Node>) -> Box<Node>
     }
 }
 
-// The right child comes to the top.
+// Rotates the right child to the top.
 fn raise_right(mut node: Box<Node>) -> Box<Node>
     ensures { node_cells result.value ≡ node_cells node.value }
 {
@@ -33,7 +33,7 @@ fn raise_right(mut node: Box<Node>) -> Box<Node>
     }
 }
 
-// The left side is the higher one, or as high.
+// Makes the left side at least as high as the right one.
 fn lean_left(tree: Tree) -> Tree
     ensures { result ≡ tree }
 {
@@ -49,7 +49,7 @@ fn lean_left(tree: Tree) -> Tree
     }
 }
 
-// The right side is the higher one, or as high.
+// Makes the right side at least as high as the left one.
 fn lean_right(tree: Tree) -> Tree
     ensures { result ≡ tree }
 {
@@ -65,7 +65,7 @@ fn lean_right(tree: Tree) -> Tree
     }
 }
 
-/// A tree of one node, whose sides differ in height by two at most; it is balanced again.
+/// The tree under this node, balanced again. The heights of its sides may differ by at most two.
 pub(crate) fn balanced(mut node: Box<Node>) -> Tree
     ensures { result ≡ node_cells node.value }
 {

@@ -1,4 +1,4 @@
-// Changes of a tree of cells. A cell is taken out in its node and put back in it, so none takes memory.
+// Changes of a tree of cells. A cell is taken out in its node and put back in that node, so no change takes memory.
 ghost use Rattle.std.specs.Prelude.{◌≡◌, ◌++◌};
 ghost use Rattle.part_cells.specs.Cells.{cell_at, drop_cell, put_cell, keep_cell};
 ghost use Rattle.part_cells.specs.Order.{AreInOrder};
@@ -29,7 +29,7 @@ fn take_first(tree: &mut Tree) -> Option<Box<Node>>
     }
 }
 
-// The cells of two trees in one, the heights of which differ by one at most.
+// The cells of two trees in one tree. The heights of the two may differ by at most one.
 fn joined(left: Tree, mut right: Tree) -> Tree
     ensures { result ≡ left ++ right }
 {
@@ -44,7 +44,7 @@ fn joined(left: Tree, mut right: Tree) -> Tree
 }
 
 impl Tree {
-    /// Takes the actor's cell out, in its node, so that it can be put back without memory.
+    /// Takes out the actor's cell, in its node, so that it can be put back without taking memory.
     pub fn take(&mut self, key: &ActorKey) -> Option<Box<Node>>
         requires { AreInOrder self.old }
         ensures cell { cell_in result ≡ cell_at self.old key.now }
@@ -73,7 +73,7 @@ impl Tree {
         }
     }
 
-    /// Puts a cell in its key's place, in the stead of one of its key; takes no memory.
+    /// Puts a cell in the place of its key, and replaces a cell of the same key; takes no memory.
     pub fn put(&mut self, mut node: Box<Node>)
         requires { AreInOrder self.old }
         ensures { self.new ≡ put_cell self.old node.value.cell }
@@ -102,7 +102,7 @@ impl Tree {
         }
     }
 
-    /// Keeps a cell where it is active or a call is in its line, and drops it otherwise; takes no memory.
+    /// Puts a cell if it is active or a call is in its queue, and drops it otherwise; takes no memory.
     pub fn keep(&mut self, node: Box<Node>)
         requires { AreInOrder self.old }
         ensures { self.new ≡ keep_cell self.old node.value.cell }

@@ -1,4 +1,4 @@
-// An index from calls to actors. It says where to look, and nothing of what is found there.
+// An index from calls to actors. It says where to look, and nothing about what is found there.
 ghost use Rattle.std.specs.Prelude.{◌≡◌, ℕ, ◌==◌, None, Some, if◌then◌else◌, option_copied, OnOk, OnErr};
 ghost use Rattle.part_cells.specs.Index.{key_of};
 
@@ -23,7 +23,7 @@ impl Model for CallIndex {
 }
 
 impl CallIndex {
-    /// No call; takes no memory.
+    /// An empty index; takes no memory.
     pub fn new(alloc: Global) -> CallIndex
         ensures { (n : ℕ) → key_of result n ≡ None }
     {
@@ -39,7 +39,8 @@ impl CallIndex {
         self.keys.get(&call)
     }
 
-    /// Notes a copy of the key under the call, in the stead of one that was there.
+    /// Notes a copy of the key under the call, in place of the key that was there. If memory runs out, the index is as
+    /// before.
     pub fn add(&mut self, alloc: Global, call: u64, key: &ActorKey) -> Result<(), OutOfMemory>
         ensures ok { OnOk result ((n : ℕ) → key_of self.new n ≡ (if n == call then Some key.now else key_of self.old n)) }
         ensures err { OnErr result (self.new ≡ self.old) }

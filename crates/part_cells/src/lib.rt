@@ -1,7 +1,7 @@
 // The cells of a part, in order of key in a search tree, and an index from calls to actors.
 //
-// Promise: a `Tree` is the list of its cells, and a change of it is that of the list that `specs/Cells` says.
-// Stands on `turn_core` and `actor_names`.
+// Promise: a `Tree` is seen as the list of its cells, and each of its changes is a change of that list, as defined
+// in `specs/Cells`. Depends on `turn_core` and `actor_names`.
 #![tactic(auto)]
 
 mod actor_cell;

@@ -1,5 +1,5 @@
-// Keys in an awkward order, against lists that the library sorts; the heights of trees, which no clause bounds; and
-// that the calls that may want memory succeed with ample memory.
+// Keys in an awkward order, compared with lists that the library sorts; the heights of trees, which no contract
+// bounds; and that the calls that may run out of memory succeed if there is enough.
 use super::*;
 use actor_names::{ActorKey, read_key};
 use std::alloc::Global;
@@ -42,7 +42,7 @@ impl Cells {
         self.tree.take(key)
     }
 
-    // When the actor's last turn ended, where it has a cell.
+    // When the actor's last turn ended, if it has a cell.
     fn last(&self, key: &ActorKey) -> Option<u64> {
         match self.tree.get(key) {
             None => None,
@@ -61,7 +61,7 @@ fn numbered_key(alloc: Global, number: u64) -> Result<ActorKey, Fail> {
     Ok(read_key(alloc, key_text(alloc, number)?.as_slice())?)
 }
 
-// A node with the cell of the actor of this number, which is active; its last turn ended at the number.
+// A node with the cell of the actor that has this number. It is active, and its last turn ended at this number.
 fn numbered(alloc: Global, number: u64) -> Result<Box<Node>, Fail> {
     let cell = ActorCell {
         key: numbered_key(alloc, number)?,
@@ -73,7 +73,7 @@ fn numbered(alloc: Global, number: u64) -> Result<Box<Node>, Fail> {
     Ok(leaf(alloc, cell)?)
 }
 
-// Adds the keys' texts, from left to right.
+// Appends the texts of the keys, from left to right.
 fn list(alloc: Global, tree: &Tree, texts: &mut Vec<Vec<u8>>) -> Result<(), Fail> {
     match &tree.root {
         Root::Empty => Ok(()),

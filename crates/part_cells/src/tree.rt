@@ -1,5 +1,5 @@
-// A balanced search tree of cells, seen as the list of its cells in order of key. Own; the balance is that of AVL
-// trees.
+// A balanced search tree of cells, seen as the list of its cells in order of key. Own; it is balanced as AVL trees
+// are.
 ghost use Rattle.std.specs.Prelude.{◌≡◌, [], option_copied, IfOk};
 ghost use Rattle.part_cells.specs.Cells.{cell_at};
 ghost use Rattle.part_cells.specs.Order.{AreInOrder};
@@ -12,8 +12,8 @@ use std::cmp::Ordering;
 use std::marker::Model;
 use std::mem;
 
-/// Cells in a search tree, seen as the list of its cells from left to right. Whether they are in order is the
-/// caller's to know.
+/// Cells in a search tree, seen as the list of its cells from left to right. The tree itself doesn't ensure that they
+/// are in order; a caller has to know that.
 #[cycle(tree)]
 #[derive(Drop)]
 pub struct Tree {
@@ -25,13 +25,13 @@ pub struct Tree {
 #[cycle(tree)]
 #[derive(Drop)]
 pub enum Root {
-    /// No cell.
+    /// The empty tree.
     Empty,
     /// The node at the top.
     Full(Box<Node>),
 }
 
-/// A cell, with those before it and those behind it.
+/// A cell, with the cells before it and those after it.
 #[cycle(tree)]
 #[derive(Drop)]
 pub struct Node {
@@ -39,7 +39,7 @@ pub struct Node {
     pub left: Tree,
     /// The cell.
     pub cell: ActorCell,
-    /// The cells behind it.
+    /// The cells after it.
     pub right: Tree,
     height: u32,
 }
@@ -62,7 +62,7 @@ impl Model for Tree {
 }
 
 impl Tree {
-    /// No cell; takes no memory.
+    /// An empty tree; takes no memory.
     pub fn new() -> Tree
         ensures { result ≡ [] }
     {
@@ -76,7 +76,7 @@ impl Tree {
         self.root
     }
 
-    // How many nodes stand on the longest way down. Speed alone depends on it.
+    // How many nodes are on the longest path down. Only speed depends on it.
     pub(crate) fn height(&self) -> u32 {
         match &self.root {
             Root::Empty => 0,
@@ -84,7 +84,7 @@ impl Tree {
         }
     }
 
-    /// The actor's cell.
+    /// The actor's cell, if it has one.
     pub fn get(&self, key: &ActorKey) -> Option<&ActorCell>
         requires { AreInOrder self.now }
         ensures { option_copied result ≡ cell_at self.now key.now }
@@ -100,7 +100,7 @@ impl Tree {
     }
 }
 
-/// What stands in a place, which is then empty.
+/// Takes out the whole tree, and leaves an empty one in its place.
 pub(crate) fn emptied(tree: &mut Tree) -> Tree
     ensures taken { result ≡ tree.old }
     ensures left { tree.new ≡ [] }
@@ -108,7 +108,7 @@ pub(crate) fn emptied(tree: &mut Tree) -> Tree
     mem::replace(tree, Tree::new())
 }
 
-/// A tree of one node, whose height is counted anew.
+/// The tree under this node, with its height computed anew.
 pub(crate) fn close(mut node: Box<Node>) -> Tree
     ensures { result ≡ node_cells node.value }
 {
@@ -120,7 +120,7 @@ pub(crate) fn close(mut node: Box<Node>) -> Tree
     }
 }
 
-/// A node of this cell alone.
+/// A node with this cell.
 pub fn leaf(alloc: Global, cell: ActorCell) -> Result<Box<Node>, OutOfMemory>
     ensures { IfOk result (λ n. n.value.cell ≡ cell) }
 {

@@ -87,7 +87,7 @@ module _ (s : Standing) (old : ActorsState) (key : ActorKey) (c after : ActorCel
           (λ i. record { drawn = sym e i; cells = sym (left f) i; recent = sym n i })
           (gives_refused f running)
 
--- what an ask that is neither spent nor behind comes to
+-- the outcome of an ask that is neither spent nor behind
 pub ask_goes : (p old : PartState) (key : ActorKey) (chain : Option (List ℕ)) (least : ℕ) (reply : PartReply) (view : PartView) → p.drawn < 2 ^ 62 → least ≤ p.seen
     → GivesInMemory (ask_found ring_owner p key chain (cell_at p.cells key)) reply old view → GivesInMemory (ask_part ring_owner p key chain least) reply old view
 ask_goes p old key chain least reply view fresh known g =

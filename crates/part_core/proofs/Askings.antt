@@ -1,4 +1,4 @@
--- From the step of an inner call to that of the call round it.
+-- From the step of an inner call to that of the call that makes it.
 use Rattle.std.proofs.Common.{◌≡◌, ℕ, ◌+◌, Bool, true, false, not, List, Option, None, Some, sym, ap, ◌∙◌}
 use Rattle.std.specs.Prelude.{◌==◌, if◌then◌else◌}
 use Rattle.std.proofs.lemmas.Bool.{cond-true, cond-false}
@@ -22,7 +22,7 @@ asks_in : (step outer : PartState → PartStep) (s : Standing) (drawn : ℕ) (c 
 asks_in step outer s drawn c after replies.OutOfMemory e h = h
 asks_in step outer s drawn c after reply e h = λ a d. e a ∙ h a d
 
--- the step with the chain that the part makes of what the call brings
+-- the step with the chain that the part makes from what the call brings
 pub chained_asks : (full : Bool) (s : Standing) (drawn : ℕ) (c after : ActorCell) (chain made : Option (List ℕ)) (reply : PartReply)
     → made ≡ (if c.inner.depth == 0 then None else chain_or chain (made_chain s.member s.number (drawn + 1)))
     → AsksIn (λ p. ask_here ring_owner full p c made) s drawn c after reply → AsksIn (λ p. ask_here ring_owner full p c (call_chain p c.inner.depth chain)) s drawn c after reply

@@ -1,4 +1,4 @@
--- Each call of a part leaves its cells as its marks tell.
+-- Each call of a part leaves its cells as its marks say.
 use Rattle.std.proofs.Common.{◌≡◌, ℕ, Bool, true, false, cond, not, ◌&&◌, ◌+◌, List, [], ◌∷◌, ◌++◌, Option, None, Some, refl, sym, ap, ◌∙◌, subst, inl, inr}
 use Rattle.std.specs.Prelude.{nat_lt, ◌==◌, max}
 use Rattle.std.proofs.lemmas.Bool.{cond_both, cond-true, cond-false, false≢true, true≢false, cases_Bool}
@@ -120,7 +120,7 @@ module _ (owner : PlacementTable → ActorKey → Option HostInfo) where
   known_found_or_first e p key None f asks s = record { sound = first_sound key _; was = ap (λ (o : Option ActorCell). activity_of o) f; from = inr (asks, refl) }
   known_found_or_first e p key (Some c) f asks s = known_found e p c s (In-cell_at p.cells key c f)
 
-  -- a cell changes, and none of its turns nor its being active
+  -- a cell changes, but neither its turns nor whether it is active
   pub quiet_replays : (e : PartEvent) (p : PartState) (c x : ActorCell) (n : ℕ) → IsKnown e p c → x.key ≡ c.key → x.active ≡ c.active → x.inner.turns ≡ c.inner.turns → x.inner.depth ≡ c.inner.depth
       → Replays e p (record (with_cell p x) { drawn = n }) []
   quiet_replays e p c x n known key active turns depth =

@@ -57,7 +57,7 @@ free_of_nil c e = ap (λ (ts : List Turn). length ts == 0) e
 
 -- ---- the cases of each call
 
--- the chain that the cell keeps is open exactly where the one that was brought is
+-- the chain that the cell keeps is open exactly if the one that was brought is
 pub is_open_chain-kept : (c : CellState) (chain : Option (List ℕ)) → is_open_chain c (kept_chain c chain) ≡ is_open_chain c chain
 is_open_chain-kept c chain =
     cond_both (c.depth == 0) _ _ (λ r. is_open_chain c r ≡ is_open_chain c chain)
@@ -100,11 +100,11 @@ pub first_sound : (key : ActorKey) (depth : ℕ) → IsActorSound (first_cell ke
 first_sound key depth =
     record { sound = new_cell_sound depth; open_active = λ t i. absurd i; closing_active = λ e. absurd (false≢true e); closing_free = λ e. absurd (false≢true e) }
 
--- one that is active and not closing
+-- a cell that is active and not closing
 pub open_sound : (x : ActorCell) → IsCellSound x.inner → x.active ≡ true → (x.closing ≡ true → ⊥) → IsActorSound x
 open_sound x s a k = record { sound = s; open_active = λ t i. a; closing_active = λ e. absurd (k e); closing_free = λ e. absurd (k e) }
 
--- one whose turns are among those of another
+-- a cell whose turns are among those of another
 pub less_sound : (c x : ActorCell) → IsActorSound c → IsCellSound x.inner → ((t : Turn) → In t x.inner.turns → In t c.inner.turns) → x.active ≡ c.active → (x.closing ≡ true → (x.active ≡ true) × (x.inner.turns ≡ [])) → IsActorSound x
 less_sound c x s inner among active closing =
     record {
@@ -130,6 +130,6 @@ begun_sound c w s free e = (next_begins c (Some w) s free e).sound
 pub fewer_waiters : (c x : CellState) → ((w : Waiter) → In w x.line → In w c.line) → HasNoWaiter c → HasNoWaiter x
 fewer_waiters c x among h w i = h w (among w i)
 
--- after the first call has begun no other one waits than before
+-- if no unmoved call waited before a call began, none waits afterwards
 pub begun_waiters : (c : CellState) (w : Waiter) → HasNoWaiter c → HasNoWaiter (begun_next c (Some w))
 begun_waiters c w h v i = h v (In-without_first c.line v i)

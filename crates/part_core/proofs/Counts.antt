@@ -14,7 +14,7 @@ calls_of c = length c.turns + length c.line
 
 -- ---- an end
 
--- whether the next call may begin is of no account where none waits
+-- whether the next call may begin makes no difference if none waits
 pub end_of_empty_line : (c : CellState) (call : ℕ) (a b : Bool) → c.line ≡ [] → cell_end c call a ≡ cell_end c call b
 end_of_empty_line c call a b e =
     let none : (m : Bool) → next_call m (without_call c call) ≡ None = λ m. cond_both (m && is_free (without_call c call)) _ _ (λ (r : Option Waiter). r ≡ None) (λ _. ap first_unmoved e) (λ _. refl) in
@@ -25,7 +25,7 @@ not_ended : (found : Option Waiter) (next : Option ℕ) → not_open found ≡ e
 not_ended None next e = cc
 not_ended (Some w) next e = cc
 
--- an end that ended a turn: the call was open, and this is the next one
+-- if an end ended a turn, the call was open, and this is the next call
 pub end_ended : (c : CellState) (call : ℕ) (b : Bool) (next : Option ℕ) → (cell_end c call b).answer ≡ ending.Ended next → (has_turn call c.turns ≡ true) × (next ≡ option_map call_of (next_call b (without_call c call)))
 end_ended c call b next e =
     cond_both (has_turn call c.turns) _ _ (λ (s : EndStep). s.answer ≡ ending.Ended next → (has_turn call c.turns ≡ true) × (next ≡ option_map call_of (next_call b (without_call c call))))
@@ -48,7 +48,7 @@ length-without_first (v ∷ ws) w e =
     (λ f q. let step : without_first_unmoved (v ∷ ws) ≡ ws = cond-false v.moved _ _ f in rw step (omega arith))
     e
 
--- a call of the line begins: no call more, and none less
+-- a call of the queue begins: there are as many calls as before
 pub calls-begun_next : (c : CellState) (next : Option Waiter) → (next ≡ None) ⊎ (next ≡ first_unmoved c.line) → calls_of (begun_next c next) ≡ calls_of c
 calls-begun_next c None h = refl
 calls-begun_next c (Some w) (inl e) = absurd (cc)
@@ -97,7 +97,7 @@ poll_calls c call e =
         cond_both w.moved _ _ (λ (s : PollStep). s.answer ≡ polling.Moved → calls_of s.cell + 1 ≡ calls_of c)
         (λ _ _. let l = length-without_waiter call c.line w f in omega arith) (λ _ r. absurd (cc)) q
 
--- whether the next call may begin counts only where one waits
+-- whether the next call may begin matters only if one waits
 pub end_same : (c : CellState) (call : ℕ) (a b : Bool) → (0 < length c.line → a ≡ b) → cell_end c call a ≡ cell_end c call b
 end_same c call a b h = go c.line refl
   where

@@ -1,5 +1,4 @@
--- What is kept of a part through its steps: that foreign actors are counted. And that a tick ends nothing in a drained
--- part.
+-- Foreign actors stay counted through the steps of a part; and a tick ends nothing in a drained part.
 use Rattle.std.proofs.Common.{◌≡◌, ℕ, Bool, true, false, not, ◌&&◌, ◌+◌, ◌-◌, ◌≤◌, List, [], ◌∷◌, ◌++◌, length, Option, refl, sym, ap, ◌∙◌, inl, inr, eq-eqb, arith}
 use Rattle.std.specs.Prelude.{◌==◌, if◌then◌else◌}
 use Rattle.std.proofs.lemmas.Bool.{and_parts, and_from, cond_both, cond-true, cond-false, not-true, true≢false, false≢true}
@@ -72,7 +71,7 @@ module _ (s : Standing) (a b : ActorsState) (k : IsStandingKept s a) where
   kept : (s.stage ≡ Updated → total_foreign ring_owner (state_of s a) b.cells ≡ total_foreign ring_owner (state_of s a) a.cells) → IsStandingKept s b
   kept same = record { shallow = k.shallow; seen_fits = k.seen_fits; opened_fits = k.opened_fits; counted = λ u. k.counted u ∙ sym (same (updated_stage s.stage u)) }
 
-  -- after a step that leaves as many
+  -- after a step that leaves their number as it was
   module _ (step : PartStep) (same : s.stage ≡ Updated → total_foreign ring_owner (state_of s a) step.part.cells ≡ total_foreign ring_owner (state_of s a) a.cells) (reply : PartReply) where
     pub kept_by : Gives step reply (view_of s b) → IsStandingKept s b
     kept_by g = kept (λ u. ap (λ (v : PartView). total_foreign ring_owner (state_of s a) v.state.cells) g.1 ∙ same u)
@@ -95,7 +94,7 @@ module _ (s : Standing) (a b : ActorsState) (k : IsStandingKept s a) where
     pub kept_closed : (is_updated s.stage ≡ true → (is_closed reply && is_foreign ring_owner (state_of s a) key) ≡ false) → IsStandingKept s b
     kept_closed none = record { shallow = k.shallow; seen_fits = k.seen_fits; opened_fits = k.opened_fits; counted = λ u. (let l = left u false (none u) in omega arith) }
 
-    -- that of another owner's actor
+    -- the deactivation of another owner's actor
     module _ (closed : is_closed reply ≡ true) (foreign : (is_updated s.stage && is_foreign ring_owner (state_of s a) key) ≡ true) where
       one_left : total_foreign ring_owner (state_of s a) b.cells + 1 ≡ s.foreign
       one_left =

@@ -1,4 +1,4 @@
--- Cells that a step changes one after another, those of a tree among them.
+-- Cells that a step changes one after another, including those of a tree.
 use Rattle.std.proofs.Common.{◌≡◌, ℕ, ◌+◌, ◌≤◌, ◌&&◌, not, List, [], ◌∷◌, ◌++◌, length, refl, sym, ap, ◌∙◌, arith, append_assoc, length-append}
 use Rattle.std.proofs.lemmas.Bool.{cond_both}
 use Rattle.actor_names.specs.declared.actor_key.ActorKey.{ActorKey}
@@ -69,14 +69,14 @@ append_nil (x ∷ xs) = ap (λ (l : List ℕ). x ∷ l) (append_nil xs)
 pub listed : (calls a b c : List ℕ) → ((calls ++ a) ++ b) ++ c ≡ calls ++ (a ++ (b ++ c))
 listed calls a b c = append_assoc (calls ++ a) b c ∙ append_assoc calls a (b ++ c)
 
--- the calls in marks, by what is picked of them
+-- the calls in marks, with the function that picks them as a parameter
 module _ (pick : List PartMark → List ℕ) (none : pick [] ≡ []) (app : (xs ys : List PartMark) → pick (xs ++ ys) ≡ pick xs ++ pick ys) (f : ActorCell → CellStep) where
   pub picked-fork : (l : List ActorCell) (x : ActorCell) (r : List ActorCell) → pick (each_cell f (l ++ x ∷ r)).marks ≡ pick (each_cell f l).marks ++ (pick (f x).marks ++ pick (each_cell f r).marks)
   picked-fork l x r =
       ap pick (marks-fork f l x r) ∙ app (each_cell f l).marks ((f x).marks ++ (each_cell f r).marks)
       ∙ ap (λ (z : List ℕ). pick (each_cell f l).marks ++ z) (app (f x).marks (each_cell f r).marks)
 
-  -- no more than the calls of the cells
+  -- no more calls than the cells have
   pub picked-short : ((c : ActorCell) → length (pick (f c).marks) ≤ calls_in c) → (cs : List ActorCell) → length (pick (each_cell f cs).marks) ≤ total_calls cs
   picked-short h [] = let e = ap (λ (z : List ℕ). length z) none in omega arith
   picked-short h (c ∷ cs) =
@@ -85,7 +85,7 @@ module _ (pick : List PartMark → List ℕ) (none : pick [] ≡ []) (app : (xs 
       let m = picked-short h cs in
       omega (arith, e, length-append (pick (f c).marks) (pick (each_cell f cs).marks))
 
--- the calls that a tick ends in a cell are open there
+-- the marks of ended turns list one call for each turn
 length-ends : (key : ActorKey) (ts : List Turn) → length (ended_calls (marks_of_ends key ts)) ≡ length ts
 length-ends key [] = refl
 length-ends key (t ∷ ts) = let l = length-ends key ts in omega arith

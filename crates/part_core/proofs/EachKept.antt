@@ -91,7 +91,7 @@ ticking_keeps drawn now look p =
           (λ _. omega arith) (λ _. omega arith);
     }
 
--- the calls that begin in a cell are in its line
+-- in each cell no more calls begin than it has
 pub open-short : (p : PartState) (c : ActorCell) → length (begun_calls (open_cell ring_owner p c).marks) ≤ calls_in c
 open-short p c =
     cond_both (is_own ring_owner p c.key) _ _ (λ (s : CellStep). length (begun_calls s.marks) ≤ calls_in c)

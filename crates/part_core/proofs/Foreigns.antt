@@ -24,7 +24,7 @@ use Rattle.part_core.proofs.CellLaws.{In-cell_of_call, admit_cases}
 use Rattle.part_core.proofs.PartSteps.{In-first_to_close}
 use Rattle.part_core.proofs.PartWrites.{open_stage, updated_not_open, at_found_or_first}
 
--- each cell changes and has the same number
+-- each cell changes and keeps its number
 pub total-each_cell : (w : ActorCell → ℕ) (f : ActorCell → CellStep) (cs : List ActorCell) → ((c : ActorCell) → w (f c).cell ≡ w c) → total w (each_cell f cs).cells ≡ total w cs
 total-each_cell w f [] k = refl
 total-each_cell w f (c ∷ cs) k = let more = total-each_cell w f cs k in let h = k c in omega arith
@@ -38,7 +38,7 @@ module _ (owner : PlacementTable → ActorKey → Option HostInfo) (p : PartStat
       go true e = sym (ne_eqb (1 + total_foreign owner p cs) 0 (λ z. absurd (omega arith)))
       go false e = let z : total_foreign owner p cs ≡ 0 + total_foreign owner p cs = omega arith in e ∙ ap (λ (n : ℕ). n == 0) z
 
-  -- a part is drained exactly where the count is 0
+  -- a part is drained exactly if the count is 0
   module _ (n : ℕ) (e : n ≡ total_foreign owner p p.cells) where
     pub dry : n ≡ 0 → is_drained owner p ≡ true
     dry z = drained-foreign p.cells ∙ ap (λ (m : ℕ). m == 0) (sym e ∙ z)
@@ -48,7 +48,7 @@ module _ (owner : PlacementTable → ActorKey → Option HostInfo) (p : PartStat
 
   -- ---- one cell is written
 
-  -- one that isn't kept isn't active
+  -- a cell that isn't kept isn't active
   idle : (x : ActorCell) → is_kept x ≡ false → foreign_in owner p x ≡ 0
   idle x e = elim (cases_Bool x.active) [
     | inl t ↦ absurd (true≢false (sym (ap (λ (b : Bool). b || nat_lt 0 (length x.inner.line)) t) ∙ e))
@@ -56,14 +56,14 @@ module _ (owner : PlacementTable → ActorKey → Option HostInfo) (p : PartStat
   ]
 
   module _ (s : IsPartSound owner p) where
-    -- as active as before
+    -- the cell is active exactly if it was before
     rewritten : (c x : ActorCell) → In c p.cells → x.key ≡ c.key → x.active ≡ c.active → total_foreign owner p (keep_cell p.cells x) ≡ total_foreign owner p p.cells
     rewritten c x i k a =
         let same : foreign_in owner p x ≡ foreign_in owner p c = λ j. if a j && is_foreign owner p (k j) then 1 else 0 in
         let t = total-keep-changed (foreign_in owner p) p.cells x (idle x) c (ap (cell_at p.cells) k ∙ at-In p.cells c s.in_order i) s.in_order in
         omega arith
 
-    -- a first one, or one that was found
+    -- a first cell, or one that was found
     written : (key : ActorKey) (found : Option ActorCell) → cell_at p.cells key ≡ found → (x : ActorCell) → x.key ≡ (found_or_first p key found).key → x.active ≡ (found_or_first p key found).active
         → total_foreign owner p (keep_cell p.cells x) ≡ total_foreign owner p p.cells
     written key None e x k a =
@@ -74,7 +74,7 @@ module _ (owner : PlacementTable → ActorKey → Option HostInfo) (p : PartStat
 
     -- ---- events
 
-    -- as many as before
+    -- there are as many as before
     abbrev pub IsSteady : PartStep → Type 0
     IsSteady x = total_foreign owner p x.part.cells ≡ total_foreign owner p p.cells
 
@@ -152,7 +152,7 @@ module _ (owner : PlacementTable → ActorKey → Option HostInfo) (p : PartStat
 
     -- ---- the end of a deactivation
 
-    -- one less, where it was a foreign one
+    -- one less, if the actor was foreign
     pub closes_foreign : p.stage ≡ Updated → (key : ActorKey) (found : Option ActorCell) → cell_at p.cells key ≡ found
         → total_foreign owner p (Part.closed_cell owner p found).part.cells + (if is_closed (Part.closed_cell owner p found).reply && is_foreign owner p key then 1 else 0) ≡ total_foreign owner p p.cells
     closes_foreign up key None f = omega arith

@@ -20,7 +20,7 @@ has-cell_of_call (d ∷ cs) call c e =
     cond_both (is_in_cell call d.inner) _ _ (λ r. r ≡ Some c → is_in_cell call c.inner ≡ true)
     (λ t q. let s : d ≡ c = cc in ap (λ (z : ActorCell). is_in_cell call z.inner) (sym s) ∙ t) (λ _ q. more q) e
 
--- where no cell has the call, each of them lacks it
+-- if no cell with the call is found, each of the cells lacks it
 pub none_has : (cs : List ActorCell) (call : ℕ) → cell_of_call cs call ≡ None → (c : ActorCell) → In c cs → is_in_cell call c.inner ≡ false
 none_has [] call e c i = absurd i
 none_has (d ∷ cs) call e c i =
@@ -30,7 +30,7 @@ none_has (d ∷ cs) call e c i =
     (λ f q. elim i [ inl s ↦ ap (λ (z : ActorCell). is_in_cell call z.inner) s ∙ f | inr j ↦ more q c j ])
     e
 
--- a cell that was taken is put back as it was
+-- putting a taken cell back as it was gives the same cells
 pub put_same : (cs : List ActorCell) (key : ActorKey) (c : ActorCell) → AreInOrder cs → cell_at cs key ≡ Some c → put_cell (drop_cell cs key) c ≡ cs
 put_same cs key c o e =
     let k = key-cell_at cs key c e in

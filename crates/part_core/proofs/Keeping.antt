@@ -16,7 +16,7 @@ use Rattle.part_core.specs.Actors.{IsOfEachCall, IsNumbered, IsIndexed, AreActor
 use Rattle.part_core.proofs.Numbers.{numbered_more}
 use Rattle.part_core.proofs.OfCalls.{of_call, each_more}
 
--- a cell is anew, and the others are as they were; `gone` calls of its key are no longer there
+-- one cell is replaced, and the others are as they were; the `gone` calls that its key had are no longer counted
 pub record IsChanged (cells : List ActorCell) (gone : ℕ) (x : ActorCell) (new : List ActorCell) : Type 0 where
   pub in_order : AreInOrder new
   pub each : (d : ActorCell) → In d new → (d ≡ x) ⊎ (In d cells × (same_key x.key d.key ≡ false))
@@ -112,7 +112,7 @@ module _ (drawn size count room : ℕ) (look : ℕ → Option ActorKey) (cells :
         kept_changed drawn' size' count room' (calls_in c) look x (keep_cell cells x) (changed_keep cells x k.in_order c e) n own (λ d i _. k.indexed d i)
         more fits (omega arith) (let h = k.count_drawn in omega arith) has same fits_still
 
-    -- a call leaves its cell, and the index where it is no longer there
+    -- a call leaves its cell, and the index unless the cell still has it
     pub kept_left : (call count' room' : ℕ) (look' : ℕ → Option ActorKey) → is_in_cell call c.inner ≡ true → x.key ≡ c.key → IsNumbered drawn x.inner → IsIndexed look x
         → calls_in x + 1 ≡ calls_in c → count' + 1 ≡ count → count' ≤ room'
         → (is_in_cell call x.inner ≡ true → look' call ≡ look call) → ((n : ℕ) → (n ≡ call → ⊥) → look' n ≡ look n)

@@ -1,4 +1,4 @@
--- Worked examples of what marks tell and which replies refuse. The first host of a table owns every actor here.
+-- Worked examples of what marks say and which replies refuse. The first host of a table owns every actor here.
 use Rattle.std.proofs.Common.{◌≡◌, true, false, List, [], ◌∷◌, ◌++◌, Option, None, Some, refl}
 use Rattle.actor_names.specs.declared.actor_key.ActorKey.{ActorKey}
 use Rattle.actor_names.specs.Names.{default_space}
@@ -36,7 +36,7 @@ owner t k = first_host t.hosts
 abbrev fresh : PartState
 fresh = new_part a 0 []
 
--- a part opens, two callers ask one actor and one another, and the first turn ends
+-- a part opens, two callers ask one actor and a third asks another, and the first turn ends
 abbrev handed_over : List PartEvent
 handed_over =
     events.Lock 1 ∷ events.Update table 7 ∷ events.Unlock 1 ∷ events.Ask key None 8 ∷ events.Ask key None 8 ∷ events.Ask other None 8 ∷ events.End 1 9 ∷ []
@@ -60,7 +60,7 @@ second_in_cell = refl
 stop_ends_all : replay (marks_after owner fresh stopped) key no_activity ≡ no_activity
 stop_ends_all = refl
 
--- a missing host refuses a call that is asked; a poll is told of it, and the moved call is forgotten
+-- NoHost refuses a call that is asked, but not a poll: there it says that the moved call is forgotten
 no_host_refuses_ask : refuses (events.Ask key None 8) (replies.NoHost 1) ≡ true
 no_host_refuses_ask = refl
 

@@ -54,7 +54,7 @@ numbered_gives n old new chain may_begin (Err (deny.Depth turns)) g k = rw g.1 (
 numbered_gives n old new chain may_begin (Err (deny.QueueFull m)) g k = rw g.1 (numbered_asked n old chain may_begin k)
 numbered_gives n old new chain may_begin (Err deny.OutOfMemory) g k = rw g (numbered_more n (n + 1) old (omega arith) k)
 
--- the first call of the line begins
+-- the first call of the queue begins
 pub numbered_next : (n : ℕ) (c : CellState) (next : Option Waiter) → ((w : Waiter) → next ≡ Some w → In w c.line) → IsNumbered n c → IsNumbered n (begun_next c next)
 numbered_next n c None here k = k
 numbered_next n c (Some w) here k =

@@ -1,4 +1,4 @@
--- What is so of each call of a cell, through each change of the cell.
+-- A property of each call of a cell, through each change of the cell.
 use Rattle.std.proofs.Common.{◌≡◌, ℕ, Bool, true, List, [], ◌∷◌, ◌++◌, Option, None, Some, is_some, refl, sym, ap, subst, ◌∙◌, inl, inr}
 use Rattle.std.specs.Prelude.{◌==◌, false}
 use Rattle.std.proofs.lemmas.Bool.{cond_both, or_cases, or_left, or_right, eqb-true, eq-eqb, false≢true}
@@ -56,7 +56,7 @@ module _ (P : ℕ → Type 0) where
       (λ _ q. more q)
       e
 
-  -- it is so of a call that the cell has
+  -- the property holds of a call that the cell has
   pub of_call : (n : ℕ) (c : CellState) → IsOfEachCall P c → is_in_cell n c ≡ true → P n
   of_call n c k e =
       elim (or_cases (has_turn n c.turns) (is_some (waiter_of n c.line)) e) [
@@ -129,7 +129,7 @@ module _ (P : ℕ → Type 0) where
   pub each_stopped : (c : CellState) → IsOfEachCall P c → IsOfEachCall P (without_turns c)
   each_stopped c k = record { open_turns = λ t i. absurd i; waiters = k.waiters }
 
--- what is so of each call, and brings something else of a call of the cell
+-- a property of each call that implies another one for the calls of the cell
 pub each_more : (P Q : ℕ → Type 0) (c : CellState) → ((n : ℕ) → is_in_cell n c ≡ true → P n → Q n) → IsOfEachCall P c → IsOfEachCall Q c
 each_more P Q c f k =
     record {

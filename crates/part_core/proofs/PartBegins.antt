@@ -1,4 +1,4 @@
--- Which turns a step begins: in an open part those of own actors, else those beside an open turn of their chain.
+-- Which turns a step begins: those of own actors in an open part, or those beside an open turn of their chain.
 use Rattle.std.proofs.Common.{◌≡◌, ◌⊎◌, ℕ, Bool, true, false, not, ◌&&◌, ◌+◌, List, [], ◌∷◌, ◌++◌, Option, None, Some, refl, sym, ap, ◌∙◌, subst, inl, inr}
 use Rattle.std.specs.Prelude.{nat_lt, ◌==◌}
 use Rattle.std.proofs.lemmas.Bool.{and_parts, cond_both, false≢true}
@@ -79,7 +79,7 @@ module _ (owner : PlacementTable → ActorKey → Option HostInfo) where
       let same = (begun_by a key k v w.call call w.chain chain i).0 in
       inl (h.0, subst (λ (z : ActorKey). is_own owner q z ≡ true) same h.1)
 
-  -- where the next call begins, the test for it holds
+  -- if the next call begins, the test for it holds
   next_test : (b : Bool) (c : CellState) (w : Waiter) → next_call b c ≡ Some w → b ≡ true
   next_test b c w e = next_cases b c (λ (r : Option Waiter). r ≡ Some w → b ≡ true) (λ _ q. absurd (cc)) (λ m _ _ _ _. m) e
 

@@ -1,4 +1,4 @@
--- Over every list of events: a part stays sound, its versions stay tied, and an open part's active actors are its own.
+-- For every list of events: a part stays sound, its versions stay tied, and an open part's active actors are its own.
 use Rattle.std.proofs.Common.{◌≡◌, ℕ, true, false, not, ◌&&◌, List, [], ◌∷◌, Option, refl, sym, ap, ◌∙◌, subst, inl, inr, arith}
 use Rattle.std.proofs.lemmas.Bool.{and_parts, and_from, and_cases, cond_both, cond-true, cases_Bool, true≢false, not-true, not-false}
 use Rattle.actor_names.specs.declared.actor_key.ActorKey.{ActorKey}
@@ -130,7 +130,7 @@ module _ (owner : PlacementTable → ActorKey → Option HostInfo) where
   moves_own p e q s (opens was dry stage seen opened table heard) h = owns_of q.stage q (λ o. stepped_owns p e q s table (drained_owns p p.cells dry))
   moves_own p e q s (stops stage seen opened table none heard) h = owns_of q.stage q (λ o. absurd (let w = sym stage ∙ o in cc))
 
-  -- a receipt says Drained only of a part that is
+  -- a receipt says Drained only of a part that is drained
   pub truly_drained : (p : PartState) (s : Stage) → p.stage ≡ s → seen_stage owner p s ≡ seen.Drained → IsTrulyDrained owner p
   truly_drained p Locked e d = absurd (cc)
   truly_drained p Updated e d =
@@ -140,7 +140,7 @@ module _ (owner : PlacementTable → ActorKey → Option HostInfo) where
   truly_drained p Open e d = absurd (cc)
   truly_drained p Stopped e d = absurd (cc)
 
-  -- and says so of each that is
+  -- and it says so of each part that is
   pub owns_drained : (p : PartState) (cs : List ActorCell) → ((c : ActorCell) → In c cs → c.active ≡ true → is_own owner p c.key ≡ true) → no_active_foreign owner p cs ≡ true
   owns_drained p [] h = refl
   owns_drained p (d ∷ cs) h =

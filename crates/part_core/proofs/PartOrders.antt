@@ -1,4 +1,4 @@
--- What changes of a part's cells keep: the order of the keys, how many holds there are, and where elements come from.
+-- What changes of a part's cells keep: the order of the keys, the number of holds, and where elements come from.
 use Rattle.std.proofs.Common.{◌≡◌, true, ◌+◌, ◌≤◌, List, [], ◌∷◌, refl, sym, ap, subst, ◌∙◌, inl, inr, arith}
 use Rattle.std.proofs.lemmas.Bool.{cond_both, cond-true}
 use Rattle.actor_names.specs.declared.actor_key.ActorKey.{ActorKey}
@@ -42,7 +42,7 @@ total_holds-drop (c ∷ cs) key =
     let more = total_holds-drop cs key in
     cond_both (same_key key c.key) _ _ (λ r. total_holds r ≤ total_holds (c ∷ cs)) (λ _. omega arith) (λ _. omega arith)
 
--- beside the holds of a cell there are those of the others
+-- the holds of one cell and those of the others are at most all of them
 pub total_holds-others : (cs : List ActorCell) (c : ActorCell) → In c cs → total_holds (drop_cell cs c.key) + c.inner.holds ≤ total_holds cs
 total_holds-others [] c i = absurd i
 total_holds-others (d ∷ cs) c (inl e) =

@@ -1,4 +1,4 @@
--- Each step of a part leaves its cells as its marks tell.
+-- Each step of a part leaves its cells as its marks say.
 use Rattle.std.proofs.Common.{◌≡◌, ℕ, Bool, true, false, not, ◌&&◌, ◌||◌, ◌+◌, List, [], ◌∷◌, ◌++◌, Option, Some, refl, sym, ap, ◌∙◌, subst, inl, inr}
 use Rattle.std.specs.Prelude.{nat_lt, ◌==◌}
 use Rattle.std.proofs.lemmas.Bool.{eq-eqb, cond_both, cond-true, cond-false, false≢true, cases_Bool}
@@ -68,7 +68,7 @@ inactive_replay false key = refl
 
 -- ---- every cell at once
 
--- the marks of a cell's step tell what it came to
+-- the marks of a cell's step say what it became
 pub record TellsWell (v : ℕ) (c : ActorCell) (s : CellStep) : Type 0 where
   pub key : s.cell.key ≡ c.key
   pub depth : s.cell.inner.depth ≡ c.inner.depth
@@ -306,6 +306,6 @@ module _ (owner : PlacementTable → ActorKey → Option HostInfo) where
   replays_at p Updated e s = running_replays p e s
   replays_at p Open e s = running_replays p e s
 
-  -- the marks of every step of a sound part tell what its cells came to
+  -- the marks of every step of a sound part say what its cells became
   pub part_replays : (p : PartState) (e : PartEvent) → IsPartSound owner p → StepReplays owner e p (part_step owner p e)
   part_replays p e s = replays_at p p.stage e s

@@ -141,7 +141,7 @@ module _ (owner : PlacementTable → ActorKey → Option HostInfo) where
           }))
           (λ _. stays owner p e s)
 
-  -- where a call may begin in a cell, and none is open there
+  -- when a call may begin in a cell in which none is open
   pub begins_where : (p : PartState) (c : ActorCell) → may_begin owner p c ≡ true → (p.stage ≡ Open) × (is_own owner p c.key ≡ true) × (c.closing ≡ false)
   begins_where p c m =
       let h = and_parts (is_open p.stage && is_own owner p c.key) (not c.closing) m in

@@ -1,4 +1,4 @@
--- What tables, time and the end keep of a part, and with that what every step keeps.
+-- What tables, time and the stop keep of a part, and with that what every step keeps.
 use Rattle.std.proofs.Common.{◌≡◌, ◌⊎◌, ℕ, true, not, ◌&&◌, ◌+◌, List, Option, refl, sym, ap, ◌∙◌, subst, inl, inr, arith}
 use Rattle.std.specs.Prelude.{nat_lt, ◌==◌}
 use Rattle.std.proofs.lemmas.Bool.{or_left, and_parts, eqb-true, ltb-true, cond_both, true≢false, not-true}
@@ -74,7 +74,7 @@ module _ (owner : PlacementTable → ActorKey → Option HostInfo) where
       })
       (λ _. stays owner p _ s)
 
-  -- what a cell comes to as the part opens
+  -- what a cell becomes when the part opens
   pub record OpensWell (p : PartState) (d c : ActorCell) : Type 0 where
     pub key : c.key ≡ d.key
     pub active : c.active ≡ true → (d.active ≡ true) ⊎ (is_own owner p c.key ≡ true)
@@ -171,7 +171,7 @@ module _ (owner : PlacementTable → ActorKey → Option HostInfo) where
 
   -- ---- time, and the end
 
-  -- what a cell comes to by a tick
+  -- what a cell becomes by a tick
   pub record TicksWell (d c : ActorCell) : Type 0 where
     pub key : c.key ≡ d.key
     pub active : c.active ≡ d.active

@@ -1,4 +1,4 @@
--- What replies tell: receipts are those of the new state, and a refused event leaves the part as it was.
+-- What replies say: receipts are those of the new state, and a refused event leaves the part as it was.
 use Rattle.std.proofs.Common.{◌≡◌, ℕ, Bool, true, false, not, ◌&&◌, List, [], Option, None, Some, refl}
 use Rattle.std.specs.Prelude.{nat_lt, ◌==◌}
 use Rattle.std.specs.declared.result.Result.{Result}
@@ -30,7 +30,7 @@ use Rattle.part_core.specs.Sound.{TellsState}
 use Rattle.part_core.specs.PartRuns.{is_refusal, refuses_ask, refuses, LeavesAsWas}
 
 module _ (owner : PlacementTable → ActorKey → Option HostInfo) where
-  -- the reply's receipt is that of the new state, and where it refuses nothing changed
+  -- the reply's receipt is that of the new state, and if the reply refuses, nothing changed
   pub record IsHonest (r : PartReply → Bool) (p : PartState) (s : PartStep) : Type 0 where
     pub tells : TellsState owner s.reply s.part
     pub as_was : r s.reply ≡ true → LeavesAsWas p s

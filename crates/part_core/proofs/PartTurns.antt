@@ -1,4 +1,4 @@
--- Over every list of events the marks of a part tell its cells, and the turns of each actor are isolated.
+-- For every list of events the marks of a part say what its cells are, and the turns of each actor are isolated.
 use Rattle.std.proofs.Common.{◌≡◌, ℕ, zero, suc, Bool, true, false, cond, ◌+◌, ◌<◌, ◌≤◌, List, [], ◌∷◌, ◌++◌, length, Option, None, Some, refl, sym, ap, ◌∙◌, subst, inl, inr, arith, length-append}
 use Rattle.std.specs.Prelude.{nat_lt, is_some}
 use Rattle.std.proofs.lemmas.Bool.{lt-ltb, cond_both, cases_Bool}
@@ -43,7 +43,7 @@ turn_marks-append k (BecameActive key version ∷ xs) ys = turn_marks-append k x
 turn_marks-append k (BecameInactive key ∷ xs) ys = turn_marks-append k xs ys
 turn_marks-append k (PartOpened number version ∷ xs) ys = turn_marks-append k xs ys
 
--- they tell the open turns
+-- they say which turns are open
 open_turns : (k : ActorKey) (ms : List PartMark) (a : Activity) → open_after a.turns (turn_marks k ms) ≡ (replay ms k a).turns
 open_turns k [] a = refl
 open_turns k (TurnBegan key call chain ∷ ms) a =
@@ -74,7 +74,7 @@ open_turns k (PartOpened number version ∷ ms) a = open_turns k ms a
 
 -- ---- turns enter beside those of their own chain
 
--- open turns of one chain, within the depth, with a chain where they need one
+-- open turns of one chain, within the depth, with a chain exactly if reentrancy is on
 pub record AreTurnsSound (depth : ℕ) (ts : List Turn) : Type 0 where
   pub one_chain : (t u : Turn) → In t ts → In u ts → t.chain ≡ u.chain
   pub within : length ts ≤ most_turns depth
@@ -155,7 +155,7 @@ module _ (owner : PlacementTable → ActorKey → Option HostInfo) where
 
   -- ---- lists of events
 
-  -- the marks tell every cell
+  -- the marks say what every cell is
   pub run_told : (p : PartState) (es : List PartEvent) (k : ActorKey) → IsPartSound owner p → activity_of (cell_at (part_after owner p es).cells k) ≡ replay (marks_after owner p es) k (activity_of (cell_at p.cells k))
   run_told p [] k s = refl
   run_told p (e ∷ es) k s =

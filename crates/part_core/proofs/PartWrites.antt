@@ -1,4 +1,4 @@
--- What a part keeps where nothing changes, or one cell is written.
+-- What a part keeps if nothing changes, or if one cell is written.
 use Rattle.std.proofs.Common.{◌≡◌, ◌⊎◌, ℕ, Bool, true, false, ◌||◌, ◌+◌, ◌≤◌, [], Option, None, Some, refl, sym, ◌∙◌, subst, inl, inr, arith}
 use Rattle.std.specs.Prelude.{nat_lt}
 use Rattle.std.proofs.lemmas.Bool.{false≢true}
@@ -132,7 +132,7 @@ module _ (owner : PlacementTable → ActorKey → Option HostInfo) where
 
   -- ---- one cell changes
 
-  -- what is owed of a cell that is written, where n numbers are drawn then
+  -- what must hold of a cell that is written, if n numbers are then drawn
   pub record IsWritten (p : PartState) (x : ActorCell) (n : ℕ) : Type 0 where
     pub sound : IsActorSound x
     pub comes : x.active ≡ true → HadActive p x.key ⊎ ((p.stage ≡ Open) × (is_own owner p x.key ≡ true))

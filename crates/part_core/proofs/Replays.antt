@@ -1,4 +1,4 @@
--- Marks replayed from what a part's cells were give what they are: look-ups after changes, and lists of marks.
+-- Replaying marks from the cells as they were gives the cells as they are: look-ups after changes, and lists of marks.
 use Rattle.std.proofs.Common.{◌≡◌, ◌⊎◌, ℕ, Bool, true, false, cond, List, [], ◌∷◌, ◌++◌, Option, None, Some, refl, sym, ap, ◌∙◌, subst, inl, inr}
 use Rattle.std.proofs.lemmas.Bool.{or_parts, cond_both, cond-true, cond-false, false≢true, true≢false, cases_Bool}
 use Rattle.actor_names.specs.declared.actor_key.ActorKey.{ActorKey}
@@ -190,7 +190,7 @@ still_active_mark (BecameActive a v) k h e away = cond_both (same_key k a) _ _ (
 still_active_mark (BecameInactive a) k h e away = cond_both (same_key k a) _ _ (λ (r : Activity). r.active ≡ true) (λ t. absurd (away t)) (λ _. e)
 still_active_mark (PartOpened i v) k h e away = e
 
--- an actor that is active stays so where it doesn't become inactive
+-- an active actor stays active if it doesn't become inactive
 pub still_active : (xs : List PartMark) (k : ActorKey) (h : Activity) → h.active ≡ true → ((y : PartMark) → In y xs → is_inactive_of y k ≡ true → ⊥) → (replay xs k h).active ≡ true
 still_active [] k h e away = e
 still_active (x ∷ xs) k h e away = still_active xs k _ (still_active_mark x k h e (away x (inl refl))) (λ y i. away y (inr i))

@@ -75,7 +75,7 @@ ask k = events.Ask k None 5
 abbrev shown : ℕ → ℕ → SeenStage → ReceiptState
 shown version opened stage = record { member = a; part = 3; version = version; opened = opened; stage = stage }
 
--- a round of the first table, as far as its unlock
+-- a round of the first table, up to its unlock
 abbrev updated : List PartEvent
 updated = events.Lock 1 ∷ events.Update table_1 7 ∷ []
 
@@ -99,7 +99,7 @@ updates = refl
 opens : reply_after updated (events.Unlock 1) ≡ replies.Opened (shown 1 1 seen.Open) 0 0
 opens = refl
 
--- a table of another version is not taken up, and another unlock opens nothing
+-- a table of another version is not installed, and another unlock opens nothing
 other_table_stays : reply_after (events.Lock 2 ∷ []) (events.Update table_1 7) ≡ replies.TableStep (shown 2 0 seen.Locked) false
 other_table_stays = refl
 
@@ -161,7 +161,7 @@ foreign_actor_closes = refl
 is_drained_now : reply_after (moving ++ events.End 1 21 ∷ events.TakeClosing 21 ∷ events.Closed key ∷ []) (events.Tick 22) ≡ replies.Ticked (shown 2 1 seen.Drained) 0
 is_drained_now = refl
 
--- the call that still waited is moved, and told where to go
+-- the call that still waited is moved, and its poll says where to go
 abbrev moved : List PartEvent
 moved = moving ++ events.End 1 21 ∷ events.TakeClosing 21 ∷ events.Closed key ∷ events.Unlock 2 ∷ []
 

@@ -14,6 +14,6 @@ shallow_or found (t ∷ ts) kind f a =
     (cond_both (bytes_eq t.kind kind) _ _ (λ (s : TypeSettings). s.depth ≤ greatest_depth) (λ _. All-head (λ (s : TypeSettings). s.depth ≤ greatest_depth) t ts a) (λ _. f))
     (All-tail (λ (s : TypeSettings). s.depth ≤ greatest_depth) t ts a)
 
--- the depth of each type is in range where those listed are
+-- the depth of each type is in range if the listed ones are
 pub shallow_of : (ts : List TypeSettings) (kind : List ℕ) → AreShallow ts → (settings_of ts kind).depth ≤ greatest_depth
 shallow_of ts kind a = shallow_or (default_settings kind) ts kind (omega arith) a

@@ -1,4 +1,4 @@
--- What each step of a part keeps and tells, by what it gives.
+-- What each step of a part keeps and reports, by what it gives.
 use Rattle.std.proofs.Common.{ap}
 use Rattle.part_core.specs.declared.event.PartEvent.{PartEvent}
 use Rattle.part_core.specs.declared.event.PartEvent.TheVariants as events

@@ -1,4 +1,4 @@
--- A cell that was taken out of cells in order, and what is left of them.
+-- A cell that was taken out of cells in order, and the cells that are left.
 use Rattle.std.proofs.Common.{◌≡◌, ℕ, true, ◌+◌, ◌≤◌, List, length, Some, sym, ap, ◌∙◌}
 use Rattle.actor_names.specs.declared.actor_key.ActorKey.{ActorKey}
 use Rattle.turn_core.specs.Cell.{is_in_cell}
@@ -15,7 +15,7 @@ use Rattle.part_core.specs.Actors.{without_taken}
 use Rattle.part_core.proofs.CellLaws.{In-cell_of_call}
 use Rattle.part_core.proofs.Founds.{has-cell_of_call}
 
--- the cell stands at its key, and the rest is put together again by it
+-- the cell is found at its key, and putting it back into the rest gives all cells again
 pub record IsTaken (cells : List ActorCell) (c : ActorCell) (rest : List ActorCell) : Type 0 where
   pub found : cell_at cells c.key ≡ Some c
   pub inside : In c cells
@@ -42,14 +42,14 @@ module _ (cells : List ActorCell) (o : AreInOrder cells) where
         within = within_total calls_in cells c (In-cell_at cells c.key c e);
       }
 
-  -- by its key: the node's cell, and what the node is lent as
+  -- taken by its key: the node's cell, and the node as it is lent
   pub taken : (key : ActorKey) (rest : List ActorCell) (n m : Node) → Some n.cell ≡ cell_at cells key → m ≡ n → rest ≡ drop_cell cells key → IsTaken cells m.cell rest
   taken key rest n m e same r =
       let s : m.cell ≡ n.cell = ap (λ (z : Node). z.cell) same in
       let k : m.cell.key ≡ key = ap (λ (z : ActorCell). z.key) s ∙ key-cell_at cells key n.cell (sym e) in
       rw (r, ← k) (dropped m.cell (ap (cell_at cells) k ∙ sym e ∙ ap (λ (z : ActorCell). Some z) (sym s)))
 
-  -- by one of its calls
+  -- taken by one of its calls
   module _ (call : ℕ) (rest : List ActorCell) (n m : Node) (e : Some n.cell ≡ cell_of_call cells call) (same : m ≡ n) (r : rest ≡ without_taken cells (cell_of_call cells call)) where
     pub of_call : cell_of_call cells call ≡ Some m.cell
     of_call = sym e ∙ ap (λ (z : Node). Some z.cell) (sym same)

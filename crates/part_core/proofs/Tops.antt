@@ -13,7 +13,7 @@ use Rattle.part_core.proofs.EachCell.{length-fork}
 pub no_cells : {root : Root} {xs : List ActorCell} → root_cells root ≡ xs → root ≡ Empty → xs ≡ []
 no_cells view_is is = sym view_is ∙ ap root_cells is
 
--- the node that the top is, and what it is lent as
+-- the node at the top, and the node as it is lent
 pub forked : {root : Root} {xs : List ActorCell} {n : Box Node Global} (m : Node) → root_cells root ≡ xs → root ≡ Full n → m ≡ n.value → xs ≡ m.left ++ m.cell ∷ m.right
 forked m view_is is same = sym view_is ∙ ap root_cells is ∙ (λ i. (sym same i).left ++ (sym same i).cell ∷ (sym same i).right)
 
@@ -25,7 +25,7 @@ right_shorter m e = let n = ap (λ (l : List ActorCell). length l) e in let f = 
 
 -- ---- a pass that stops
 
--- the first that may be taken, if there is one
+-- the first cell that may be taken, if there is one
 abbrev pub or_else : Option ActorCell → Option ActorCell → Option ActorCell
 or_else None later = later
 or_else (Some c) later = Some c

@@ -1,4 +1,4 @@
--- What marks tell of an actor: whether it is active, and its open turns; and what the marks of one step are. Own.
+-- What marks say about an actor: whether it is active, and its open turns; and what the marks of one step are. Own.
 use Rattle.std.specs.Prelude.{◌≡◌, ◌⊎◌, ℕ, Bool, true, false, if◌then◌else◌, List, [], ◌∷◌, ◌++◌, Option, None, Some}
 use Rattle.actor_names.specs.declared.actor_key.ActorKey.{ActorKey}
 use Rattle.turn_core.specs.declared.cell.Turn.{Turn}
@@ -24,12 +24,12 @@ no_activity = record { active = false; turns = [] }
 abbrev pub activity_in : ActorCell → Activity
 activity_in c = record { active = c.active; turns = c.inner.turns }
 
--- of an actor's cell, where it has one
+-- the activity that an actor's cell shows, if it has one
 abbrev pub activity_of : Option ActorCell → Activity
 activity_of None = no_activity
 activity_of (Some c) = activity_in c
 
--- after a mark of the actor itself
+-- the activity after a mark of the actor itself
 abbrev pub after_mark : PartMark → Activity → Activity
 after_mark (TurnBegan key call chain) a = record { active = a.active; turns = a.turns ++ record { call = call; chain = chain } ∷ [] }
 after_mark (TurnEnded key call) a = record { active = a.active; turns = without_turn call a.turns }
@@ -64,7 +64,7 @@ abbrev pub is_inactive_of : PartMark → ActorKey → Bool
 is_inactive_of (BecameInactive key) k = same_key k key
 is_inactive_of _ k = false
 
--- nothing of the actor follows the begin of its turn, and it doesn't become inactive after it became active
+-- no mark of the actor follows the beginning of its turn, and it doesn't become inactive after it became active
 abbrev pub IsLastWord : PartMark → List PartMark → Type 0
 IsLastWord (TurnBegan key call chain) ms = (m : PartMark) → In m ms → is_mark_of m key ≡ true → ⊥
 IsLastWord (BecameActive key version) ms = (m : PartMark) → In m ms → is_inactive_of m key ≡ true → ⊥
@@ -76,7 +76,7 @@ abbrev pub AreTidy : List PartMark → Type 0
 AreTidy [] = Unit {0}
 AreTidy (m ∷ ms) = IsLastWord m ms × AreTidy ms
 
--- actors become active by this version, and no part opens
+-- actors become active at this version, and no part opens
 abbrev pub IsAtVersion : ℕ → PartMark → Type 0
 IsAtVersion v (BecameActive key version) = version ≡ v
 IsAtVersion v (PartOpened number version) = ⊥
@@ -90,7 +90,7 @@ AreAt v (m ∷ ms) = IsAtVersion v m × AreAt v ms
 abbrev pub AreCalm : List PartMark → Type 0
 AreCalm ms = (m : PartMark) (k : ActorKey) → In m ms → is_inactive_of m k ≡ true → ⊥
 
--- the event asks the actor
+-- the event is an Ask or AskAt of the actor
 abbrev pub IsAsked : PartEvent → ActorKey → Type 0
 IsAsked (events.Ask key chain now) k = key ≡ k
 IsAsked (events.AskAt key chain least now) k = key ≡ k
@@ -105,7 +105,7 @@ abbrev pub IsFromCell : PartEvent → PartState → ActorCell → Type 0
 IsFromCell e p x =
     ((c : ActorCell) × In c p.cells × (c.key ≡ x.key) × (c.inner.depth ≡ x.inner.depth)) ⊎ (IsAsked e x.key × ((settings_of p.kinds x.key.kind).depth ≡ x.inner.depth))
 
--- The marks of a step from p to q tell what its cells came to. A step that opens the part says so first.
+-- The marks of a step from p to q say what its cells became. A step that opens the part says so first.
 pub record Replays (e : PartEvent) (p q : PartState) (marks : List PartMark) : Type 0 where
   pub activity : (k : ActorKey) → activity_of (cell_at q.cells k) ≡ replay marks k (activity_of (cell_at p.cells k))
   pub cells : (c : ActorCell) → In c q.cells → IsFromCell e p c

@@ -27,7 +27,7 @@ pub record ActorsState : Type 0 where
 abbrev pub no_actors : ActorsState
 no_actors = record { drawn = 0; cells = []; recent = [] }
 
--- the part of these actors
+-- the part with this standing and these actors
 abbrev pub state_of : Standing → ActorsState → PartState
 state_of s a =
     record {
@@ -46,7 +46,7 @@ state_of s a =
 abbrev pub view_of : Standing → ActorsState → PartView
 view_of s a = record { state = state_of s a; recent = a.recent }
 
--- one for an active actor of another owner
+-- one for an active actor of another owner, else zero
 abbrev pub foreign_in : (PlacementTable → ActorKey → Option HostInfo) → PartState → ActorCell → ℕ
 foreign_in owner p c = if c.active && is_foreign owner p c.key then 1 else 0
 
@@ -54,7 +54,7 @@ foreign_in owner p c = if c.active && is_foreign owner p c.key then 1 else 0
 abbrev pub total_foreign : (PlacementTable → ActorKey → Option HostInfo) → PartState → List ActorCell → ℕ
 total_foreign owner p = total (foreign_in owner p)
 
--- an updated part keeps how many they are
+-- an updated part keeps their number
 abbrev pub IsForeignCounted : Standing → List ActorCell → Type 0
 IsForeignCounted s cells = is_updated s.stage ≡ true → s.foreign ≡ total_foreign ring_owner (state_of s no_actors) cells
 
@@ -65,26 +65,27 @@ pub record IsStandingKept (s : Standing) (a : ActorsState) : Type 0 where
   pub opened_fits : s.opened ≤ 2 ^ 62
   pub counted : IsForeignCounted s a.cells
 
--- the number of each call of a cell was drawn, and a number for each hold
+-- the number of each call of a cell is at most the last number drawn, and so is the count of holds
 pub record IsNumbered (drawn : ℕ) (c : CellState) : Type 0 where
   pub open_turns : (t : Turn) → In t c.turns → t.call ≤ drawn
   pub waiters : (w : Waiter) → In w c.line → w.call ≤ drawn
   pub held : c.holds ≤ drawn
 
--- so it is of each call of a cell, open or in its line
+-- P holds of each call of a cell, open or in its queue
 pub record IsOfEachCall (P : ℕ → Type 0) (c : CellState) : Type 0 where
   pub open_turns : (t : Turn) → In t c.turns → P t.call
   pub waiters : (w : Waiter) → In w c.line → P w.call
 
--- a look-up of each call of the cell gives the cell's key
+-- the look-up of each call of the cell gives the cell's key
 abbrev pub IsIndexed : (ℕ → Option ActorKey) → ActorCell → Type 0
 IsIndexed look c = IsOfEachCall (λ n. look n ≡ Some c.key) c.inner
 
 abbrev pub AreIndexed : (ℕ → Option ActorKey) → List ActorCell → Type 0
 AreIndexed look cells = (c : ActorCell) → In c cells → IsIndexed look c
 
--- What is kept beside the cells: how many there are, look-ups of their calls, a count of the calls that are open or
--- wait, and room for as many in the list of the last step. A look-up may give a key that no longer has the call.
+-- What is kept beside the cells: how many there are, look-ups of their calls, an upper bound on the number of calls
+-- that are open or wait, and room for as many in the list of the last step. A look-up may give a key that no longer
+-- has the call.
 pub record AreActorsKept (drawn : ℕ) (cells : List ActorCell) (size : ℕ) (look : ℕ → Option ActorKey) (count room : ℕ) : Type 0 where
   pub drawn_fits : drawn ≤ 2 ^ 62
   pub in_order : AreInOrder cells
@@ -98,39 +99,39 @@ pub record AreActorsKept (drawn : ℕ) (cells : List ActorCell) (size : ℕ) (lo
 
 -- ---- a call asked at a cell
 
--- whether the call has begun or waits
+-- whether by this reply the call has begun or waits
 abbrev pub is_accepted : PartReply → Bool
 is_accepted (replies.Begun call chain) = true
 is_accepted (replies.Waits call place) = true
 is_accepted reply = false
 
--- whether a deactivation is over
+-- whether the reply says that a deactivation is over
 abbrev pub is_closed : PartReply → Bool
 is_closed (replies.ClosedDone next) = true
 is_closed reply = false
 
--- the numbers drawn after the reply
+-- how many numbers are drawn after the reply
 abbrev pub drawn_after : ℕ → PartReply → ℕ
 drawn_after n reply = if is_accepted reply then n + 1 else n
 
--- the step of which this is the reply, and `after` the call's cell
+-- the step that has this reply and leaves `after` as the call's cell
 abbrev pub asked_with : PartState → ActorCell → ActorCell → PartReply → PartStep
 asked_with p c after (replies.Begun call chain) =
     record { part = next_drawn (with_cell p after); reply = replies.Begun call chain; marks = marks_of_begin c.active c.key p.opened call chain }
 asked_with p c after (replies.Waits call place) = record { part = next_drawn (with_cell p after); reply = replies.Waits call place; marks = [] }
 asked_with p c after reply = refused p reply
 
--- this is the step in a part of this standing that has drawn so many numbers, or there was no memory
+-- the step is this one in every part with this standing and this many numbers drawn, or memory ran out
 abbrev pub AsksIn : (PartState → PartStep) → Standing → ℕ → ActorCell → ActorCell → PartReply → Type 0
 AsksIn step s drawn c after replies.OutOfMemory = after ≡ c
 AsksIn step s drawn c after reply = (a : ActorsState) → a.drawn ≡ drawn → step (state_of s a) ≡ asked_with (state_of s a) c after reply
 
--- the same of any part
+-- the same for any part
 abbrev pub AsksAtCell : (PartState → PartStep) → ℕ → ActorCell → ActorCell → PartReply → Type 0
 AsksAtCell step drawn c after replies.OutOfMemory = after ≡ c
 AsksAtCell step drawn c after reply = (p : PartState) → p.drawn ≡ drawn → step p ≡ asked_with p c after reply
 
--- the call that has begun, by the reply
+-- the call that has begun by this reply
 abbrev pub begun_in : PartReply → List ℕ
 begun_in (replies.Begun call chain) = call ∷ []
 begun_in reply = []

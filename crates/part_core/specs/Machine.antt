@@ -3,6 +3,6 @@ use Rattle.part_core.specs.declared.event.PartEvent.{PartEvent}
 use Rattle.part_core.specs.declared.event.PartReply.{PartReply}
 use Rattle.part_core.specs.Rooms.{PartView, GivesStep, IsInRange}
 
--- The event is one that the part takes, and reply and part are those of the step.
+-- The event is one that the part takes, and the reply and the new part are those of the step.
 abbrev pub PartAllows : PartView → PartEvent → PartReply → PartView → Type 0
 PartAllows old event reply new = IsInRange event × GivesStep event reply old.state new

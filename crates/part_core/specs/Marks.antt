@@ -13,17 +13,17 @@ pub data PartMark : Type 0 where
   BecameInactive : (key : ActorKey) → PartMark
   PartOpened : (number : ℕ) → (version : ℕ) → PartMark
 
--- A turn begins in a cell; one that wasn't active becomes active, by the version at which its part opened last.
+-- A turn begins in a cell. A cell that wasn't active becomes active, at the version at which its part opened last.
 abbrev pub marks_of_begin : Bool → ActorKey → ℕ → ℕ → Option (List ℕ) → List PartMark
 marks_of_begin true key version call chain = TurnBegan key call chain ∷ []
 marks_of_begin false key version call chain = BecameActive key version ∷ TurnBegan key call chain ∷ []
 
--- the same of a call that was waiting, if there is one
+-- the same for a call that was waiting, if there is one
 abbrev pub marks_of_next : Bool → ActorKey → ℕ → Option Waiter → List PartMark
 marks_of_next active key version None = []
 marks_of_next active key version (Some w) = marks_of_begin active key version w.call w.chain
 
--- open turns end, the one that began first before the others
+-- open turns end, in the order in which they began
 abbrev pub marks_of_ends : ActorKey → List Turn → List PartMark
 marks_of_ends key [] = []
 marks_of_ends key (t ∷ ts) = TurnEnded key t.call ∷ marks_of_ends key ts

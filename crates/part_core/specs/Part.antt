@@ -1,6 +1,6 @@
 -- The part state machine: stages, calls, tables, time and deactivation.
 -- Dapr's placement service spreads its tables by lock, update and unlock, and its runtime drains, deactivates and
--- holds actors; the stages, the line and the order of refusals are own.
+-- holds actors; the stages, the queue and the order of refusals are own additions.
 use Rattle.std.specs.Prelude.{ℕ, ◌+◌, ◌-◌, ◌^◌, Bool, true, false, not, ◌&&◌, ◌||◌, ◌==◌, nat_lt, nat_le, max, if◌then◌else◌, List, [], ◌∷◌, ◌++◌, length, decimal, Option, None, Some, option_map, is_some}
 use Rattle.std.specs.declared.result.Result.{Result}
 use Rattle.std.specs.declared.result.Result.TheVariants.{Ok, Err}
@@ -40,7 +40,7 @@ pub record PartState : Type 0 where
   pub kinds : List TypeSettings
   pub stage : Stage  -- its version is the greatest one seen
   pub seen : ℕ
-  pub opened : ℕ  -- the version at which it opened last, 0 before the first
+  pub opened : ℕ  -- the version at which it opened last, 0 before it first opened
   pub table : PlacementTable
   pub since : ℕ  -- the moment at which the table was installed
   pub drawn : ℕ
@@ -51,14 +51,14 @@ pub record PartStep : Type 0 where
   pub reply : PartReply
   pub marks : List PartMark
 
--- counters end here
+-- the greatest number that can be drawn
 abbrev pub most_drawn : ℕ
 most_drawn = 2 ^ 62
 
 abbrev pub most_cells : ℕ
 most_cells = 65536
 
--- the table of a space before the first round
+-- the empty table of a space, before the first round
 abbrev pub no_table : List ℕ → PlacementTable
 no_table space = record { space = space; version = 0; hosts = [] }
 
@@ -66,7 +66,7 @@ abbrev pub new_part : Member → ℕ → List TypeSettings → PartState
 new_part m number kinds =
     record { member = m; number = number; kinds = kinds; stage = Locked; seen = 0; opened = 0; table = no_table m.space; since = 0; drawn = 0; cells = [] }
 
--- the host that owns an actor in a table, by the ring; no proof looks into it
+-- the host that owns an actor in a table, by the ring; a proof sees into it only if it unfolds it
 unfoldable pub ring_owner : PlacementTable → ActorKey → Option HostInfo
 ring_owner table key = table_owner table key
 
@@ -101,13 +101,13 @@ is_spent p = nat_le most_drawn p.drawn
 abbrev pub refused : PartState → PartReply → PartStep
 refused p reply = record { part = p; reply = reply; marks = [] }
 
--- the part with one cell anew
+-- the part with one cell replaced
 abbrev pub with_cell : PartState → ActorCell → PartState
 with_cell p c = record p { cells = keep_cell p.cells c }
 
 -- ---- what a step does with one cell, and with each cell
 
--- a cell, the marks, and two counts
+-- the cell after the step, the marks that it adds, and two counts
 pub record CellStep : Type 0 where
   pub cell : ActorCell
   pub marks : List PartMark
@@ -135,7 +135,7 @@ each_cell f (c ∷ cs) =
 
 -- ---- chains
 
--- the chain that a part makes of a number that it draws: `<node>.<boot>.<part>.<n>`
+-- the chain that a part makes from a number that it draws: `<node>.<boot>.<part>.<n>`
 abbrev pub made_chain : Member → ℕ → ℕ → List ℕ
 made_chain m number n = m.node ++ (46 ∷ (decimal m.boot ++ (46 ∷ (decimal number ++ (46 ∷ decimal n)))))
 
@@ -143,13 +143,13 @@ abbrev pub chain_or : Option (List ℕ) → List ℕ → Option (List ℕ)
 chain_or (Some chain) made = Some chain
 chain_or None made = Some made
 
--- the chain of the next call in a cell of this depth: none where reentrancy is off, made where it brings none
+-- the chain of the next call in a cell of this depth: none if reentrancy is off, made if the call brings none
 abbrev pub call_chain : PartState → ℕ → Option (List ℕ) → Option (List ℕ)
 call_chain p depth chain = if depth == 0 then None else chain_or chain (made_chain p.member p.number (p.drawn + 1))
 
 -- ---- a call is asked
 
--- the cell of an actor, a first one where it has none
+-- the cell of an actor, or a first one if it has none
 abbrev pub found_or_first : PartState → ActorKey → Option ActorCell → ActorCell
 found_or_first p key (Some c) = c
 found_or_first p key None = first_cell key (settings_of p.kinds key.kind).depth
@@ -157,7 +157,7 @@ found_or_first p key None = first_cell key (settings_of p.kinds key.kind).depth
 abbrev pub next_drawn : PartState → PartState
 next_drawn p = record p { drawn = p.drawn + 1 }
 
--- what the cell's answer comes to
+-- the step of the part that follows from the cell's answer
 abbrev pub asked_step : PartState → ActorCell → Option (List ℕ) → CellState → Result Asked CellError → PartStep
 asked_step p c chain inner (Ok asked.Begun) =
     record {
@@ -171,7 +171,7 @@ asked_step p c chain inner (Err (deny.Depth turns)) = refused p (replies.Depth t
 asked_step p c chain inner (Err (deny.QueueFull n)) = refused p (replies.QueueFull n)
 asked_step p c chain inner (Err deny.OutOfMemory) = refused p replies.OutOfMemory
 
--- full: the actor needs a new cell, and there is no room for one
+-- `full` says that the actor needs a new cell and there is no room for one
 abbrev pub ask_cell : Bool → PartState → ActorCell → Option (List ℕ) → Bool → PartStep
 ask_cell full p c chain may_begin =
     if full then refused p replies.PartFull else
@@ -190,7 +190,7 @@ is_new (Some c) = false
 abbrev pub is_full : PartState → Option ActorCell → Bool
 is_full p found = is_new found && nat_le most_cells (length p.cells)
 
--- the same host or no host, by member
+-- whether there is an owner, and it is this member
 abbrev pub is_owned_by : Member → Option HostInfo → Bool
 is_owned_by m None = false
 is_owned_by m (Some host) = same_member host.member m
@@ -200,7 +200,7 @@ abbrev pub owner_reply : ℕ → Option HostInfo → PartReply
 owner_reply version None = replies.NoHost version
 owner_reply version (Some host) = replies.Elsewhere version host
 
--- The owner of an actor in a table is a parameter of what follows.
+-- What follows takes as a parameter which host owns an actor in a table.
 module _ (owner : PlacementTable → ActorKey → Option HostInfo) where
   -- ---- own and foreign actors, and receipts
 
@@ -234,8 +234,8 @@ module _ (owner : PlacementTable → ActorKey → Option HostInfo) where
 
   -- ---- calls
 
-  -- A call of an open chain enters in any stage. Another one begins in an open part alone, where this member owns
-  -- the actor; in the other stages it waits.
+  -- A call of an open chain enters in any stage. Any other call begins only in an open part whose member owns the
+  -- actor; in the other stages it waits.
   abbrev pub ask_here : Bool → PartState → ActorCell → Option (List ℕ) → PartStep
   ask_here full p c chain =
       if is_open_chain c.inner chain then ask_cell full p c chain false else (
@@ -246,7 +246,7 @@ module _ (owner : PlacementTable → ActorKey → Option HostInfo) where
   ask_found p key chain found =
       ask_here (is_full p found) p (found_or_first p key found) (call_chain p (found_or_first p key found).inner.depth chain)
 
-  -- `least` is a version of which the caller knows, 0 where it says none
+  -- `least` is a version that the caller knows of, 0 if it names none
   abbrev pub ask_part : PartState → ActorKey → Option (List ℕ) → ℕ → PartStep
   ask_part p key chain least =
       if is_spent p then refused p (replies.Spent p.drawn) else (
@@ -267,7 +267,7 @@ module _ (owner : PlacementTable → ActorKey → Option HostInfo) where
   abbrev pub poll_part : PartState → ℕ → PartStep
   poll_part p call = poll_cell p call (cell_of_call p.cells call)
 
-  -- Of an actor's last moment and a present one before it the last one is kept.
+  -- If the present moment is before the actor's last moment, the last moment is kept.
   abbrev pub ended_step : PartState → ActorCell → ℕ → ℕ → CellState → CellEnd → PartStep
   ended_step p c call now inner (ending.Ended next) =
       record {
@@ -335,11 +335,12 @@ module _ (owner : PlacementTable → ActorKey → Option HostInfo) where
         second = 0;
       }
 
-  -- every call in the line of a foreign cell is moved, and those that weren't are counted
+  -- every call in the queue of a foreign cell is marked as moved, and those that weren't moved before are counted
   abbrev pub move_in : ActorCell → CellStep
   move_in c = record { cell = record c { inner = with_line_moved c.inner }; marks = []; first = 0; second = unmoved c.inner.line }
 
-  -- In an own cell that is free and isn't closing the first waiting call begins; the calls of a foreign one move.
+  -- In an own cell that is free and isn't closing, the first waiting call that isn't moved begins. The waiting calls
+  -- of a foreign cell are moved.
   abbrev pub open_cell : PartState → ActorCell → CellStep
   open_cell p c = if is_own p c.key then begin_in p c (next_call (not c.closing) c.inner) else move_in c
 
@@ -376,7 +377,7 @@ module _ (owner : PlacementTable → ActorKey → Option HostInfo) where
         second = 0;
       }
 
-  -- the open turns of a foreign cell end when its drain time has passed
+  -- the open turns of a foreign cell end if its drain time has passed
   abbrev pub tick_cell : PartState → ℕ → ActorCell → CellStep
   tick_cell p now c =
       if not (is_free c.inner) && (is_foreign p c.key && is_overdue p now c) then end_turns_in c now else same_cell c
@@ -395,7 +396,8 @@ module _ (owner : PlacementTable → ActorKey → Option HostInfo) where
 
   -- ---- deactivation
 
-  -- whether the idle time of the actor's type has passed since its last turn or hold
+  -- whether no call waits but moved ones, and the idle time of the actor's type has passed since its last turn or
+  -- hold ended
   abbrev pub is_idle : PartState → ℕ → ActorCell → Bool
   is_idle p now c = (unmoved c.inner.line == 0) && nat_le (settings_of p.kinds c.key.kind).idle_ms (now - c.last)
 
@@ -414,7 +416,7 @@ module _ (owner : PlacementTable → ActorKey → Option HostInfo) where
   abbrev pub take_closing : PartState → ℕ → PartStep
   take_closing p now = close_cell p (first_to_close p now p.cells)
 
-  -- The actor is inactive; then the next call begins where it may, and makes it active again.
+  -- The actor becomes inactive; then the next call begins, if there is one, and makes it active again.
   abbrev pub closed_with : PartState → ActorCell → Option Waiter → PartStep
   closed_with p c next =
       record {

@@ -1,5 +1,5 @@
--- What a step of a part may change, apart from the rule by which it answers: five ways in which stage, versions and
--- table move, and where active actors come from. Own.
+-- What a step of a part may change, apart from the rule by which it answers: the five ways in which stage, versions
+-- and table change, and where active actors come from. Own.
 use Rattle.std.specs.Prelude.{◌≡◌, ◌⊎◌, ◌<◌, ◌≤◌, true, [], Option}
 use Rattle.actor_names.specs.declared.actor_key.ActorKey.{ActorKey}
 use Rattle.place_table.specs.declared.host.HostInfo.{HostInfo}
@@ -16,8 +16,8 @@ use Rattle.part_core.specs.Sound.{IsPartSound}
 abbrev pub HadActive : PartState → ActorKey → Type 0
 HadActive p key = (d : ActorCell) × In d p.cells × (d.active ≡ true) × (d.key ≡ key)
 
--- From p the event leads to q: a part locks, is updated and opens in this order, opens only drained, and may stop
--- at any time; a lock begins anew.
+-- The event leads from p to q. A part locks, is updated and opens, in this order; it opens only if it is drained; it
+-- may stop at any time; a lock starts the order again.
 pub data Moves (owner : PlacementTable → ActorKey → Option HostInfo) (p : PartState) (e : PartEvent) (q : PartState) : Type 0 where
   keeps : q.stage ≡ p.stage → q.seen ≡ p.seen → q.opened ≡ p.opened → q.table ≡ p.table → Moves owner p e q
   locks : q.stage ≡ Locked → p.seen < q.seen → q.opened ≡ p.opened → q.table ≡ p.table → e ≡ events.Lock q.seen → Moves owner p e q
@@ -26,7 +26,7 @@ pub data Moves (owner : PlacementTable → ActorKey → Option HostInfo) (p : Pa
   stops : q.stage ≡ Stopped → q.seen ≡ p.seen → q.opened ≡ p.opened → q.table ≡ p.table → q.cells ≡ [] → e ≡ events.StopPart → Moves owner p e q
 
 module _ (owner : PlacementTable → ActorKey → Option HostInfo) where
-  -- An active actor was active before, or it began as the part stands open now and owns it.
+  -- An active actor was active before, or the part is now open and owns it.
   abbrev pub Comes : PartState → PartState → ActorCell → Type 0
   Comes p q c = HadActive p c.key ⊎ ((q.stage ≡ Open) × (is_own owner q c.key ≡ true))
 

@@ -1,4 +1,4 @@
--- A part over lists of events: where they lead, and which replies refuse an event. Own.
+-- A part over lists of events: the states that they lead to, and the replies that refuse an event. Own.
 use Rattle.std.specs.Prelude.{◌≡◌, ◌⊎◌, ◌≤◌, ℕ, Bool, true, false, not, List, [], ◌∷◌, ◌++◌, Option}
 use Rattle.actor_names.specs.declared.actor_key.ActorKey.{ActorKey}
 use Rattle.place_table.specs.declared.host.HostInfo.{HostInfo}
@@ -46,7 +46,7 @@ is_refusal replies.Stopped = true
 is_refusal replies.OutOfMemory = true
 is_refusal _ = false
 
--- and these refuse a call that is asked; to a poll they tell that the call is forgotten
+-- and these refuse a call that is asked; to a poll they say that the moved call is forgotten
 abbrev pub refuses_ask : PartReply → Bool
 refuses_ask (replies.NoHost version) = true
 refuses_ask (replies.Elsewhere version host) = true
@@ -94,7 +94,7 @@ pub record IsTrulyDrained (owner : PlacementTable → ActorKey → Option HostIn
   pub updated : p.stage ≡ Updated
   pub owns : OwnsActive owner p
 
--- A turn begins in an open part, of an actor that it owns, or beside an open turn of its chain.
+-- A turn begins only in an open part that owns the actor, or beside an open turn of its chain.
 abbrev pub BeginsRightly : (PlacementTable → ActorKey → Option HostInfo) → PartState → PartStep → Type 0
 BeginsRightly owner p s =
     (k : ActorKey) (call : ℕ) (chain : Option (List ℕ)) → In (TurnBegan k call chain) s.marks →

@@ -1,4 +1,4 @@
--- What a receipt tells of a part. Own.
+-- What a receipt says about a part. Own.
 use Rattle.std.specs.Prelude.{ℕ}
 use Rattle.actor_names.specs.declared.member.Member.{Member}
 use Rattle.part_core.specs.declared.receipt.SeenStage.{SeenStage}
@@ -7,5 +7,5 @@ pub record ReceiptState : Type 0 where
   pub member : Member
   pub part : ℕ
   pub version : ℕ  -- the greatest version seen
-  pub opened : ℕ  -- the version at which the part opened last, 0 before the first
+  pub opened : ℕ  -- the version at which the part opened last, 0 before it first opened
   pub stage : SeenStage

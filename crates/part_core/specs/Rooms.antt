@@ -20,12 +20,12 @@ Gives step reply new = (reply ≡ step.reply) × (new ≡ record { state = step.
 abbrev pub GivesEnded : PartStep → PartReply → PartView → Type 0
 GivesEnded step reply new = (reply ≡ step.reply) × (new ≡ record { state = step.part; recent = ended_calls step.marks })
 
--- the same, but at want of memory the part is as before; a stopped part wants none
+-- the same, but if memory runs out the part is as before; a stopped part never runs out
 abbrev pub GivesInMemory : PartStep → PartReply → PartState → PartView → Type 0
 GivesInMemory step replies.OutOfMemory old new = (new ≡ record { state = old; recent = [] }) × (is_stopped old.stage ≡ false)
 GivesInMemory step reply old new = Gives step reply new
 
--- An Ask, a Poll and a TakeClosing may want memory, and no other event. Here the part has not stopped.
+-- Only Ask, AskAt, Poll and TakeClosing may run out of memory. Here the part has not stopped.
 abbrev pub GivesRunning : PartEvent → PartReply → PartState → PartView → Type 0
 GivesRunning (events.Ask key chain now) reply old new = GivesInMemory (running_step ring_owner old (events.Ask key chain now)) reply old new
 GivesRunning (events.AskAt key chain least now) reply old new = GivesInMemory (running_step ring_owner old (events.AskAt key chain least now)) reply old new
@@ -35,7 +35,7 @@ GivesRunning (events.Tick now) reply old new = GivesEnded (running_step ring_own
 GivesRunning events.StopPart reply old new = GivesEnded (running_step ring_owner old events.StopPart) reply new
 GivesRunning event reply old new = Gives (running_step ring_owner old event) reply new
 
--- the same of any part
+-- the same for any part
 abbrev pub GivesStep : PartEvent → PartReply → PartState → PartView → Type 0
 GivesStep (events.Ask key chain now) reply old new = GivesInMemory (part_step ring_owner old (events.Ask key chain now)) reply old new
 GivesStep (events.AskAt key chain least now) reply old new = GivesInMemory (part_step ring_owner old (events.AskAt key chain least now)) reply old new

@@ -4,11 +4,11 @@ use Rattle.std.specs.Prelude.{◌≤◌, ℕ, if◌then◌else◌, List, [], ◌
 use Rattle.turn_core.specs.Cell.{greatest_depth}
 use Rattle.part_core.specs.declared.settings.TypeSettings.{TypeSettings}
 
--- of a type that isn't listed
+-- the settings of a type that isn't listed
 abbrev pub default_settings : List ℕ → TypeSettings
 default_settings kind = record { kind = kind; idle_ms = 3600000; drain_ms = 60000; depth = 0 }
 
--- of two entries with one type the last counts
+-- if a type has two entries, the last counts
 abbrev pub settings_or : TypeSettings → List TypeSettings → List ℕ → TypeSettings
 settings_or found [] kind = found
 settings_or found (t ∷ ts) kind = settings_or (if bytes_eq t.kind kind then t else found) ts kind

@@ -22,19 +22,19 @@ abbrev pub total_holds : List ActorCell → ℕ
 total_holds [] = 0
 total_holds (c ∷ cs) = c.inner.holds + total_holds cs
 
--- no call that isn't moved is in the line
+-- every call in the queue is moved
 abbrev pub HasNoWaiter : CellState → Type 0
 HasNoWaiter c = (w : Waiter) → In w c.line → w.moved ≡ true
 
--- What is true of one cell: its turns are sound; one with an open turn is active; a closing one is active and has
--- no open turn.
+-- What is true of one cell: its turns are sound; if a turn is open, it is active; if it is closing, it is active and
+-- has no open turn.
 pub record IsActorSound (c : ActorCell) : Type 0 where
   pub sound : IsCellSound c.inner
   pub open_active : (t : Turn) → In t c.inner.turns → c.active ≡ true
   pub closing_active : c.closing ≡ true → c.active ≡ true
   pub closing_free : c.closing ≡ true → c.inner.turns ≡ []
 
--- the receipt in a reply, where there is one
+-- the receipt in a reply, if there is one
 abbrev pub receipt_in : PartReply → Option ReceiptState
 receipt_in (replies.TableStep receipt changed) = Some receipt
 receipt_in (replies.Opened receipt begun moved) = Some receipt
@@ -44,7 +44,7 @@ receipt_in (replies.StoppedNow receipt) = Some receipt
 receipt_in _ = None
 
 module _ (owner : PlacementTable → ActorKey → Option HostInfo) where
-  -- In a cell of another owner no call that isn't moved waits; nor in an own one that has no open turn and isn't
+  -- In a foreign cell every waiting call is moved; and so it is in any cell that has no open turn and isn't
   -- closing.
   pub record IsWorkDone (p : PartState) (c : ActorCell) : Type 0 where
     pub foreign : is_own owner p c.key ≡ false → HasNoWaiter c.inner

@@ -11,10 +11,10 @@ use part_cells::{CallIndex, Tree};
 use std::alloc::Global;
 use std::marker::Model;
 
-/// The greatest number that is drawn, 2^62.
+/// The greatest number that can be drawn, 2^62.
 pub(crate) const MOST_DRAWN: u64 = 4611686018427387904;
 
-/// The most cells of a part.
+/// The greatest number of cells of a part.
 pub(crate) const MOST_CELLS: usize = 65536;
 
 /// The cells in order of key, how many there are, and their calls.
@@ -39,7 +39,7 @@ impl Model for Actors {
 }
 
 impl Actors {
-    /// No actor, and no number drawn.
+    /// No actors, with no number drawn.
     pub(crate) fn new(alloc: Global) -> Actors
         ensures { result ≡ record { drawn = 0; cells = []; recent = [] } }
     {

@@ -1,4 +1,4 @@
-// A call that is asked at a cell.
+// A call that asks a cell for a turn.
 ghost use Rattle.std.specs.Prelude.{◌≡◌, ◌+◌, ◌<◌, ◌≤◌, ◌^◌, ℕ, true, false, not, Option, IsSome};
 ghost use Rattle.std.specs.Option.{option_copied};
 ghost use Rattle.actor_names.specs.declared.actor_key.ActorKey.{ActorKey};
@@ -17,7 +17,7 @@ use part_cells::ActorCell;
 use std::alloc::Global;
 use turn_core::{Asked, CellError};
 
-/// The call is asked at the cell, which is refused where a new cell would be one too many.
+/// The call asks the cell for a turn. It is refused if `full` says that a new cell would be one too many.
 fn ask_cell(
     alloc: Global,
     drawn: u64,
@@ -54,7 +54,8 @@ fn ask_cell(
     }
 }
 
-/// The call is asked in an open part, which refuses actors that its table gives to nobody or to another member.
+/// The call asks for a turn in an open part, which refuses actors that its table gives to nobody or to another
+/// member.
 fn ask_owned(
     alloc: Global,
     standing: &Standing,
@@ -91,8 +92,8 @@ fn ask_owned(
     }
 }
 
-/// The call is asked in a part that has not stopped. One of an open chain enters in any stage, any other begins in
-/// an open part alone.
+/// The call asks for a turn in a part that has not stopped. A call of an open chain enters in any stage; any other
+/// call begins only in an open part.
 pub(crate) fn ask_here(
     alloc: Global,
     standing: &Standing,

@@ -47,7 +47,7 @@ impl Actors {
         reply
     }
 
-    /// A call of an actor, by a caller that knows of a table of version `least`.
+    /// A call of an actor, from a caller that knows of a table of version `least`.
     pub(crate) fn ask(
         &mut self,
         standing: &Standing,
@@ -79,7 +79,7 @@ impl Actors {
         reply
     }
 
-    /// Somebody asks where the call stands; a moved one is taken off its line.
+    /// A caller asks for the state of the call; a moved call is removed from its queue.
     pub(crate) fn poll(&mut self, standing: &Standing, call: u64) -> PartReply
         requires running { is_stopped standing.now.stage ≡ false }
         ensures { GivesInMemory (poll_part ring_owner (state_of standing.now self.old) call) result (state_of standing.now self.old) (view_of standing.now self.new) }
@@ -105,7 +105,7 @@ impl Actors {
         }
     }
 
-    /// Takes a moved call off its line.
+    /// Removes a moved call from its queue.
     fn take_moved(&mut self, call: u64)
         requires { IfSome (cell_of_call self.old.cells call) (λ c. (cell_poll c.inner call).answer ≡ CellPoll.Moved) }
         ensures { IfSome (cell_of_call self.old.cells call) (λ c. self.new ≡ record self.old { cells = keep_cell self.old.cells (record c { inner = (cell_poll c.inner call).cell }) }) }
@@ -119,7 +119,7 @@ impl Actors {
         put_back(&mut self.cells, &mut self.size, node);
     }
 
-    /// The call's turn is over; where the actor is free then, its next call begins.
+    /// The call's turn has ended; if the actor is then free, its next call begins if it may.
     pub(crate) fn end(&mut self, standing: &Standing, call: u64, now: u64) -> PartReply
         ensures { Gives (end_part ring_owner (state_of standing.now self.old) call now) result (view_of standing.now self.new) }
     {

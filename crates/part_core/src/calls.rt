@@ -16,8 +16,8 @@ use actor_names::ChainId;
 use part_cells::{ActorCell, CallIndex, Tree};
 use std::alloc::Global;
 
-/// How many numbers were drawn, which actor has which call, how many calls are open or wait at most, and the calls
-/// that the last step began or ended, with room for all that a step can begin or end.
+/// How many numbers were drawn, which actor has which call, an upper bound on how many calls are open or wait, and the
+/// calls that the last step began or ended, with room for all that a step can begin or end.
 #[derive(Drop)]
 pub(crate) struct Calls {
     pub(crate) drawn: u64,
@@ -26,7 +26,7 @@ pub(crate) struct Calls {
     pub(crate) recent: Vec<u64>,
 }
 
-/// Whether the call has begun or waits.
+/// Whether by this reply the call has begun or waits.
 pub(crate) fn is_accepted(reply: &PartReply) -> bool
     ensures { result ≡ is_accepted reply.now }
 {
@@ -36,7 +36,7 @@ pub(crate) fn is_accepted(reply: &PartReply) -> bool
     }
 }
 
-/// Notes the call that has begun, if there is one.
+/// Appends the call that has begun to the list, if there is one.
 pub(crate) fn note_next(calls: &mut Vec<u64>, next: Option<u64>)
     requires { vec_len calls.old + length (begun_next_in next) ≤ vec_capacity calls.old }
     ensures items { calls.new.items ≡ calls.old.items ++ begun_next_in next }
@@ -51,7 +51,7 @@ pub(crate) fn note_next(calls: &mut Vec<u64>, next: Option<u64>)
     }
 }
 
-/// Notes the call that has begun by this reply, if it has.
+/// Appends the call that has begun by this reply to the list, if there is one.
 fn note_begun(calls: &mut Vec<u64>, reply: &PartReply)
     requires { vec_len calls.old < vec_capacity calls.old }
     ensures items { calls.new.items ≡ calls.old.items ++ begun_in reply.now }
@@ -64,8 +64,8 @@ fn note_begun(calls: &mut Vec<u64>, reply: &PartReply)
 }
 
 impl Calls {
-    /// The call of the next number is asked at the cell. Where it is accepted, it is counted, in the index, and
-    /// noted if it has begun.
+    /// Asks the cell for a turn of the call with the next number. If the call is accepted, it is counted and put in
+    /// the index; if it has begun, it is also listed.
     pub(crate) fn ask(
         &mut self,
         alloc: Global,
@@ -116,7 +116,8 @@ impl Calls {
         reply
     }
 
-    /// The call has left this cell: one less is counted, and it is taken off the index where the cell has it no more.
+    /// The call has left this cell: one call less is counted, and it is removed from the index unless the cell still
+    /// has it.
     pub(crate) fn leave(&mut self, call: u64, cell: &ActorCell)
         requires { 0 < self.old.count }
         ensures drawn { self.new.drawn ≡ self.old.drawn }
@@ -133,7 +134,7 @@ impl Calls {
     }
 }
 
-/// Takes the call off the index, where no cell has it any more.
+/// Removes the call from the index if no cell has it any more.
 fn forget_call(index: &mut CallIndex, cells: &Tree, call: u64)
     requires order { AreInOrder cells.now }
     requires indexed { AreIndexed (key_of index.old) cells.now }
@@ -146,7 +147,7 @@ fn forget_call(index: &mut CallIndex, cells: &Tree, call: u64)
     }
 }
 
-/// Takes these calls off the index, where no cell has them any more.
+/// Removes from the index those of these calls that no cell has any more.
 pub(crate) fn forget_calls(index: &mut CallIndex, cells: &Tree, calls: &[u64])
     requires order { AreInOrder cells.now }
     requires indexed { AreIndexed (key_of index.old) cells.now }

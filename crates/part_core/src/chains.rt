@@ -9,7 +9,7 @@ use actor_names::{ChainId, Member, OutOfMemory, read_chain_id};
 use std::alloc::Global;
 use turn_core::Cell;
 
-/// The identifier in a text. One that can't be made is want of memory: the text has the form of a chain.
+/// The text as a chain identifier. The text must have the form of a chain, so any failure means out of memory.
 fn chain_in(alloc: Global, text: &[u8]) -> Result<ChainId, OutOfMemory>
     ensures { IfOk result (λ chain. chain ≡ text.now) }
 {
@@ -19,7 +19,7 @@ fn chain_in(alloc: Global, text: &[u8]) -> Result<ChainId, OutOfMemory>
     }
 }
 
-/// The chain that a part makes of a number that it draws: `<node>.<boot>.<part>.<n>`.
+/// The chain that a part makes from a number that it draws: `<node>.<boot>.<part>.<n>`.
 fn made_chain(alloc: Global, member: &Member, part: u8, n: u64) -> Result<ChainId, OutOfMemory>
     ensures { IfOk result (λ chain. chain ≡ made_chain member.now part n) }
 {
@@ -30,7 +30,7 @@ fn made_chain(alloc: Global, member: &Member, part: u8, n: u64) -> Result<ChainI
     chain_in(alloc, text.as_slice())
 }
 
-/// The chain of the next call in a cell of this depth: none where reentrancy is off, made where it brings none.
+/// The chain of the next call in a cell of this depth: none if reentrancy is off, made if the call brings none.
 pub(crate) fn call_chain(
     alloc: Global,
     standing: &Standing,
@@ -54,7 +54,7 @@ pub(crate) fn call_chain(
     }
 }
 
-/// Whether the open turns carry this chain, and reentrancy is on.
+/// Whether reentrancy is on and the open turns carry this chain.
 pub(crate) fn carries(cell: &Cell, chain: Option<&ChainId>) -> bool
     requires { 0 < cell.now.depth → IsSome chain }
     ensures { result ≡ is_open_chain cell.now (option_copied chain.entry) }
@@ -68,7 +68,7 @@ pub(crate) fn carries(cell: &Cell, chain: Option<&ChainId>) -> bool
     }
 }
 
-/// An equal chain, or none for none.
+/// A copy of the chain, or `None` if there is no chain.
 pub(crate) fn copy_chain(
     alloc: Global,
     chain: Option<&ChainId>,

@@ -1,4 +1,4 @@
-// The deactivation of actors: one is taken, and its deactivation call is over.
+// The deactivation of actors: an actor is taken, and later its deactivation call ends.
 ghost use Rattle.std.specs.Prelude.{◌≡◌, ◌&&◌, false};
 ghost use Rattle.std.specs.Option.{option_copied};
 ghost use Rattle.part_core.specs.Actors.{no_actors, state_of, view_of, is_closed};
@@ -18,8 +18,8 @@ use crate::standing::Standing;
 use actor_names::ActorKey;
 use part_cells::{ActorCell, Node, Root, Tree};
 
-/// Whether no call waits that isn't moved, and the idle time of the actor's type has passed since its last turn or
-/// hold.
+/// Whether no call waits but moved ones, and the idle time of the actor's type has passed since its last turn or
+/// hold ended.
 fn is_idle(standing: &Standing, now: u64, cell: &ActorCell) -> bool
     ensures { result ≡ is_idle ring_owner (state_of standing.now no_actors) now cell.now }
 {
@@ -27,7 +27,7 @@ fn is_idle(standing: &Standing, now: u64, cell: &ActorCell) -> bool
         && idle_of(standing.kinds.as_slice(), &cell.key.kind) <= now.saturating_sub(cell.last)
 }
 
-/// Whether the part gives up an actor that belongs to another owner.
+/// Whether the part is updated and gives up this actor, because it belongs to another owner.
 pub(crate) fn gives_up(standing: &Standing, key: &ActorKey) -> bool
     ensures { result ≡ (is_updated standing.now.stage && is_foreign ring_owner (state_of standing.now no_actors) key.now) }
 {
@@ -37,7 +37,7 @@ pub(crate) fn gives_up(standing: &Standing, key: &ActorKey) -> bool
     }
 }
 
-/// Whether a deactivation is over.
+/// Whether the reply says that a deactivation is over.
 pub(crate) fn is_closed(reply: &PartReply) -> bool
     ensures { result ≡ is_closed reply.now }
 {
@@ -77,7 +77,7 @@ fn first_to_close<'a>(standing: &Standing, cells: &'a Tree, now: u64) -> Option<
 }
 
 impl Actors {
-    /// The actor of the least key that may be taken is closing from now on.
+    /// Takes the actor with the least key that may be deactivated; it is closing from now on.
     pub(crate) fn take_closing(&mut self, standing: &Standing, now: u64) -> PartReply
         requires running { is_stopped standing.now.stage ≡ false }
         ensures { GivesInMemory (take_closing ring_owner (state_of standing.now self.old) now) result (state_of standing.now self.old) (view_of standing.now self.new) }
@@ -97,7 +97,7 @@ impl Actors {
         PartReply::Close { key }
     }
 
-    /// The deactivation call of the actor is over; a call that waits begins where it may.
+    /// The deactivation call of the actor has ended; a waiting call begins if it may.
     pub(crate) fn closed(&mut self, standing: &Standing, key: &ActorKey) -> PartReply
         ensures { Gives (closed_part ring_owner (state_of standing.now self.old) key.now) result (view_of standing.now self.new) }
     {

@@ -6,27 +6,27 @@ use place_table::{HostInfo, Table};
 /// What happens to a part. Moments are milliseconds since 1970.
 #[derive(Drop)]
 pub enum PartEvent {
-    /// A call of an actor. Where it brings no chain and the actor's type has reentrancy on, the part makes the
+    /// A call of an actor. If it brings no chain and the actor's type has reentrancy on, the part makes the
     /// chain `<node>.<boot>.<part>.<call>`.
     Ask {
         key: ActorKey,
         chain: Option<ChainId>,
         now: u64,
     },
-    /// The same of a caller that knows of a table of version `least`.
+    /// The same, from a caller that knows of a table of version `least`.
     AskAt {
         key: ActorKey,
         chain: Option<ChainId>,
         least: u64,
         now: u64,
     },
-    /// The part's next number is taken.
+    /// The part's next number is to be drawn.
     Draw,
-    /// Somebody asks where the call stands.
+    /// A caller asks for the state of the call.
     Poll {
         call: u64,
     },
-    /// The call's turn is over.
+    /// The call's turn ends.
     End {
         call: u64,
         now: u64,
@@ -35,12 +35,12 @@ pub enum PartEvent {
     Hold {
         key: ActorKey,
     },
-    /// One hold of the actor is over.
+    /// One hold of the actor ends.
     Release {
         key: ActorKey,
         now: u64,
     },
-    /// No new chain is to begin until the table of `version` is unlocked. A version is at most 2^62.
+    /// No new chain may begin until the table of `version` is unlocked. A version is at most 2^62.
     Lock {
         version: u64,
     },
@@ -49,7 +49,7 @@ pub enum PartEvent {
         table: Table,
         now: u64,
     },
-    /// Actors are to begin by the table of `version`, which is at most 2^62.
+    /// Actors may begin by the table of `version`, which is at most 2^62.
     Unlock {
         version: u64,
     },
@@ -57,11 +57,11 @@ pub enum PartEvent {
     Tick {
         now: u64,
     },
-    /// The next actor that may be deactivated is to be taken.
+    /// The first actor, in order of key, that may be deactivated is to be taken.
     TakeClosing {
         now: u64,
     },
-    /// The deactivation call of the actor is over.
+    /// The deactivation call of the actor has ended.
     Closed {
         key: ActorKey,
     },
@@ -72,25 +72,25 @@ pub enum PartEvent {
 /// What a part answers. A refused event leaves the part as it was and draws no number.
 #[derive(Debug, Drop)]
 pub enum PartReply {
-    /// The call's turn is open. The chain is none where reentrancy is off.
+    /// The call's turn is open. The chain is `None` if reentrancy is off.
     Begun {
         call: u64,
         chain: Option<ChainId>,
     },
-    /// The call waits, at this place from 1.
+    /// The call waits, at this place in the queue, counted from 1.
     Waits {
         call: u64,
         place: u64,
     },
-    /// Refused: 2^62 numbers were drawn.
+    /// Refused: all 2^62 numbers have been drawn.
     Spent {
         count: u64,
     },
-    /// Refused: the part has seen no greater version than `seen`.
+    /// Refused: the greatest version that the part has seen is `seen`, which is below `least`.
     Behind {
         seen: u64,
     },
-    /// Refused: the call's chain has all the open turns that the depth allows.
+    /// Refused: the call's chain already has as many open turns as the depth allows.
     Depth {
         turns: u64,
     },
@@ -105,7 +105,7 @@ pub enum PartReply {
     },
     /// Refused: the part has 65,536 cells, and the actor would need a new one.
     PartFull,
-    /// Refused: the actor's line has `n` calls, its greatest length of 1,024.
+    /// Refused: the actor's queue is full, with `n` calls, the maximum of 1,024.
     QueueFull {
         n: u64,
     },
@@ -113,13 +113,13 @@ pub enum PartReply {
     Drawn {
         n: u64,
     },
-    /// The call is neither open nor in a line.
+    /// The call is neither open nor in a queue.
     AlreadyEnded,
-    /// The turn has ended, and that of the call `next` has begun.
+    /// The turn has ended. If `next` is a call, its turn has begun.
     Ended {
         next: Option<u64>,
     },
-    /// The call is in a line.
+    /// The call is in a queue.
     StillWaiting,
     /// The actor is held; `n` is a number drawn for it.
     Held {
@@ -127,37 +127,37 @@ pub enum PartReply {
     },
     /// Refused: the actor isn't active, or is closing.
     NotActive,
-    /// One hold less.
+    /// One hold was removed.
     Released,
     /// Refused: there is no hold.
     NotHeld,
-    /// Whether the table event changed the part.
+    /// `changed` says whether the table event changed the part.
     TableStep {
         receipt: Receipt,
         changed: bool,
     },
-    /// The part has opened; so many waiting calls began, and so many were moved.
+    /// The part has opened; `begun` waiting calls began, and `moved` were moved.
     Opened {
         receipt: Receipt,
         begun: u32,
         moved: u32,
     },
-    /// Refused: an active actor belongs to another owner.
+    /// Refused: some active actor belongs to another owner.
     NotDrained {
         receipt: Receipt,
     },
-    /// So many turns of actors of other owners were ended.
+    /// `ended` turns of actors of other owners were ended.
     Ticked {
         receipt: Receipt,
         ended: u32,
     },
-    /// The actor is closing, and its deactivation call is to be made.
+    /// The actor is now closing, and its deactivation call must be made.
     Close {
         key: ActorKey,
     },
     /// No actor may be deactivated.
     NoneClosing,
-    /// The actor is no longer closing; the turn of the call `next` has begun.
+    /// The actor is no longer closing. If `next` is a call, its turn has begun.
     ClosedDone {
         next: Option<u64>,
     },
@@ -169,6 +169,6 @@ pub enum PartReply {
     },
     /// Refused: the part has stopped.
     Stopped,
-    /// There was no memory; the part is as before. Answered to Ask, AskAt, Poll and TakeClosing alone.
+    /// Out of memory; the part is as before. Only Ask, AskAt, Poll and TakeClosing are answered so.
     OutOfMemory,
 }

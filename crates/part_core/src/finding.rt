@@ -1,4 +1,4 @@
-// The cell of a call, found by the index; and cells that were taken out, put back where they are kept.
+// The cell of a call, found by the index; and putting back cells that were taken out, if they are to be kept.
 ghost use Rattle.std.specs.Prelude.{◌≡◌, ◌+◌, length};
 ghost use Rattle.std.specs.Option.{option_copied};
 ghost use Rattle.part_cells.specs.Cells.{cell_of_call, drop_cell, keep_cell};
@@ -9,7 +9,7 @@ ghost use Rattle.part_core.specs.Actors.{AreIndexed, without_taken};
 
 use part_cells::{ActorCell, CallIndex, Node, Tree, is_kept};
 
-/// The cell that has this call, open or in its line.
+/// The cell that has this call, open or in its queue.
 pub(crate) fn call_cell<'a>(cells: &'a Tree, index: &CallIndex, call: u64) -> Option<&'a ActorCell>
     requires order { AreInOrder cells.now }
     requires indexed { AreIndexed (key_of index.now) cells.now }
@@ -23,7 +23,7 @@ pub(crate) fn call_cell<'a>(cells: &'a Tree, index: &CallIndex, call: u64) -> Op
     Some(cell)
 }
 
-/// Takes the cell out that has this call, in its node.
+/// Takes out the cell that has this call, in its node.
 pub(crate) fn take_call(cells: &mut Tree, index: &CallIndex, call: u64) -> Option<Box<Node>>
     requires order { AreInOrder cells.old }
     requires indexed { AreIndexed (key_of index.now) cells.old }
@@ -39,7 +39,8 @@ pub(crate) fn take_call(cells: &mut Tree, index: &CallIndex, call: u64) -> Optio
     Some(node)
 }
 
-/// Puts back a cell that was taken out and is still counted; one that isn't kept is dropped.
+/// Puts back a cell that was taken out and is still counted. A cell that isn't to be kept is dropped and no longer
+/// counted.
 pub(crate) fn put_back(cells: &mut Tree, size: &mut usize, node: Box<Node>)
     requires order { AreInOrder cells.old }
     requires out { drop_cell cells.old node.value.cell.key ≡ cells.old }

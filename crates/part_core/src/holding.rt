@@ -19,7 +19,7 @@ pub(crate) fn is_awake(cell: &ActorCell) -> bool
 }
 
 impl Actors {
-    /// One hold more of the actor, for which a number is drawn.
+    /// Adds one hold of the actor, and draws a number for it.
     pub(crate) fn hold(&mut self, standing: &Standing, key: &ActorKey) -> PartReply
         ensures { Gives (hold_part ring_owner (state_of standing.now self.old) key.now) result (view_of standing.now self.new) }
     {
@@ -46,7 +46,7 @@ impl Actors {
         }
     }
 
-    /// One hold less of the actor.
+    /// Removes one hold of the actor.
     pub(crate) fn release(&mut self, standing: &Standing, key: &ActorKey, now: u64) -> PartReply
         ensures { Gives (release_part ring_owner (state_of standing.now self.old) key.now now) result (view_of standing.now self.new) }
     {

@@ -1,4 +1,4 @@
-// What holds of a part over every list of events.
+// What holds of a part for every list of events.
 ghost use Rattle.std.specs.Prelude.{◌≡◌, ◌↔◌, ℕ, List, Option, true};
 ghost use Rattle.actor_names.specs.declared.actor_key.ActorKey.{ActorKey};
 ghost use Rattle.actor_names.specs.declared.member.Member.{Member};
@@ -16,14 +16,15 @@ ghost use Rattle.part_core.specs.Sound.{IsPartSound, NoIdleWaiter, TellsState};
 ghost use Rattle.part_core.specs.PartMoves.{Stepped};
 ghost use Rattle.part_core.specs.PartRuns.{part_after, marks_after, refuses, LeavesAsWas, AreVersionsTied, OwnsWhenOpen, IsTrulyDrained, BeginsRightly};
 
-/// Whatever the owners of actors are, after every list of events from a new part: no call waits in an open part
+/// Whatever the owners of actors are, after every list of events from a new part: in an open part no call waits
 /// that could run, the part is sound, its versions are tied, and an open part's active actors are its own. Each
-/// further step moves stage, versions and table in one of five ways, and opens only drained.
+/// step of a sound part changes stage, versions and table in one of five ways, and opens a part only if it is
+/// drained.
 ///
-/// Of every state: a receipt in a reply is that of the new state, its stage is drained exactly where the part is
+/// For every state: a receipt in a reply is that of the new state, its stage is Drained exactly if the part is
 /// updated and no active actor is foreign, and a refused event leaves the part as it was.
 ///
-/// An event for which there was no memory changes nothing, and stands in no list.
+/// An event that ran out of memory changes nothing, and is in no list.
 pub fn part_law()
     ensures idle { (owner : PlacementTable → ActorKey → Option HostInfo) (m : Member) (number : ℕ) (kinds : List TypeSettings) (events : List PartEvent) →
         NoIdleWaiter owner (part_after owner (new_part m number kinds) events) }
@@ -43,11 +44,11 @@ pub fn part_law()
         LeavesAsWas p (part_step owner p event) }
 {}
 
-/// Whatever the owners of actors are: over every list of events from a new part the turns of each actor are
-/// isolated, so that two that overlap carry one chain and at most the depth of the actor's type are open, and the
-/// marks tell which actors are active and with which open turns. The marks of each step of a sound part tell what
-/// its cells came to, and a turn begins only in an open part that owns the actor, or beside an open turn of its
-/// chain.
+/// Whatever the owners of actors are, for every list of events from a new part: the turns of each actor are
+/// isolated, so that two that overlap carry the same chain and no more are open than the depth of the actor's type
+/// allows, and the marks say which actors are active and which turns of them are open. The marks of each step of a
+/// sound part say what its cells became. In such a step a turn begins only in an open part that owns the actor, or
+/// beside an open turn of its chain.
 pub fn part_turns_law()
     ensures isolated { (owner : PlacementTable → ActorKey → Option HostInfo) (m : Member) (number : ℕ) (kinds : List TypeSettings) (events : List PartEvent) (key : ActorKey) →
         TurnsIsolated (settings_of kinds key.kind).depth (turn_marks key (marks_after owner (new_part m number kinds) events)) }

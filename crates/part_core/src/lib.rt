@@ -1,7 +1,7 @@
 // One part of a sidecar: the actors whose keys fall into it, its stage in a placement round and its table.
 //
-// Promise: each step of a `Part` is the part's state machine (`specs/Part`). As a machine (`specs/Machine`) it can
-// stand behind a gate. Stands on `state_machine`, `part_cells`, `place_table`, `turn_core` and `actor_names`.
+// Promise: each step of a `Part` follows the part's state machine (`specs/Part`). As a machine (`specs/Machine`) it
+// can be put behind a gate. Depends on `state_machine`, `part_cells`, `place_table`, `turn_core` and `actor_names`.
 #![tactic(auto)]
 
 mod actors;

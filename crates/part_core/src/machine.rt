@@ -1,4 +1,4 @@
-// A part as a machine: its step, and which waiting calls hear of a reply.
+// A part as a machine: its step, and which waiting calls are woken by a reply.
 use crate::event::{PartEvent, PartReply};
 use crate::part::Part;
 use state_machine::{Machine, News};
@@ -19,7 +19,7 @@ impl Machine for Part {
         Part::step(self, event)
     }
 
-    // A call that waits polls by its number.
+    // A waiting call polls with its number.
     fn topic(event: &PartEvent) -> u64 {
         match event {
             PartEvent::Poll { call } => *call,
@@ -27,8 +27,8 @@ impl Machine for Part {
         }
     }
 
-    // An end, or the end of a deactivation, hands the turn to one call. An Unlock begins and moves many, and a part
-    // that stops answers all; nothing else changes what a poll answers.
+    // An End, or the end of a deactivation, hands the turn to one call. An Unlock begins and moves many calls, and a
+    // part that stops answers all of them. Nothing else ends the wait of a call.
     fn news(reply: &PartReply) -> News {
         match reply {
             PartReply::Ended { next: Some(next) } | PartReply::ClosedDone { next: Some(next) } => {

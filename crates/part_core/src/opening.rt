@@ -19,7 +19,7 @@ pub(crate) struct CellOpening {
     pub(crate) moved: u32,
 }
 
-/// The first call of the line begins, where it may and no turn is open.
+/// Begins the first call in the queue that isn't moved, if `may_begin` is true and no turn is open.
 pub(crate) fn begin_if(cell: &mut Cell, may_begin: bool) -> Option<u64>
     ensures answer { result ≡ option_map call_of (next_call may_begin cell.old) }
     ensures cell { cell.new ≡ begun_next cell.old (next_call may_begin cell.old) }
@@ -31,7 +31,7 @@ pub(crate) fn begin_if(cell: &mut Cell, may_begin: bool) -> Option<u64>
     }
 }
 
-/// What the opening does with one cell. The owner is looked up only where a call is in its line.
+/// What the opening does to one cell. The owner is looked up only if its queue has a call.
 fn open_cell(standing: &Standing, cell: &mut ActorCell) -> CellOpening
     ensures cell { cell.new ≡ (open_cell ring_owner (state_of standing.now no_actors) cell.old).cell }
     ensures next { begun_next_in result.next ≡ begun_calls (open_cell ring_owner (state_of standing.now no_actors) cell.old).marks }
@@ -64,7 +64,7 @@ pub(crate) struct Opening {
     pub(crate) moved: u32,
 }
 
-/// One where a call began.
+/// One if a call began, else zero.
 fn begun_count(next: Option<u64>) -> u32
     ensures count { result ≡ length (begun_next_in next) }
     ensures few { result ≤ 1 }
@@ -75,7 +75,7 @@ fn begun_count(next: Option<u64>) -> u32
     }
 }
 
-/// What the opening does with every cell, one after another.
+/// What the opening does to every cell, one after another.
 pub(crate) fn open_cells(standing: &Standing, cells: &mut Tree, calls: &mut Vec<u64>) -> Opening
     requires few { length cells.old ≤ 65536 }
     requires room { vec_len calls.old + total_calls cells.old ≤ vec_capacity calls.old }

@@ -30,7 +30,7 @@ pub(crate) fn is_own(table: &Table, member: &Member, key: &ActorKey) -> bool
     }
 }
 
-/// One for an active actor of another owner.
+/// One for an active actor of another owner, else zero.
 fn foreign_in(standing: &Standing, cell: &ActorCell) -> usize
     ensures count { result ≡ foreign_in ring_owner (state_of standing.now no_actors) cell.now }
     ensures few { result ≤ 1 }
@@ -88,7 +88,8 @@ pub(crate) fn is_served(standing: &Standing, key: &ActorKey) -> bool
     }
 }
 
-/// Whether a new chain may begin in the cell when its turns are over. The owner isn't looked up where no call waits.
+/// Whether a new chain may begin in the cell when its turns are over. The answer counts only if a call waits; if none
+/// does, the owner isn't looked up.
 pub(crate) fn may_hand_over(standing: &Standing, cell: &ActorCell) -> bool
     ensures { 0 < length cell.now.inner.line → result ≡ ((is_open standing.now.stage && is_owned_by standing.now.member (ring_owner standing.now.table cell.now.key)) && not cell.now.closing) }
 {

@@ -35,8 +35,8 @@ impl Model for Part {
 }
 
 impl Part {
-    /// A part that waits for its first round: it is locked at version 0, has the empty table and no actor, and has
-    /// drawn no number. The settings' depths are at most 1,024.
+    /// A part that waits for its first round. It is locked at version 0, has the empty table and no actor, and has
+    /// drawn no number. The depths in the settings must be at most 1,024.
     pub fn new(alloc: Global, settings: PartSettings) -> Result<Part, OutOfMemory>
         requires { AreShallow settings.kinds }
         ensures { IfOk result (λ part. part ≡ record { state = new_part settings.member settings.part settings.kinds; recent = [] }) }
@@ -68,8 +68,8 @@ impl Part {
         }
     }
 
-    /// One step of the part. A refused event leaves the part as it was; an Ask, an AskAt, a Poll and a TakeClosing
-    /// may want memory, and no other event. After each step an open part leaves no call waiting that could run.
+    /// One step of the part. A refused event leaves the part as it was. Only Ask, AskAt, Poll and TakeClosing may run
+    /// out of memory. After each step an open part leaves no call waiting that could run.
     pub fn step(&mut self, event: PartEvent) -> PartReply
         requires { IsInRange event }
         ensures gives { GivesStep event result self.old.state self.new }
@@ -80,8 +80,8 @@ impl Part {
         self.shard.step(event)
     }
 
-    /// The calls whose turns the last step began or, for Tick and StopPart, ended: actors in order of type, then
-    /// id, and of each actor the turn that began first before the others. Lent without memory.
+    /// The calls whose turns the last step began or, for Tick and StopPart, ended: actors in order of key (space, type,
+    /// id), and the calls of each actor in the order in which their turns began. Takes no memory.
     pub fn calls(&self) -> &[u64]
         ensures { result.now ≡ self.now.recent }
     {

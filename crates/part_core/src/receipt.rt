@@ -1,26 +1,26 @@
-// Receipts: what a part shows of itself.
+// Receipts: what a part reports about itself.
 ghost use Rattle.std.specs.Prelude.{◌≡◌, ◌≤◌, ◌^◌};
 ghost use Rattle.actor_names.specs.Same.{same_member};
 
 use actor_names::Member;
 use std::marker::Model;
 
-/// The stage of a part as a receipt tells it.
+/// The stage of a part as a receipt gives it.
 #[derive(Clone, Copy, Debug, PartialEq, Eq)]
 pub enum SeenStage {
     /// No new chain begins.
     Locked,
-    /// The round's table is installed, and an active actor belongs to another owner.
+    /// The round's table is installed, and some active actor belongs to another owner.
     Draining,
     /// The round's table is installed, and no active actor belongs to another owner.
     Drained,
-    /// Actors begin by the installed table.
+    /// Actors that the installed table gives to this member begin.
     Open,
     /// Nothing happens any more.
     Stopped,
 }
 
-/// What a part was after one of its steps. Only a part's step makes one, and it is copied without memory.
+/// The state of a part after one of its steps. Only a step of a part makes one. A copy takes no memory.
 #[derive(Clone, Copy, Debug)]
 pub struct Receipt {
     member: Member,
@@ -44,7 +44,7 @@ impl Model for Receipt {
 }
 
 impl Receipt {
-    // The receipt of these facts.
+    // The receipt with these facts.
     pub(crate) fn of(
         member: Member,
         part: u8,
@@ -80,7 +80,7 @@ impl Receipt {
         self.version
     }
 
-    /// The version at which the part opened last, at most 2^62; 0 before the first.
+    /// The version at which the part opened last, at most 2^62; 0 before it first opened.
     pub fn opened(&self) -> u64
         ensures value { result ≡ self.now.opened }
         ensures within { result ≤ 2 ^ 62 }

@@ -1,4 +1,4 @@
-// What table events, time and the stop do with the actors of a part.
+// What table events, time and the stop do to the actors of a part.
 ghost use Rattle.std.specs.Prelude.{◌≡◌, []};
 ghost use Rattle.part_core.specs.Actors.{no_actors, state_of, total_foreign};
 ghost use Rattle.part_core.specs.Marks.{begun_calls, ended_calls, marks_of_stop};
@@ -33,7 +33,7 @@ impl Actors {
         open_cells(standing, &mut self.cells, &mut self.calls.recent)
     }
 
-    /// The turns of other owners' actors end where their drain time is over. Says how many.
+    /// Ends the turns of foreign actors whose drain time is over, and returns how many there were.
     pub(crate) fn tick(&mut self, standing: &Standing, now: u64) -> u32
         ensures drawn { self.new.drawn ≡ self.old.drawn }
         ensures cells { self.new.cells ≡ (each_cell (tick_cell ring_owner (state_of standing.now no_actors) now) self.old.cells).cells }

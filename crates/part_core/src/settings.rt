@@ -16,7 +16,7 @@ pub struct TypeSettings {
     pub idle_ms: u64,
     /// For how many milliseconds after a new table the turns of an actor of another owner may go on.
     pub drain_ms: u64,
-    /// How many turns of one chain may be open on an actor at once, from 1 to 1,024; 0 is reentrancy off.
+    /// How many turns of one chain may be open on an actor at once, from 1 to 1,024; 0 turns reentrancy off.
     pub depth: u32,
 }
 
@@ -36,7 +36,7 @@ impl Model for TypeList {
 }
 
 impl TypeList {
-    /// The settings of a vector, in its order.
+    /// A list of the settings in the vector, in their order.
     pub fn from_vec(items: Vec<TypeSettings>) -> TypeList
         ensures { result ≡ items.items }
     {
@@ -50,7 +50,7 @@ impl TypeList {
         self.items.as_slice()
     }
 
-    /// The vector of the settings; takes no memory.
+    /// The settings as a vector; takes no memory.
     pub fn into_vec(self) -> Vec<TypeSettings>
         ensures { result.items ≡ self }
     {
@@ -60,7 +60,7 @@ impl TypeList {
 }
 
 /// Whose part it is, its number among the member's parts, and the settings of the types. A type that isn't listed
-/// has an idle time of 3,600,000 ms, a drain time of 60,000 ms and reentrancy off; of two entries with one type the
+/// has an idle time of 3,600,000 ms, a drain time of 60,000 ms and reentrancy off. If a type has two entries, the
 /// last counts.
 #[derive(Debug, Drop)]
 pub struct PartSettings {
@@ -72,7 +72,7 @@ pub struct PartSettings {
     pub kinds: TypeList,
 }
 
-/// The settings of a type, where it is listed.
+/// The settings of a type, if it is listed.
 pub(crate) fn find_settings<'a>(
     kinds: &'a [TypeSettings],
     kind: &ActorType,

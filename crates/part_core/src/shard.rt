@@ -14,7 +14,7 @@ use actor_names::ActorKey;
 use place_table::Table;
 use std::marker::Model;
 
-/// What a part is, and its actors.
+/// A part: its standing and its actors.
 #[derive(Drop)]
 pub(crate) struct Shard {
     pub(crate) standing: Standing,
@@ -40,14 +40,14 @@ impl Shard {
         self.actors.calls()
     }
 
-    /// What the part shows of itself.
+    /// The receipt of the part.
     fn receipt(&self) -> Receipt
         ensures { result ≡ receipt_of ring_owner self.now.state }
     {
         self.standing.receipt()
     }
 
-    /// Nothing has changed.
+    /// The reply to a table event that changes nothing.
     fn unchanged(&mut self) -> PartReply
         ensures { Gives (unchanged ring_owner self.old.state) result self.new }
     {
@@ -93,7 +93,7 @@ impl Shard {
         }
     }
 
-    /// The part opens by the installed table, where it is drained.
+    /// The part opens with the installed table, if it is drained.
     fn unlock(&mut self, version: u64) -> PartReply
         ensures { Gives (unlock_part ring_owner self.old.state version) result self.new }
     {
@@ -135,7 +135,7 @@ impl Shard {
         }
     }
 
-    /// The deactivation of an actor is over. An updated part counts one less where it belongs to another owner.
+    /// The deactivation of an actor is over. If the actor is foreign, an updated part counts one foreign actor less.
     fn closed(&mut self, key: &ActorKey) -> PartReply
         requires { IsPartSound ring_owner self.old.state }
         ensures { Gives (closed_part ring_owner self.old.state key.now) result self.new }
@@ -158,7 +158,7 @@ impl Shard {
         }
     }
 
-    /// What happens to a part that has stopped.
+    /// One step of a part that has stopped.
     fn stopped(&mut self, event: PartEvent) -> PartReply
         ensures { GivesEnded (stopped_step ring_owner self.old.state event) result self.new }
     {
@@ -171,7 +171,7 @@ impl Shard {
         }
     }
 
-    /// What happens to a part that has not stopped.
+    /// One step of a part that has not stopped.
     fn run(&mut self, event: PartEvent) -> PartReply
         requires running { is_stopped self.old.state.stage ≡ false }
         requires range { IsInRange event }

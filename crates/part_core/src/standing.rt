@@ -18,7 +18,7 @@ pub(crate) struct Standing {
     pub(crate) stage: Stage,
     /// The greatest version seen, which is that of the stage.
     pub(crate) seen: u64,
-    /// The version at which the part opened last, 0 before the first.
+    /// The version at which the part opened last, 0 before it first opened.
     pub(crate) opened: u64,
     pub(crate) table: Table,
     /// When the table was installed.
@@ -27,7 +27,7 @@ pub(crate) struct Standing {
     pub(crate) foreign: usize,
 }
 
-/// The stage as a receipt tells it.
+/// The stage as a receipt gives it.
 fn seen_stage(stage: &Stage, foreign: usize) -> SeenStage
     ensures { (p : PartState) → (is_updated stage.now ≡ true → foreign ≡ total_foreign ring_owner p p.cells) → result ≡ seen_stage ring_owner p stage.now }
 {
@@ -46,7 +46,7 @@ fn seen_stage(stage: &Stage, foreign: usize) -> SeenStage
 }
 
 impl Standing {
-    /// What a part that stands so shows of itself.
+    /// The receipt of a part with this standing.
     pub(crate) fn receipt(&self) -> Receipt
         requires seen { self.now.seen ≤ 2 ^ 62 }
         requires opened { self.now.opened ≤ 2 ^ 62 }

@@ -5,7 +5,7 @@ ghost use Rattle.part_core.specs.Marks.{ended_calls, marks_of_stop};
 
 use part_cells::{Node, Root, Tree};
 
-/// Puts the calls of all open turns at the end of the list, cell by cell.
+/// Appends the calls of all open turns to the list, cell by cell.
 pub(crate) fn list_open(cells: &Tree, calls: &mut Vec<u64>)
     requires { vec_len calls.old + total_calls cells.now ≤ vec_capacity calls.old }
     ensures calls { calls.new.items ≡ calls.old.items ++ ended_calls (marks_of_stop cells.now) }

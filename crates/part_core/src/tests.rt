@@ -1,4 +1,4 @@
-// Worked runs from outside: the replies in their order, and the calls that may want memory.
+// Worked runs through the public interface: the replies in their order, and the calls that may run out of memory.
 ghost use Rattle.std.specs.Prelude.{◌≡◌, ◌≤◌, ◌^◌, IfOk};
 ghost use Rattle.part_core.specs.Rooms.{IsInRange};
 
@@ -77,7 +77,7 @@ fn in_short(reply: &PartReply) -> Told {
     }
 }
 
-/// Whether the call has begun under this chain.
+/// Whether the call has begun with this chain.
 fn is_begun_under(reply: &PartReply, wanted: &[u8]) -> bool {
     match reply {
         PartReply::Begun {
@@ -104,7 +104,7 @@ fn table_of(alloc: Global, version: u64, member: &[u8]) -> Result<Table, Fail>
     Ok(build_table(alloc, &default_space(), version, &[host])?)
 }
 
-/// Part 3 of `a/1`, where `nested` has reentrancy on at a depth of 2.
+/// Part 3 of `a/1`, in which `nested` has reentrancy on, at a depth of 2.
 fn new_part(alloc: Global) -> Result<Part, Fail> {
     let mut kinds = Vec::new(alloc);
     kinds.push(TypeSettings {
@@ -121,7 +121,7 @@ fn new_part(alloc: Global) -> Result<Part, Fail> {
     Ok(Part::new(alloc, settings)?)
 }
 
-/// The part after the round of a table of version 1 whose one host it is.
+/// The part after the round of a table of version 1 whose only host is its member.
 fn open_part(alloc: Global) -> Result<Part, Fail> {
     let mut part = new_part(alloc)?;
     let table = table_of(alloc, 1, b"a/1")?;
@@ -131,7 +131,7 @@ fn open_part(alloc: Global) -> Result<Part, Fail> {
     Ok(part)
 }
 
-/// What a call of this actor comes to.
+/// The reply to a call of this actor.
 fn ask(alloc: Global, part: &mut Part, key: &[u8]) -> Result<Told, Fail> {
     let key = read_key(alloc, key)?;
     let event = PartEvent::Ask {
@@ -142,7 +142,7 @@ fn ask(alloc: Global, part: &mut Part, key: &[u8]) -> Result<Told, Fail> {
     Ok(in_short(&part.step(event)))
 }
 
-/// A hold, a release and the end of a deactivation of `counter/7`.
+/// The key of `counter/7`.
 fn counter_7(alloc: Global) -> Result<ActorKey, Fail> {
     Ok(read_key(alloc, b"counter/7")?)
 }
@@ -313,7 +313,7 @@ fn event_at(alloc: Global, number: usize) -> Result<PartEvent, Fail>
     }
 }
 
-/// What each of the fourteen events comes to in a stage.
+/// The reply to each of the fourteen events in a stage.
 fn replies_in(alloc: Global, stage: usize) -> Result<[Told; 14], Fail> {
     let mut replies = [Told::Stopped; 14];
     for number in 0..14 {
@@ -324,7 +324,7 @@ fn replies_in(alloc: Global, stage: usize) -> Result<[Told; 14], Fail> {
     Ok(replies)
 }
 
-/// The replies of a stage by what the call, the table events and the unlock come to.
+/// The replies of a stage: `asked` to the call, whether the Update changes the part, and `unlocked` to the Unlock.
 fn replies_by(asked: Told, updates: bool, unlocked: Told) -> [Told; 14] {
     [
         asked,

@@ -17,8 +17,8 @@ fn is_overdue(standing: &Standing, now: u64, cell: &ActorCell) -> bool
     drain_of(standing.kinds.as_slice(), &cell.key.kind) <= now.saturating_sub(standing.since)
 }
 
-/// What a tick does with one cell of an updated part: the calls of turns that end are put at the end of the list, and
-/// counted. The owner is looked up only where the cell has an open turn and its drain time has passed.
+/// What a tick does to one cell of an updated part: the calls of the turns that end are appended to the list, and
+/// counted. The owner is looked up only if the cell has an open turn and its drain time has passed.
 fn tick_cell(standing: &Standing, now: u64, cell: &mut ActorCell, calls: &mut Vec<u64>) -> u32
     requires { vec_len calls.old + length cell.old.inner.turns ≤ vec_capacity calls.old }
     ensures cell { cell.new ≡ (tick_cell ring_owner (state_of standing.now no_actors) now cell.old).cell }
@@ -38,7 +38,7 @@ fn tick_cell(standing: &Standing, now: u64, cell: &mut ActorCell, calls: &mut Ve
     cell.inner.end_all()
 }
 
-/// What a tick does with every cell, one after another.
+/// What a tick does to every cell, one after another.
 pub(crate) fn tick_cells(
     standing: &Standing,
     now: u64,

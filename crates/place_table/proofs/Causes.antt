@@ -8,7 +8,7 @@ use Rattle.place_table.specs.declared.error.TableError.{TableError}
 use Rattle.place_table.specs.declared.error.TableError.TheVariants.{TooManyMembers, TooManyTypes, SameNode, OtherSpace, OutOfMemory}
 use Rattle.place_table.specs.Hosts.{node_of, types_fault, same_node_fault, other_space_fault, first_fault, table_fault, BuildsTable}
 
--- which cause an error tells
+-- which cause an error reports
 abbrev pub rank : TableError → ℕ
 rank (TooManyMembers n) = 0
 rank (TooManyTypes node n) = 1
@@ -40,7 +40,7 @@ other_rank space (h ∷ hs) e is = split (other_rank space hs e) (bytes_eq h.mem
     split more true f = more f
     split more false f = let same : OtherSpace (node_of h) ≡ e = cc in sym (ap rank same)
 
--- the faults behind that of the types: their ranks are above its
+-- the faults tested after that of the types: their ranks are above its
 later_rank : (space : List ℕ) (hosts : List HostInfo) (e : TableError) → first_fault (same_node_fault [] hosts) (other_space_fault space hosts) ≡ Some e → 2 ≤ rank e
 later_rank space hosts e is = split (same_node_fault [] hosts) refl is
   where
@@ -48,7 +48,7 @@ later_rank space hosts e is = split (same_node_fault [] hosts) refl is
     split None t f = let three : rank e ≡ 3 = other_rank space hosts e f in omega arith
     split (Some x) t f = let two : rank e ≡ 2 = same_rank [] hosts e (t ∙ f) in omega arith
 
--- an error other than want of memory is answered exactly where it is the fault
+-- an error other than out of memory is the answer exactly if it is the fault
 built : {A : Type 0} (r : Result A TableError) (o : Option TableError) (e : TableError) → BuildsTable o r → rank e < 4 → (r ≡ Err e) ↔ (o ≡ Some e)
 built (Ok x) None e h low = (λ is. absurd (true≢false (ap is_ok is)), λ is. absurd (true≢false (sym (ap is_some is))))
 built (Err y) None e h low = (λ is. absurd (let same : y ≡ e = cc in let four : rank y ≡ 4 = ap rank h in let two : rank y ≡ rank e = ap rank same in omega arith), λ is. absurd (true≢false (sym (ap is_some is))))
@@ -62,7 +62,7 @@ no_rank_0 None s n ra rs is = let two : 2 ≤ rank (TooManyMembers n) = rs (TooM
 no_rank_0 (Some f) s n ra rs is = let one : rank (TooManyMembers n) ≡ 1 = ra (TooManyMembers n) is in omega arith
 
 module _ (space : List ℕ) where
-  -- the faults behind that of the types
+  -- the faults tested after that of the types
   abbrev later : List HostInfo → Option TableError
   later hosts = first_fault (same_node_fault [] hosts) (other_space_fault space hosts)
 
@@ -85,7 +85,7 @@ module _ (space : List ℕ) where
   first_types None s node n rs = (λ is. absurd (let two : 2 ≤ rank (TooManyTypes node n) = rs (TooManyTypes node n) is in omega arith), λ is. absurd (true≢false (sym (ap is_some is))))
   first_types (Some f) s node n rs = (λ is. is, λ is. is)
 
-  -- a fault that isn't of the first rank is the second's, where the first has none
+  -- a fault of a rank above the first's is the answer exactly if the first has none and it is the second's
   second_fault : (a s : Option TableError) (e : TableError) (r : ℕ) → ((x : TableError) → a ≡ Some x → rank x ≡ r) → r < rank e → (first_fault a s ≡ Some e) ↔ ((a ≡ None) × (s ≡ Some e))
   second_fault None s e r ra above = (λ is. (refl, is), λ h. h.1)
   second_fault (Some f) s e r ra above = (λ is. absurd (let one : rank e ≡ r = ra e is in omega arith), λ h. absurd (true≢false (ap is_some h.0)))

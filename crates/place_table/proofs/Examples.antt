@@ -8,7 +8,7 @@ use Rattle.place_table.specs.Hash.{place_of, number_text, point_text}
 use Rattle.place_table.specs.Ring.{owner_point}
 use Rattle.place_table.specs.Hosts.{key_place}
 
--- `abc` stands at the first 8 bytes of its digest
+-- the place of `abc` is the first 8 bytes of its digest
 abc_place : key_place (codes "abc") ≡ 0xBA7816BF8F01CFEA
 unfolding place_of
 abc_place = ap (λ d. from_be_bytes w64 (take 8 d)) digest_of_abc_256

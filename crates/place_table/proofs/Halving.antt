@@ -1,4 +1,4 @@
--- A search by halves: how often what is left can be halved, and where it ends.
+-- Binary search: how often the remaining points can be halved, and where the search ends.
 use Rattle.std.specs.Prelude.{◌≡◌, ℕ, ◌+◌, ◌-◌, ◌*◌, ◌^◌, ◌<◌, ◌≤◌, true, false, nat_le, List, length, Some, None, slice_get}
 use Rattle.std.proofs.Common.{sym, ◌∙◌, ap, subst, arith, get_or}
 use Rattle.std.specs.List.{find, position_or_len}
@@ -14,7 +14,7 @@ use Rattle.place_table.specs.Tables.{next_slot}
 twice : (p more : ℕ) → (p * 2) * more ≡ p * (more + more)
 twice p more = grind arith
 
--- with at most half of the w left, twice the looks fit
+-- if at most half of the w points remain, twice the factor p fits
 halved : (p w more n : ℕ) → 0 < w → more + more ≤ w → p * w ≤ n → ((p * 2) * more ≤ n) × (p * 2 ≤ 2 * n + 2)
 halved p w more n some half few =
     let a : p * (more + more) ≤ p * w = mul-le-mul_left p half in
@@ -25,21 +25,21 @@ halved p w more n some half few =
       omega arith,
     )
 
--- one look more, of s + 1 in all
+-- one more look; s is the count at the start
 pub one_look : (s now next w more n : ℕ) → next ≡ now + 1 → s ≤ now → 0 < w → more + more ≤ w → 2 ^ (now - s) * w ≤ n → (2 ^ (next - s) * more ≤ n) × (2 ^ (next - s) ≤ 2 * n + 2)
 one_look s now next w more n counted began some half few =
     let later : next - s ≡ (now - s) + 1 = omega arith in
     let doubled : 2 ^ (next - s) ≡ 2 ^ (now - s) * 2 = ap (λ k. 2 ^ k) later ∙ pow_more 2 (now - s) in
     subst (λ (p : ℕ). (p * more ≤ n) × (p ≤ 2 * n + 2)) (sym doubled) (halved (2 ^ (now - s)) w more n some half few)
 
--- in order of place, what stands before a point that is before the place is before it
+-- in order of place, a point in front of one that is before the place is before the place too
 pub rises_before : (slots : List Slot) (place k mid : ℕ) (d e : Slot) → IsNonDecreasingBy (λ (s : Slot). s.place) slots → k ≤ mid → mid < length slots → nat_le place (get_or slots mid e).place ≡ false → nat_le place (get_or slots k d).place ≡ false
 rises_before slots place k mid d e up low within seen =
     let far : (get_or slots k d).place ≤ (get_or slots mid d).place = up k mid d low within in
     let same : nat_le place (get_or slots mid d).place ≡ false = ap (λ (s : Slot). nat_le place s.place) (get_or_default slots mid d e within) ∙ seen in
     grind arith
 
--- and what stands after a point from the place on is from the place on
+-- and a point after one that is at or after the place is at or after it too
 pub rises_from : (slots : List Slot) (place k mid : ℕ) (d e : Slot) → IsNonDecreasingBy (λ (s : Slot). s.place) slots → mid ≤ k → mid < length slots → k < length slots → nat_le place (get_or slots mid e).place ≡ true → nat_le place (get_or slots k d).place ≡ true
 rises_from slots place k mid d e up low inside within seen =
     let far : (get_or slots mid d).place ≤ (get_or slots k d).place = up mid k d low within in

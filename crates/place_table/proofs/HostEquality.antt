@@ -7,7 +7,7 @@ use Rattle.std.proofs.lemmas.Slice.Eq.{bytes_eq-Decides, slice_eq-Decides}
 use Rattle.actor_names.specs.Same.{same_member}
 use Rattle.place_table.specs.declared.host.HostInfo.{HostInfo}
 
--- all that two hosts have is equal
+-- all fields of two hosts are equal
 abbrev pub same_host : HostInfo → HostInfo → Bool
 same_host a b =
     same_member a.member b.member && (bytes_eq a.app b.app && (((a.address.ip == b.address.ip) && (a.address.port == b.address.port)) && pointwise bytes_eq a.kinds b.kinds))
@@ -50,6 +50,6 @@ itself a =
       (slice_eq-Decides bytes_eq-Decides a.kinds a.kinds (pointwise bytes_eq a.kinds a.kinds) refl).1 refl,
     ) refl
 
--- it is true exactly where they are equal
+-- it is true exactly if they are equal
 pub same_host-Decides : (a b : HostInfo) → Decides (same_host a b) (a ≡ b)
 same_host-Decides a b = (same_host-true a b, λ is. subst (λ (x : HostInfo). same_host a x ≡ true) is (itself a))

@@ -1,4 +1,4 @@
--- A host more takes actors only to itself, and the order of the hosts plays no part.
+-- An added host takes actors only to itself, and the order of the hosts doesn't matter.
 use Rattle.std.specs.Prelude.{◌≡◌, ◌≢◌, ℕ, ◌⊎◌, Bool, true, false, if◌then◌else◌, List, [], ◌∷◌, ◌++◌, map, Option, Some, None, option_map, Contains, MatchOption, IsPermutation, ◌↔◌}
 use Rattle.std.proofs.Common.{refl, sym, ◌∙◌, ap, subst, inl, inr, append-nil}
 use Rattle.std.proofs.lemmas.Grind.{flat_map-append}
@@ -87,7 +87,7 @@ served_named h false q m = absurd (none_in_nil q m)
 ring_more : (hosts : List HostInfo) (h : HostInfo) (kind : List ℕ) → ring_points (hosts ++ h ∷ []) kind ≡ ring_points hosts kind ++ host_points kind h
 ring_more hosts h kind = flat_map-append (host_points kind) hosts (h ∷ []) ∙ ap (λ ps. ring_points hosts kind ++ ps) (append-nil (host_points kind h))
 
--- among the hosts and one more the new host owns the actor, or the owner is as before
+-- with one more host, the new host owns the actor or the owner is as before
 pub owner_more : (hosts : List HostInfo) (h : HostInfo) (key : ActorKey) → (owner_of (hosts ++ h ∷ []) key ≡ Some (node_of h)) ⊎ (owner_of (hosts ++ h ∷ []) key ≡ owner_of hosts key)
 owner_more hosts h key =
     let ps = ring_points hosts key.kind in
@@ -114,6 +114,6 @@ given_to_new space hosts h key = go (bytes_eq key.space space)
     go true moved = taken_by_new hosts h key moved
     go false moved = absurd (moved refl)
 
--- a fact that holds where two owners differ, said of equal owners
+-- a fact that holds exactly if two owners differ, carried over to equal owners
 pub moves_same : {P : Type 0} (a a' b b' : Option (List ℕ)) → a ≡ a' → b ≡ b' → P ↔ (a ≢ b) → P ↔ (a' ≢ b')
 moves_same a a' b b' e f h = (λ p d. h.0 p (e ∙ d ∙ sym f), λ n. h.1 (λ d. n (sym e ∙ d ∙ f)))

@@ -1,4 +1,4 @@
--- Hosts of distinct nodes that are sorted by node rise strictly.
+-- Hosts of distinct nodes that are sorted by node are in strictly ascending order.
 use Rattle.std.specs.Prelude.{◌≡◌, ℕ, ◌+◌, ◌<◌, ◌≤◌, Bool, true, false, ◌||◌, if◌then◌else◌, List, [], ◌∷◌, ◌++◌, length, All, Option, Some, None, sum_by, IsPermutation, IsSorted, nat_lt}
 use Rattle.std.proofs.Common.{refl, sym, ◌∙◌, ap, subst, true≢false, arith, get_or, is_some, append-nil, append_assoc, add-one, suc}
 use Rattle.std.proofs.lemmas.List.Elements.{All-head, All-tail}
@@ -49,7 +49,7 @@ count_none node (h ∷ hs) e = count_more node h hs ∙ split (bytes_eq (node_of
     split true e more = absurd (true≢false e)
     split false e more = let z = more e in omega arith
 
--- no node stands in the list twice
+-- no node is in the list twice
 unfoldable pub IsDistinct : List HostInfo → Type 0
 IsDistinct hosts = (node : List ℕ) → count_of node hosts ≤ 1
 
@@ -93,7 +93,7 @@ first_none : (a b : Option TableError) → first_fault a b ≡ None → a ≡ No
 first_none None b e = refl
 first_none (Some f) b e = absurd (true≢false (ap is_some e))
 
--- hosts of which a table is built have distinct nodes
+-- hosts from which a table is built have distinct nodes
 pub nodes_allowed : (space : List ℕ) (hosts : List HostInfo) → table_fault space hosts ≡ None → same_node_fault [] hosts ≡ None
 nodes_allowed space hosts e = split (nat_lt 256 (length hosts)) e
   where

@@ -121,7 +121,7 @@ owner_of_both points place (Some p) b h k = inl (from_least_kept points place p 
 owner_of_both points place None None h k = k
 owner_of_both points place None (Some p) h k = inr (below_from_none points place h, k)
 
--- the owner meets the relation, and only where there is no point is there no owner
+-- the owner satisfies the relation; there is no owner only if there is no point
 pub owner_cases : (points : List Point) (place : ℕ) → MatchOption (owner_point points place) (points ≡ []) (IsOwner points place)
 owner_cases points place = owner_of_both points place (least (filter (λ p. nat_le place p.place) points)) (least points) (least_cases (filter (λ p. nat_le place p.place) points)) (least_cases points)
 

@@ -1,4 +1,4 @@
--- The first place of the owner's point in a list.
+-- The first index of the owner's point in a list.
 use Rattle.std.specs.Prelude.{◌≡◌, ℕ, Bool, true, false, ◌&&◌, ◌==◌, List, [], Option, Some, None, Contains, slice_get, position, IfSome, IsSomeAnd, IsNone, ◌↔◌, MatchOption}
 use Rattle.std.proofs.Common.{refl, sym, ◌∙◌, ap, subst, true≢false, arith, get_or, eqb-true}
 use Rattle.std.specs.Str.{bytes_eq}

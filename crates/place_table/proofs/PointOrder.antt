@@ -19,7 +19,7 @@ both_equal Less s e = absurd (true≢false (ap is_lt e))
 both_equal Equal s e = (refl, e)
 both_equal Greater s e = absurd (true≢false (ap is_gt e))
 
--- points that tie are one
+-- points that tie are equal
 pub same_point : (p q : Point) → point_cmp p q ≡ Equal → p ≡ q
 same_point p q e =
     let both = both_equal (nat_cmp p.place q.place) (slice_cmp nat_cmp p.node q.node) e in
@@ -32,7 +32,7 @@ turned_lt Less = refl
 turned_lt Equal = refl
 turned_lt Greater = refl
 
--- one point is after another exactly where the other is before it
+-- one point is after another exactly if the other is before it
 pub before_turned : (p q : Point) → is_before p q ≡ is_gt (point_cmp q p)
 before_turned p q = ap is_lt (point_cmp_total.antisymm p q) ∙ turned_lt (point_cmp q p)
 
@@ -48,7 +48,7 @@ lt_not_gt Greater e = absurd (true≢false (sym e))
 pub before_one_way : (p q : Point) → is_before p q ≡ true → is_before q p ≡ false
 before_one_way p q e = before_turned q p ∙ lt_not_gt (point_cmp p q) e
 
--- a point that isn't before y, which isn't before x, isn't before x
+-- if z isn't before y, and y isn't before x, then z isn't before x
 pub not_before_chain : (x y z : Point) → is_before y x ≡ false → is_before z y ≡ false → is_before z x ≡ false
 not_before_chain x y z a b =
     before_turned z x ∙ upto point_cmp_total x y z (sym (before_turned y x) ∙ a) (sym (before_turned z y) ∙ b)
@@ -58,6 +58,6 @@ level Less a b = absurd (true≢false a)
 level Equal a b = refl
 level Greater a b = absurd (true≢false b)
 
--- two points of which neither is before the other are one
+-- two points of which neither is before the other are equal
 pub same_from_neither : (p q : Point) → is_before p q ≡ false → is_before q p ≡ false → p ≡ q
 same_from_neither p q a b = same_point p q (level (point_cmp p q) a (sym (before_turned q p) ∙ b))

@@ -1,4 +1,4 @@
--- In points in order the owner of a place is the first at or after it, or else the first of all.
+-- In points in order, the owner of a place is the first one at or after it, or else the first of all.
 use Rattle.std.specs.Prelude.{◌≡◌, ℕ, ◌+◌, ◌<◌, ◌≤◌, Bool, true, false, nat_le, nat_lt, if◌then◌else◌, List, [], ◌∷◌, length, map, Option, Some, None, option_map, slice_get, filter, All, Contains, MatchOption, IfSome, IsSorted, suc, ⊤}
 use Rattle.std.proofs.Common.{refl, sym, ◌∙◌, ap, subst, true≢false, arith, get_or, add-one}
 use Rattle.std.specs.List.{find}
@@ -94,7 +94,7 @@ next_mapped hosts slots place =
     ∙ ap (λ o. first_of o (option_map (slot_point hosts) (slice_get slots 0))) (find_mapped hosts place slots)
     ∙ ap (first_of (find (λ (p : Point). nat_le place p.place) (map (slot_point hosts) slots))) (sym (slice_get-map (slot_point hosts) slots 0))
 
--- of kept points in order the next one owns the place
+-- in kept points in order, the next one owns the place
 pub owner_next : (hosts : List HostInfo) (slots : List Slot) (place : ℕ) → IsSorted point_cmp (map (slot_point hosts) slots) → option_map (slot_point hosts) (next_slot slots place) ≡ owner_point (map (slot_point hosts) slots) place
 owner_next hosts slots place sorted = next_mapped hosts slots place ∙ sym (owner_found (map (slot_point hosts) slots) place sorted)
 

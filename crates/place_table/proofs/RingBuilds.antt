@@ -1,4 +1,4 @@
--- The points that are kept of a type are those of the hosts that serve it.
+-- The points that are kept for a type are those of the hosts that serve it.
 use Rattle.std.specs.Prelude.{◌≡◌, ℕ, ◌+◌, ◌<◌, ◌⊎◌, Bool, true, false, ◌||◌, if◌then◌else◌, List, [], ◌∷◌, ◌++◌, length, map, take, All, Vec}
 use Rattle.std.proofs.Common.{refl, sym, ◌∙◌, ap, subst, true≢false, inl, inr, arith, get_or, append-nil, Some, slice_get}
 use Rattle.std.specs.declared.alloc.Global.{Global}
@@ -69,7 +69,7 @@ pub known_pushed : (kind : List ℕ) (rings : List TypeRing) (r : TypeRing) → 
 known_pushed kind [] r e = ap (λ b. b || false) ((bytes_eq-Decides r.kind kind).1 e)
 known_pushed kind (x ∷ xs) r e = true_or (bytes_eq x.kind kind) (is_known kind (xs ++ r ∷ [])) (known_pushed kind xs r e)
 
--- what holds of some of the elements and one more holds of some or of the one
+-- if a test holds for some of the elements and one more, it holds for some of them or for the one
 pub any_pushed : {X : Type 0} (p : X → Bool) (xs : List X) (x : X) → list_any p (xs ++ x ∷ []) ≡ true → (list_any p xs ≡ true) ⊎ (p x ≡ true)
 any_pushed p [] x e = inr (or_false (p x) e)
   where
@@ -107,7 +107,7 @@ nothing_kept : (kind : List ℕ) (rings : List TypeRing) → is_known kind rings
 nothing_kept kind [] e = refl
 nothing_kept kind (r ∷ rs) e = unknown_case kind r rs (nothing_kept kind rs) (bytes_eq r.kind kind) e
 
--- each type that a host serves is known, so what is kept of any type is its points
+-- each type that a host serves is known, so what is kept for any type is its points
 pub rings_kept : (hosts : List HostInfo) (rings : List TypeRing) → All (λ (r : TypeRing). IsRingOf hosts r.kind r.slots.items) rings → ((k : List ℕ) → list_any (λ h. serves h k) hosts ≡ true → is_known k rings ≡ true) → (kind : List ℕ) → IsRingOf hosts kind (kept_slots kind rings)
 rings_kept hosts rings all covered kind =
     elim (is_known kind rings) as (λ b. is_known kind rings ≡ b → IsRingOf hosts kind (kept_slots kind rings)) [

@@ -1,10 +1,10 @@
--- One point more on the left of those that a scan from the end has seen.
+-- One more point to the left of those that a scan from the end has seen.
 use Rattle.std.specs.Prelude.{◌≡◌, ℕ, ◌-◌, ◌<◌, ◌≤◌, Bool, true, false, nat_le, if◌then◌else◌, List, ◌∷◌, length, drop, Option, filter, suc}
 use Rattle.std.proofs.Common.{refl, sym, ◌∙◌, ap, arith, drop-cons, get_or}
 use Rattle.place_table.specs.declared.point.Point.{Point}
 use Rattle.place_table.specs.Ring.{lesser, least}
 
--- what is left from the place before i on
+-- what remains from the index before i on
 pub drop_back : {X : Type 0} (xs : List X) (i : ℕ) (x : X) → 0 < i → i ≤ length xs → x ≡ get_or xs (i - 1) x → drop (i - 1) xs ≡ x ∷ drop i xs
 drop_back xs i x above within read =
     let inside : i - 1 < length xs = omega arith in

@@ -1,4 +1,4 @@
--- Kept points in order of place and of their hosts' numbers are points in order.
+-- Kept points in order of place, then of their hosts' numbers, are points in order.
 use Rattle.std.specs.Prelude.{◌≡◌, ℕ, ◌+◌, ◌<◌, List, [], ◌∷◌, length, map, Some, slice_get, All, IsPermutation, IsSorted, zero, suc}
 use Rattle.std.proofs.Common.{sym, ◌∙◌, ap, subst, arith, get_or}
 use Rattle.std.specs.declared.cmp.Ordering.TheVariants.{Less, Greater}
@@ -47,7 +47,7 @@ after_first x xs j sorted within =
     let e : slice_get xs j ≡ Some (get_or xs j x) = slice_get-get_or xs j x within in
     ap (λ o. slice_cmp nat_cmp (node_of x) (found_node o)) e ∙ later_at (λ y. node_cmp x y ≡ Less) xs j (get_or xs j x) sorted.0 e
 
--- of hosts in byte order of node the numbers are in the order of the nodes
+-- if hosts are in byte order of node, their numbers are in the order of the nodes
 pub number_cmp : (hosts : List HostInfo) (i j : ℕ) → IsNodeSorted hosts → i < length hosts → j < length hosts → slice_cmp nat_cmp (found_node (slice_get hosts i)) (found_node (slice_get hosts j)) ≡ nat_cmp i j
 unfolding IsStrictlySortedBy
 number_cmp [] i j sorted below within = absurd (omega arith)

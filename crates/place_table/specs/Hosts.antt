@@ -13,7 +13,7 @@ use Rattle.place_table.specs.declared.error.TableError.TheVariants.{TooManyMembe
 use Rattle.place_table.specs.Hash.{place_of, point_text}
 use Rattle.place_table.specs.Ring.{owner_point}
 
--- where an actor of this id stands on the ring; its type plays no part
+-- the place on the ring of an actor with this id; its type doesn't matter
 abbrev pub key_place : List ℕ → ℕ
 key_place id = place_of id
 
@@ -51,11 +51,12 @@ ring_points hosts kind = flat_map (host_points kind) hosts
 abbrev pub owner_of : List HostInfo → ActorKey → Option (List ℕ)
 owner_of hosts key = option_map (λ p. p.node) (owner_point (ring_points hosts key.kind) (key_place key.id))
 
--- the node to which a table of the space gives an actor among the hosts: none where the actor is of another space
+-- the node to which a table of the space gives an actor among the hosts: none if the actor is of another space
 abbrev pub given_owner : List ℕ → List HostInfo → ActorKey → Option (List ℕ)
 given_owner space hosts key = if bytes_eq key.space space then owner_of hosts key else None
 
--- a placement table: a space, a version, and hosts of that space and of distinct nodes in byte order of node
+-- a placement table: a space, a version, and hosts of distinct nodes in byte order of node; `build_table` makes
+-- tables whose hosts are all of the space
 pub record PlacementTable : Type 0 where
   pub space : List ℕ
   pub version : ℕ
@@ -77,7 +78,7 @@ abbrev pub types_fault : List HostInfo → Option TableError
 types_fault [] = None
 types_fault (h ∷ hs) = if nat_lt 32 (length h.kinds) then Some (TooManyTypes (node_of h) (length h.kinds)) else types_fault hs
 
--- the first host whose node stood before, where these hosts stand before them
+-- the first host whose node came before, with `earlier` the hosts that come before the list
 abbrev pub same_node_fault : List HostInfo → List HostInfo → Option TableError
 same_node_fault earlier [] = None
 same_node_fault earlier (h ∷ hs) = if list_any (λ e. bytes_eq (node_of e) (node_of h)) earlier then Some (SameNode (node_of h)) else same_node_fault (earlier ++ h ∷ []) hs
@@ -91,17 +92,18 @@ abbrev pub first_fault : Option TableError → Option TableError → Option Tabl
 first_fault None second = second
 first_fault (Some e) second = Some e
 
--- why no table of these hosts is built for the space, memory apart
+-- why no table of these hosts is built for the space, apart from memory
 abbrev pub table_fault : List ℕ → List HostInfo → Option TableError
 table_fault space hosts =
     if nat_lt 256 (length hosts) then Some (TooManyMembers (length hosts)) else first_fault (types_fault hosts) (first_fault (same_node_fault [] hosts) (other_space_fault space hosts))
 
--- hosts with a fault are refused with that very fault; of any others a table is built, unless there is no memory for it
+-- hosts with a fault are refused with that very fault; from any others a table is built, unless memory runs out
 abbrev pub BuildsTable : {A : Type 0} → Option TableError → Result A TableError → Type 0
 BuildsTable None answer = IsOkUnless answer OutOfMemory
 BuildsTable (Some fault) answer = answer ≡ Err fault
 
--- of two tables the first fault is answered, the smaller table's before the larger one's
+-- the first fault of two tables is the answer, the smaller table's before the larger one's; memory may run out before
+-- the larger one's
 abbrev pub RefusesTables : {A : Type 0} → Option TableError → Option TableError → Result A TableError → Type 0
 RefusesTables (Some fault) larger answer = answer ≡ Err fault
 RefusesTables None (Some fault) answer = (answer ≡ Err fault) ⊎ (answer ≡ Err OutOfMemory)

@@ -6,7 +6,7 @@ use Rattle.std.specs.Cmp.Lexicographic.{slice_cmp}
 use Rattle.std.specs.Str.{bytes_eq}
 use Rattle.place_table.specs.declared.point.Point.{Point}
 
--- points in order of place, and at one place in byte order of node
+-- points in order of place, then in byte order of node
 abbrev pub point_cmp : Point → Point → Ordering
 point_cmp = then_cmp (on (λ p. p.place) nat_cmp) (on (λ p. p.node) (slice_cmp nat_cmp))
 
@@ -46,6 +46,6 @@ pub record IsLeastFrom (points : List Point) (place : ℕ) (p : Point) : Type 0 
   pub reached : place ≤ p.place
   pub first : (q : Point) → Contains points q → place ≤ q.place → is_before q p ≡ false
 
--- p is the least of the points from the place on, or no point is there and p is the least of all
+-- p is the least of the points at or after the place, or there are none and p is the least of all
 abbrev pub IsOwner : List Point → ℕ → Point → Type 0
 IsOwner points place p = IsLeastFrom points place p ⊎ (((q : Point) → Contains points q → q.place < place) × IsLeast points p)

@@ -1,4 +1,4 @@
--- What a table keeps beside its hosts: the points of each type, in order. Own.
+-- What a table keeps besides its hosts: the points of each type, in order. Own.
 use Rattle.std.specs.Prelude.{◌≡◌, ℕ, ◌<◌, if◌then◌else◌, List, [], ◌∷◌, length, All, map, Option, Some, None, Bool, Vec, nat_le, IsPermutation, IsSorted}
 use Rattle.std.specs.List.{slice_get, list_any, find}
 use Rattle.std.specs.Option.{option_or}
@@ -41,12 +41,12 @@ row_items row = row.items
 abbrev pub is_known : List ℕ → List TypeRing → Bool
 is_known kind rings = list_any (λ r. bytes_eq r.kind kind) rings
 
--- what is kept of a type
+-- the points that are kept for a type
 abbrev pub kept_slots : List ℕ → List TypeRing → List Slot
 kept_slots kind [] = []
 kept_slots kind (ring ∷ rings) = if bytes_eq ring.kind kind then ring.slots.items else kept_slots kind rings
 
--- by place, and at one place by the number of the host
+-- by place, then by the number of the host
 abbrev pub slot_cmp : Slot → Slot → Ordering
 slot_cmp = then_cmp (on (λ s. s.place) nat_cmp) (on (λ s. s.host) nat_cmp)
 
@@ -59,7 +59,7 @@ pub record IsListOf (hosts : List HostInfo) (kind : List ℕ) (slots : List Slot
   pub points : map (slot_point hosts) slots ≡ ring_points hosts kind
   pub numbers : All (λ s. s.host < length hosts) slots
 
--- these are the points of the type among the hosts, in order of place, and at one place in byte order of node
+-- these are the points of the type among the hosts, in order of place, then in byte order of node
 pub record IsRingOf (hosts : List HostInfo) (kind : List ℕ) (slots : List Slot) : Type 0 where
   pub points : IsPermutation (ring_points hosts kind) (map (slot_point hosts) slots)
   pub ordered : IsSorted point_cmp (map (slot_point hosts) slots)

@@ -42,7 +42,7 @@ fn serves(host: &HostInfo, kind: &ActorType) -> bool
     host.kinds.as_slice().iter().any(|k| k == kind)
 }
 
-// Keeps the points of a host.
+// Adds the points of a host.
 fn push_points(slots: &mut Vec<Slot>, places: &[u64], host: usize) -> Result<(), OutOfMemory>
     ensures { OnOk result (slots.new.items ≡ slots.old.items ++ map (slot_at host) places.now) }
 {
@@ -55,7 +55,7 @@ fn push_points(slots: &mut Vec<Slot>, places: &[u64], host: usize) -> Result<(),
     Ok(())
 }
 
-// Keeps the points of a host if it serves the type.
+// Adds the points of a host if it serves the type.
 fn push_host(
     slots: &mut Vec<Slot>,
     host: &HostInfo,
@@ -111,7 +111,7 @@ fn is_known(rings: &[TypeRing], kind: &ActorType) -> bool
     rings.iter().any(|ring| ring.kind == *kind)
 }
 
-// Keeps the points of the type, unless they are kept.
+// Keeps the points of the type, unless they are kept already.
 fn add_ring(
     alloc: Global,
     rings: &mut Vec<TypeRing>,

@@ -12,7 +12,7 @@ pub enum TableError {
     /// The host of `node`, the first such one in the given order, has `n` types, more than 32.
     #[error("{n} types of a member")]
     TooManyTypes { node: Node, n: u64 },
-    /// Two hosts have the node `name`; it is the first in the given order that stood before.
+    /// Two hosts have the node `name`; it is the first node in the given order that came before.
     #[error("two members of one node")]
     SameNode { name: Node },
     /// The host of `node`, the first such one in the given order, is of another space than the table.

@@ -1,4 +1,4 @@
-// Why no table is built of some hosts.
+// Why no table is built from some hosts.
 ghost use Rattle.std.specs.Prelude.{◌≡◌, [], if◌then◌else◌};
 ghost use Rattle.std.specs.List.{list_any};
 ghost use Rattle.std.specs.Str.{bytes_eq};
@@ -37,7 +37,7 @@ fn has_node(hosts: &[HostInfo], node: &Node) -> bool
     hosts.iter().any(|host| host.member.node == *node)
 }
 
-// The first host whose node stood before.
+// The first host whose node came before.
 fn same_node_fault(hosts: &[HostInfo]) -> Option<TableError>
     ensures { result ≡ same_node_fault [] hosts.now }
 {
@@ -64,7 +64,7 @@ fn other_space_fault(space: &Space, hosts: &[HostInfo]) -> Option<TableError>
     None
 }
 
-// Why no table of these hosts is built for the space, memory apart.
+// Why no table of these hosts is built for the space, apart from memory.
 pub(crate) fn table_fault(space: &Space, hosts: &[HostInfo]) -> Option<TableError>
     ensures { result ≡ table_fault space.now hosts.now }
 {

@@ -15,8 +15,8 @@ fn first_place(digest: &[u8; 32]) -> u64
     u64::from_be_bytes([d[0], d[1], d[2], d[3], d[4], d[5], d[6], d[7]])
 }
 
-/// Where an actor of this id stands on the ring: the first 8 bytes of the id's SHA-256, as a big-endian number.
-/// The type plays no part.
+/// The place on the ring of an actor with this id: the first 8 bytes of the id's SHA-256, as a big-endian number.
+/// The type doesn't matter.
 #[tactic(auto, unfolding(crate::specs::Hash::place_of))]
 pub fn key_hash(id: &ActorId) -> u64
     ensures { result ≡ key_place id.now }
@@ -25,7 +25,7 @@ pub fn key_hash(id: &ActorId) -> u64
     first_place(&digest)
 }
 
-/// The part of a host, from 0 to `parts - 1`, in which an actor of this id lives.
+/// The part of a host, from 0 to `parts - 1`, in which an actor with this id lives.
 pub fn part_of(id: &ActorId, parts: u8) -> u8
     requires { 1 ≤ parts }
     ensures { result ≡ key_place id.now % parts }

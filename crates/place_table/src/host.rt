@@ -70,10 +70,10 @@ impl Eq for ActorTypes {
     ghost laws = { lists_equiv nat_list_eq_equiv };
 }
 
-/// A member that serves actors. Two are equal where all that they have is, the types in one order.
+/// A member that serves actors. Two are equal if all their fields are, with the types in the same order.
 #[derive(Debug, Drop, PartialEq, Eq)]
 pub struct HostInfo {
-    /// The node and its boot.
+    /// The space, the node and its boot.
     pub member: Member,
     /// The application that serves the actors.
     pub app: AppId,

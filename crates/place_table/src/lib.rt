@@ -1,7 +1,7 @@
 // Placement tables: which host of a cluster owns an actor, by a consistent hash ring.
 //
 // Promise: the owner is the host of the least point at or after the place of the actor's id, or else of the
-// least point of all; a host more takes actors only to itself. Stands on `actor_names` and `sha2`.
+// least point of all; an added host takes actors only to itself. Depends on `actor_names` and `sha2`.
 #![tactic(auto)]
 
 mod ack_stage;

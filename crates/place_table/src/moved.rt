@@ -23,7 +23,7 @@ fn larger_hosts(
     Ok(both)
 }
 
-// Tests whether two hosts, or no host and no host, have one node.
+// Tests whether two hosts have the same node, or both are None.
 fn is_same_node(first: Option<&HostInfo>, second: Option<&HostInfo>) -> bool
     ensures { IsTrue result ↔ (option_map node_of (option_copied first.entry) ≡ option_map node_of (option_copied second.entry)) }
 {
@@ -41,8 +41,8 @@ fn has_moved(before: &Table, after: &Table, key: &ActorKey) -> bool
     !is_same_node(after.owner_uncounted(key), before.owner_uncounted(key))
 }
 
-/// Whether the actor has another owner among the hosts of a space and one more than among the hosts alone, in tables
-/// of version 1; its owner is then the new host. A fault is that of the smaller table, or else of the larger.
+/// Whether the owner of the actor changes if the host `more` is added to the hosts of a space, in tables of version 1;
+/// if so, the new owner is `more`. A fault is that of the smaller table, or else of the larger one.
 pub fn moved_law(
     alloc: Global,
     space: &Space,

@@ -4,7 +4,7 @@ use actor_names::Node;
 /// A point of a node on the ring.
 #[derive(Clone, Copy, Debug)]
 pub struct Point {
-    /// Where the point stands on the ring.
+    /// Where the point is on the ring.
     pub place: u64,
     /// The node whose point it is.
     pub node: Node,

@@ -27,7 +27,7 @@ fn lesser(p: &Point, best: Option<Point>) -> Option<Point>
     }
 }
 
-// The same, where only a point at or after the place counts.
+// The same, but the point counts only if it is at or after the place.
 fn lesser_from(p: &Point, place: u64, best: Option<Point>) -> Option<Point>
     ensures { result ≡ (if nat_le place p.now.place then lesser p.now best else best) }
 {
@@ -53,23 +53,23 @@ fn owner_point(points: &[Point], place: u64) -> Option<Point>
     from.or(all)
 }
 
-// Tests whether two points are one.
+// Tests whether two points are equal.
 fn is_point(p: &Point, q: &Point) -> bool
     ensures { result ≡ is_point p.now q.now }
 {
     p.place == q.place && p.node.as_slice() == q.node.as_slice()
 }
 
-// The first place in the list of the point.
+// The first index of the point in the list.
 fn point_at(points: &[Point], point: &Point) -> Option<usize>
     ensures { result ≡ position (is_point point.now) points.now }
 {
     points.iter().position(|p| is_point(point, p))
 }
 
-/// The first place in the list, from 0, of the point that owns the place `key`: of the least by place, then in
-/// byte order of node, among the points at or after `key`, or else of the least of all. None where there is no
-/// point. The list has any order, and a point may stand in it more than once.
+/// The first index in the list of the point that owns the place `key`: of the least by place, then in byte order of
+/// node, among the points at or after `key`, or else of the least of all. None if there is no point. The list may
+/// be in any order, and may have a point more than once.
 pub fn ring_pick(points: &[Point], key: u64) -> Option<usize>
     ensures pick { result ≡ option_and_then (λ p. position (is_point p) points.now) (owner_point points.now key) }
     ensures owner { IfSome result (λ i. IsSomeAnd (slice_get points.now i) (IsOwner points.now key)) }

@@ -1,4 +1,4 @@
-// The points that a table keeps of a type, and the one of them that owns a place.
+// The points that a table keeps for a type, and the one of them that owns a place.
 ghost use Rattle.std.specs.Prelude.{◌≡◌, ◌+◌, ◌-◌, ◌*◌, ◌^◌, ◌≤◌, length, nat_le, IsPermutation, IsSorted};
 ghost use Rattle.std.specs.List.{position_or_len};
 ghost use Rattle.std.specs.List.Sorted.{IsNonDecreasingBy};
@@ -9,7 +9,7 @@ use crate::table::{Slot, TypeRing};
 use actor_names::ActorType;
 use std::sync::ledger::Ledger;
 
-// The points that are kept of the type.
+// The points that are kept for the type.
 pub(crate) fn ring_slots<'a>(rings: &'a [TypeRing], kind: &ActorType) -> &'a [Slot]
     ensures { result.now ≡ kept_slots kind.now rings.now }
 {
@@ -21,7 +21,7 @@ pub(crate) fn ring_slots<'a>(rings: &'a [TypeRing], kind: &ActorType) -> &'a [Sl
     &[]
 }
 
-// Puts points in order of place, and at one place in order of their hosts' numbers; takes no memory.
+// Sorts points by place, then by their hosts' numbers; takes no memory.
 pub(crate) fn sort_slots(slots: &mut Vec<Slot>)
     ensures same { IsPermutation slots.old.items slots.new.items }
     ensures sorted { IsSorted slot_cmp slots.new.items }
@@ -38,8 +38,8 @@ fn is_from<L: Ledger>(slot: Slot, place: u64, steps: &mut Steps<L>) -> bool
     place <= slot.place
 }
 
-// The number of the first point at or after the place, or else how many points there are. They are in order of
-// place, and each look halves those that are left.
+// The index of the first point at or after the place, or else the number of points. They are in order of place, and
+// each look halves those that remain.
 fn first_from<L: Ledger>(slots: &[Slot], place: u64, steps: &mut Steps<L>) -> usize
     requires { IsNonDecreasingBy (λ s. s.place) slots.now }
     ensures first { result ≡ position_or_len (λ s. nat_le place s.place) slots.now }

@@ -18,7 +18,7 @@ pub(crate) fn copy_hosts(alloc: Global, hosts: &[HostInfo]) -> Result<Vec<HostIn
     Ok(copies)
 }
 
-// Puts hosts in byte order of node.
+// Sorts hosts in byte order of node.
 fn sort_hosts(hosts: &mut Vec<HostInfo>)
     ensures same { IsPermutation hosts.old.items hosts.new.items }
     ensures sorted { IsSorted node_cmp hosts.new.items }

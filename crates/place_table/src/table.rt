@@ -29,7 +29,7 @@ pub(crate) struct Slot {
     pub(crate) host: usize,
 }
 
-/// The points of one type, in order of place, and at one place in byte order of node.
+/// The points of one type, in order of place, then in byte order of node.
 #[derive(Drop)]
 pub(crate) struct TypeRing {
     pub(crate) kind: ActorType,
@@ -87,9 +87,9 @@ impl Table {
         kept.hosts.as_slice()
     }
 
-    /// The host that owns the actor; None where the actor is of another space or no host serves its type. The
-    /// actor's id is hashed once, the points of its type are searched by halves, and no memory is asked for. Each
-    /// point that is looked at counts one step.
+    /// The host that owns the actor; None if the actor is of another space or no host serves its type. The actor's id
+    /// is hashed once, the points of its type are searched by bisection, and no memory is taken. Each point that is
+    /// looked at counts as one step.
     pub fn owner<L: Ledger>(&self, key: &ActorKey, steps: &mut Steps<L>) -> Option<&HostInfo>
         ensures owner { option_copied result ≡ table_owner self.now key.now }
         ensures node { option_map node_of (option_copied result) ≡ given_owner self.now.space self.now.hosts key.now }
@@ -107,7 +107,7 @@ impl Table {
         owner_host(kept.hosts.as_slice(), kept.rings.as_slice(), key, steps)
     }
 
-    /// The host that owns the actor, for a caller without interest in the count: looked up with a fresh counter.
+    /// The host that owns the actor, for callers that don't need the count: it is looked up with a fresh counter.
     pub fn owner_uncounted(&self, key: &ActorKey) -> Option<&HostInfo>
         ensures owner { option_copied result ≡ table_owner self.now key.now }
         ensures node { option_map node_of (option_copied result) ≡ given_owner self.now.space self.now.hosts key.now }
@@ -115,8 +115,8 @@ impl Table {
         fresh_owner::<Brand>(self, key, Blank::new(1))
     }
 
-    /// An equal table: it shares hosts and points with the table; no bytes are copied. It asks for no memory, and
-    /// gives up only where the count of those that share them is full, at 2^63 - 1.
+    /// An equal table. It shares hosts and points with this one; their bytes aren't copied. It takes no memory, and
+    /// fails only if the count of those that share them is full, at 2^63 - 1.
     pub fn copy(&self) -> Result<Table, OutOfMemory>
         ensures { IfOk result (λ t. t ≡ self.now) }
     {
@@ -160,7 +160,7 @@ fn make_table(
 }
 
 /// The table of the hosts of the space at the version, its hosts equal to the given ones and in byte order of node.
-/// A fault of the hosts is answered before memory is asked for; the points of each host are hashed once.
+/// A fault of the hosts is reported before any memory is allocated; the points of each host are hashed once.
 pub fn build_table(
     alloc: Global,
     space: &Space,

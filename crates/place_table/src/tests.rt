@@ -72,7 +72,7 @@ fn ring_pick_takes_successor(rt: HostRuntime) -> Result<(), Fail> {
     Ok(())
 }
 
-// The node that stands twice, or nothing.
+// The node that two hosts have, or nothing.
 fn same_node(fault: &TableError) -> &[u8] {
     match fault {
         TableError::SameNode { name } => name.as_slice(),
@@ -105,7 +105,7 @@ fn first_host_takes_every_key(rt: HostRuntime) -> Result<(), Fail> {
 // A key, and the nodes that own it as a counter and as a timer.
 type Owners = (&'static [u8], &'static [u8], &'static [u8]);
 
-// Computed by another SHA-256; the last two ids stand after the last point of their type.
+// Computed by another SHA-256; the places of the last two ids are after the last point of their type.
 #[test]
 fn owners_are_those_of_another_sha256(rt: HostRuntime) -> Result<(), Fail> {
     let alloc = rt.alloc();
@@ -155,8 +155,8 @@ fn all_points(alloc: Global, hosts: &[HostInfo], kind: &ActorType) -> Result<Vec
     Ok(points)
 }
 
-// Of the ids from 0 on: how many stand after the last point of the type, and how many the table gives to another host
-// than a scan of all points does.
+// Of the ids from 0 on: how many have a place after the last point of the type, and how many the table gives to another
+// host than a scan of all points does.
 fn compare_owners(alloc: Global, table: &Table, kind: &[u8], ids: u32) -> Result<(u32, u32), Fail> {
     let kind = read_actor_type(alloc, kind)?;
     let points = all_points(alloc, table.hosts(), &kind)?;
@@ -182,7 +182,7 @@ fn compare_owners(alloc: Global, table: &Table, kind: &[u8], ids: u32) -> Result
     Ok((wrapped, other))
 }
 
-// How many stand after the last point was computed by another SHA-256.
+// How many ids have a place after the last point was computed by another SHA-256.
 #[test]
 fn search_gives_what_a_scan_gives(rt: HostRuntime) -> Result<(), Fail> {
     let alloc = rt.alloc();
@@ -204,7 +204,7 @@ fn copies_have_the_types(rt: HostRuntime) -> Result<(), Fail> {
     Ok(())
 }
 
-// Takes what can be moved between threads.
+// Takes a value that can be moved between threads.
 fn moved_table<T: Send>(table: T) -> T {
     table
 }

@@ -1,4 +1,4 @@
--- In each state of a run rounds have nothing left to do, in whatever room.
+-- In each state of a run, rounds have nothing left to do in any room.
 use Rattle.std.proofs.Common.{◌≡◌, ℕ, Bool, true, false, cond, List, [], ◌∷◌, length, map, Option, None, Some, refl, subst}
 use Rattle.std.specs.Prelude.{bytes_eq, nat_le, ◌==◌}
 use Rattle.std.proofs.lemmas.Bool.{cond_both}

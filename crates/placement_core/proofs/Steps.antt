@@ -77,7 +77,7 @@ found_gives : (event : PlaceEvent) (now : ℕ) (space : List ℕ) (room : RoomSt
 found_gives event now space room reply rs ss at g t e =
     (g.0 ∙ ap (λ (x : PlacementStep). x.reply) (sym e), ap shown g.1 ∙ shown_put rs space (room_step room event now).state ∙ ap (λ (x : PlacementStep). x.state) (sym e))
 
--- a step of the placement, where the room of its space is there
+-- a step of the placement, if the room of its space is there
 found_step : (s : PlacementState) (rs : List SpaceRoom) (event : PlaceEvent) (now : ℕ) (space its : List ℕ) (room : RoomState) → space ≡ its → s ≡ record { rooms = rs } → room_at rs space ≡ Some room → in_room s its event now (room_at s.rooms its) ≡ room_stepped (record { rooms = rs }) space (room_step room event now)
 found_step s rs event now space its room of e at = rw (← of, e, at) refl
 
@@ -90,7 +90,7 @@ member_gives (events.Lost m) now space reply rs ss of h = found_gives (events.Lo
 member_gives events.Tick now space reply rs ss of h = absurd of
 member_gives events.Look now space reply rs ss of h = absurd of
 
--- no room of the space, or the opening one, as which it stays
+-- the space has no room, or the opening one, which stays as it is
 abbrev IsNobodyAt : List SpaceRoom → List ℕ → Type 0
 IsNobodyAt rs space = (room_at rs space ≡ None) ⊎ ((room_at rs space ≡ Some new_room) × (put_room rs space new_room ≡ rs))
 
@@ -127,7 +127,7 @@ stranger_gives events.Look now space rs of e = absurd of
 
 -- ---- who registers
 
--- want of memory aside
+-- by cases: whether memory runs out
 pub in_memory_gives : (event : PlaceEvent) (now : ℕ) (reply : PlaceReply) (old new : PlacementState) → ((reply ≡ replies.OutOfMemory → ⊥) → Gives event now reply old new) → (reply ≡ replies.OutOfMemory → new ≡ old) → GivesInMemory event now reply old new
 in_memory_gives event now (replies.Lock v) old new g m = g (λ e. absurd (cc))
 in_memory_gives event now (replies.Update v) old new g m = g (λ e. absurd (cc))
@@ -158,7 +158,7 @@ steps_room event now space room (replies.SpacesFull n) rs ss off g = g
 steps_room event now space room (replies.Full n m) rs ss off g = g
 steps_room event now space room replies.OutOfMemory rs ss off g = absurd (off refl)
 
--- the same of one room
+-- in one room, if memory doesn't run out
 room_gives : (event : PlaceEvent) (now : ℕ) (reply : PlaceReply) (old new : RoomView) → (reply ≡ replies.OutOfMemory → ⊥) → RoomGivesInMemory event now reply old new → RoomGives event now reply old new
 room_gives event now (replies.Lock v) old new off g = g
 room_gives event now (replies.Update v) old new off g = g
@@ -174,7 +174,7 @@ room_gives event now (replies.SpacesFull n) old new off g = g
 room_gives event now (replies.Full n m) old new off g = g
 room_gives event now replies.OutOfMemory old new off g = absurd (off refl)
 
--- into a room that is there
+-- a host joins a room that is there
 pub joined_gives : (host : HostInfo) (now : ℕ) (reply : PlaceReply) (rs ss : List SpaceRoom) → HasStepped (events.Register host) now host.member.space reply rs ss → GivesInMemory (events.Register host) now reply (shown rs) (shown ss)
 joined_gives host now reply rs ss h =
     in_memory_gives (events.Register host) now reply (shown rs) (shown ss)
@@ -187,7 +187,7 @@ joined_gives host now reply rs ss h =
     out : (room : RoomState) → StepsInMemory (events.Register host) now host.member.space room replies.OutOfMemory rs ss → ss ≡ rs
     out room g = g
 
--- into a room that is made
+-- a host joins a room that is made
 pub opened_gives : (host : HostInfo) (now : ℕ) (reply : PlaceReply) (rs ss : List SpaceRoom) (old new : RoomView) → 0 < length rs → room_at rs host.member.space ≡ None → nat_le most_spaces (length rs) ≡ false → (host.member.boot == 0) ≡ false → old.state ≡ new_room → (reply ≡ replies.OutOfMemory → ⊥) → RoomGivesStep (events.Register host) now reply old new → ss ≡ put_room rs host.member.space new.state → GivesInMemory (events.Register host) now reply (shown rs) (shown ss)
 opened_gives host now reply rs ss old new l free few booted opening off g put =
     in_memory_gives (events.Register host) now reply (shown rs) (shown ss)
@@ -203,7 +203,7 @@ opened_gives host now reply rs ss old new l free few booted opening off g put =
           ap shown put ∙ shown_put rs host.member.space new.state ∙ ap (λ (s : RoomState). record { rooms = put_room rs host.member.space s }) stepped ∙ ap (λ (x : PlacementStep). x.state) (sym made),
         )
 
--- where there are 64 rooms, or the boot is 0
+-- a host is refused if there are 64 rooms, or if its boot is 0
 pub spaces_full : (host : HostInfo) (now n : ℕ) (rs : List SpaceRoom) → 0 < length rs → room_at rs host.member.space ≡ None → nat_le most_spaces (length rs) ≡ true → n ≡ length rs → GivesInMemory (events.Register host) now (replies.SpacesFull n) (shown rs) (shown rs)
 spaces_full host now n rs l free full e =
     let made : joins_room (shown rs) host now (room_at (shown rs).rooms host.member.space) ≡ refused (record { rooms = rs }) (replies.SpacesFull (length rs)) = rw (shown_kept rs l, free, full) refl in
@@ -214,12 +214,12 @@ boot_zero host now rs l free few zero =
     let made : joins_room (shown rs) host now (room_at (shown rs).rooms host.member.space) ≡ refused (record { rooms = rs }) (replies.StaleBoot 0) = rw (shown_kept rs l, free, few, zero) refl in
     (ap (λ (x : PlacementStep). x.reply) (sym made), shown_kept rs l ∙ ap (λ (x : PlacementStep). x.state) (sym made))
 
--- the rooms that are shown, kept, are shown as before
+-- showing the shown rooms again changes nothing
 pub shown_again : (rs : List SpaceRoom) → shown (shown rs).rooms ≡ shown rs
 shown_again [] = refl
 shown_again (r ∷ rs) = refl
 
--- a member's place in the room at a place
+-- `member` is an index of the members of the room at the index `at`
 pub member_place : (rs : List SpaceRoom) (at member : ℕ) (room : RoomState) → 0 < length rs → ((r : SpaceRoom) → slice_get rs at ≡ Some r → room ≡ r.room) → IsMemberPlace (shown rs).rooms at member → member < length room.members
 member_place [] at member room l is h = absurd (omega arith)
 member_place (r ∷ rs) at member room l is h =

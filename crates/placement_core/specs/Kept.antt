@@ -1,4 +1,4 @@
--- Rooms as they are kept, in a vector. Until the first Register there is no vector. Own.
+-- Rooms as they are kept, in a vector. Until the first Register the vector is empty. Own.
 use Rattle.std.specs.Prelude.{ℕ, List, [], ◌∷◌}
 use Rattle.round_core.specs.declared.event.PlaceEvent.TheVariants as events
 use Rattle.round_core.specs.Room.{RoomState, room_step, room_restarted}
@@ -22,7 +22,7 @@ kept_ticked now k = record { space = k.space; room = record { state = (room_step
 abbrev pub kept_restarted : ℕ → KeptRoom → KeptRoom
 kept_restarted now k = record { space = k.space; room = record { state = room_restarted k.room.state now; recent = restart_record k.room.state now } }
 
--- with no room kept it is the opening placement
+-- if no room is kept, it is the opening placement
 abbrev pub shown : List SpaceRoom → PlacementState
 shown [] = new_placement
 shown (r ∷ rs) = record { rooms = r ∷ rs }

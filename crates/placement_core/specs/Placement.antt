@@ -21,7 +21,7 @@ pub record PlacementState : Type 0 where
 abbrev pub most_spaces : ℕ
 most_spaces = 64
 
--- the opening state has the room of the space `default`, where nobody is
+-- the opening state has the room of the space `default`, without members
 abbrev pub new_placement : PlacementState
 new_placement = record { rooms = record { space = default_space; room = new_room } ∷ [] }
 
@@ -31,11 +31,11 @@ abbrev pub room_at : List SpaceRoom → List ℕ → Option RoomState
 room_at [] space = None
 room_at (r ∷ rs) space = if bytes_eq space r.space then Some r.room else room_at rs space
 
--- a space without a room is as one whose room is the opening one
+-- a space without a room is like one whose room is the opening one
 abbrev pub room_of : PlacementState → List ℕ → RoomState
 room_of s space = unwrap_or (room_at s.rooms space) new_room
 
--- the rooms with this one in its space, at its place where the space had none
+-- the rooms with this one for the space, inserted at its place if the space had none
 abbrev pub put_room : List SpaceRoom → List ℕ → RoomState → List SpaceRoom
 put_room [] space room = record { space = space; room = room } ∷ []
 put_room (r ∷ rs) space room =

@@ -1,4 +1,4 @@
--- Runs of a placement, and what holds of each state that they reach. Own.
+-- Runs of a placement, and what holds in each state that they reach. Own.
 use Rattle.std.specs.Prelude.{◌≡◌, ◌≤◌, ℕ, List, [], ◌∷◌, length}
 use Rattle.round_core.specs.Runs.{RunEvent, Steps, Restarts}
 use Rattle.round_core.specs.Settled.{IsSettled}
@@ -14,7 +14,7 @@ abbrev pub run_state : PlacementState → List RunEvent → PlacementState
 run_state s [] = s
 run_state s (e ∷ es) = run_state (state_after s e) es
 
--- in no room a stage can go on or a round can start
+-- in no room can a stage go on or a round start
 abbrev pub AreSettled : List SpaceRoom → Type 0
 AreSettled [] = Unit {0}
 AreSettled (r ∷ rs) = IsSettled r.room × AreSettled rs

@@ -15,17 +15,17 @@ pub record PlacementView : Type 0 where
 abbrev pub Gives : PlaceEvent → ℕ → PlaceReply → PlacementState → PlacementState → Type 0
 Gives event now reply old new = (reply ≡ (placement_step old event now).reply) × (new ≡ (placement_step old event now).state)
 
--- the same, but at want of memory the state is as before
+-- the same, but if memory runs out the state is as before
 abbrev pub GivesInMemory : PlaceEvent → ℕ → PlaceReply → PlacementState → PlacementState → Type 0
 GivesInMemory event now replies.OutOfMemory old new = new ≡ old
 GivesInMemory event now reply old new = Gives event now reply old new
 
--- a Register may want memory, and no other event
+-- only a Register may run out of memory
 abbrev pub GivesStep : PlaceEvent → ℕ → PlaceReply → PlacementState → PlacementState → Type 0
 GivesStep (events.Register host) now reply old new = GivesInMemory (events.Register host) now reply old new
 GivesStep event now reply old new = Gives event now reply old new
 
--- what a member of this space does, which makes no room
+-- an event of a member of this space, which makes no room
 abbrev pub IsOfMember : PlaceEvent → List ℕ → Type 0
 IsOfMember (events.Register host) space = ⊥
 IsOfMember (events.Beat m) space = space ≡ m.space
@@ -35,7 +35,7 @@ IsOfMember (events.Lost m) space = space ≡ m.space
 IsOfMember events.Tick space = ⊥
 IsOfMember events.Look space = ⊥
 
--- the space of what a member does, if it is that
+-- the space of the member whose event it is, if it is a member's
 abbrev pub ActsIn : PlaceEvent → Option (List ℕ) → Type 0
 ActsIn event (Some space) = IsOfMember event space
 ActsIn (events.Register host) None = Unit {0}
@@ -43,7 +43,7 @@ ActsIn events.Tick None = Unit {0}
 ActsIn events.Look None = Unit {0}
 ActsIn event None = ⊥
 
--- there is a room at this place, and a member at that place of it
+-- there is a room at the index `at`, and in it a member at the index `member`
 abbrev pub IsMemberPlace : List SpaceRoom → ℕ → ℕ → Type 0
 IsMemberPlace rooms at member = (at < length rooms) × ((r : SpaceRoom) → slice_get rooms at ≡ Some r → member < length r.room.members)
 
@@ -65,7 +65,7 @@ pub record HasStepped (event : PlaceEvent) (now : ℕ) (space : List ℕ) (reply
   pub is : room_at old space ≡ Some room
   pub steps : StepsAny event now space room reply old new
 
--- no room of the space, and nothing has changed; or the event happened there
+-- the space has no room and nothing has changed, or the event happened in its room
 abbrev pub Steps : PlaceEvent → ℕ → List ℕ → Option PlaceReply → List SpaceRoom → List SpaceRoom → Type 0
 Steps event now space None old new = (room_at old space ≡ None) × (new ≡ old)
 Steps event now space (Some reply) old new = HasStepped event now space reply old new

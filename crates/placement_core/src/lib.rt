@@ -1,7 +1,7 @@
 // The placement: a room for each space, with members and rounds of its own.
 //
-// Promise: each call of a `Placement` is the state machine of `specs/Placement`. Stands on `round_core`, which has one
-// room, and on `member_roster`, `place_table` and `actor_names`.
+// Promise: each call of a `Placement` follows the state machine of `specs/Placement`. Depends on `round_core`, which
+// has one room, and on `member_roster`, `place_table` and `actor_names`.
 #![tactic(auto)]
 
 mod law;

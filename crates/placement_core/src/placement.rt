@@ -19,7 +19,7 @@ use std::marker::Model;
 /// The most spaces of a placement.
 pub const MOST_SPACES: u32 = 64;
 
-/// The rooms of a cluster, one for each space, in byte order of space: at most 64, and that of `default` at first. The
+/// The rooms of a cluster, one for each space, in byte order of space: at most 64, at first only that of `default`. The
 /// opening placement keeps no room yet, so that it takes no memory.
 #[derive(Drop)]
 pub struct Placement {
@@ -36,7 +36,7 @@ impl Model for Placement {
     ghost view = { λ a. record { state = shown a.rooms } };
 }
 
-/// The room `default` is kept, where none is.
+/// Keeps the room `default`, if no room is kept yet.
 fn keep_default(alloc: Global, rooms: &mut Rooms) -> Result<(), OutOfMemory>
     ensures ok { OnOk result (rooms.new ≡ (shown rooms.old).rooms) }
     ensures err { OnErr result (rooms.new ≡ rooms.old) }
@@ -47,7 +47,7 @@ fn keep_default(alloc: Global, rooms: &mut Rooms) -> Result<(), OutOfMemory>
     rooms.insert(default_space(), Room::new(alloc))
 }
 
-/// The space of a member that does something; None where it is no member that does.
+/// The space of the member that acts; None for a Register, a Tick and a Look.
 fn acting_space(event: &PlaceEvent) -> Option<Space>
     ensures { ActsIn event.now result }
 {
@@ -64,7 +64,7 @@ fn acting_space(event: &PlaceEvent) -> Option<Space>
     }
 }
 
-/// A host joins a space that has no room: the room is made, unless it is refused.
+/// A host joins a space that has no room: the room is made, unless the host is refused.
 fn open_room(alloc: Global, rooms: &mut Rooms, host: HostInfo, now: u64) -> PlaceReply
     requires kept { 0 < length rooms.old }
     requires free { room_at rooms.old host.member.space ≡ None }
@@ -91,7 +91,7 @@ fn open_room(alloc: Global, rooms: &mut Rooms, host: HostInfo, now: u64) -> Plac
 }
 
 impl Placement {
-    /// The opening state: the room `default`, where nobody is. It takes no memory.
+    /// The opening state: the room `default`, without members. It takes no memory.
     pub fn new(alloc: Global) -> Placement
         ensures { result.state ≡ new_placement }
     {
@@ -101,8 +101,8 @@ impl Placement {
         }
     }
 
-    /// The hosts of the table of this space that was fixed last, in byte order of node; none before the first, and for a
-    /// space without a room.
+    /// The hosts of the table of this space that was fixed last, in byte order of node; none before the first table,
+    /// also after a restart, and for a space without a room.
     pub fn table_hosts(&self, space: &Space) -> &[HostInfo]
         ensures hosts { result.now ≡ (room_of self.now.state space.now).table }
         ensures order { Ascends host_node result.now }
@@ -134,7 +134,7 @@ impl Placement {
         }
     }
 
-    /// How many rooms there are, from 1 to 64. They stand in byte order of space, no space twice.
+    /// How many rooms there are, at most 64. They are in byte order of space, no space twice.
     pub fn rooms(&self) -> usize
         ensures count { result ≡ length self.now.state.rooms }
         ensures within { result ≤ 64 }
@@ -144,7 +144,7 @@ impl Placement {
         if rooms == 0 { 1 } else { rooms as usize }
     }
 
-    /// The space of the room at this place, from 0 in byte order of space.
+    /// The space of the room at this index, from 0 in byte order of space.
     pub fn space_at(&self, at: usize) -> Space
         requires { at < length self.now.state.rooms }
         ensures { (r : SpaceRoom) → slice_get self.now.state.rooms at ≡ Some r → result ≡ r.space }
@@ -155,7 +155,7 @@ impl Placement {
         self.rooms.space_at(at)
     }
 
-    /// The hosts of the members of the room at this place, in byte order of node.
+    /// The hosts of the members of the room at this index, in byte order of node.
     pub fn members_at(&self, at: usize) -> &[HostInfo]
         requires { at < length self.now.state.rooms }
         ensures hosts { (r : SpaceRoom) → slice_get self.now.state.rooms at ≡ Some r → result.now ≡ hosts_of r.room.members }
@@ -167,7 +167,7 @@ impl Placement {
         self.rooms.room_at(at).members()
     }
 
-    /// The last version used in the room at this place, 0 before its first round.
+    /// The last version used in the room at this index, 0 before its first round.
     pub fn last_version_at(&self, at: usize) -> u64
         requires { at < length self.now.state.rooms }
         ensures { (r : SpaceRoom) → slice_get self.now.state.rooms at ≡ Some r → result ≡ last_version r.room }
@@ -178,8 +178,8 @@ impl Placement {
         self.rooms.room_at(at).last_version()
     }
 
-    /// Whether the member at a place of `members_at` was not heard for 10,000 milliseconds or more at the moment `now`.
-    /// These are the members that a Tick at that moment drops.
+    /// Whether the member at this index of `members_at` was not heard for 10,000 milliseconds or more at the moment
+    /// `now`. These are the members that a Tick at that moment drops.
     pub fn is_late(&self, at: usize, member: usize, now: u64) -> bool
         requires { IsMemberPlace self.now.state.rooms at member }
         ensures { (r : SpaceRoom) (j : Joined) → slice_get self.now.state.rooms at ≡ Some r → slice_get r.room.members member ≡ Some j → result ≡ is_late now j }
@@ -190,7 +190,7 @@ impl Placement {
         self.rooms.room_at(at).is_late(member, now)
     }
 
-    /// A host is to join the room of its space, or is heard again.
+    /// A host asks to join the room of its space, or is heard again.
     fn register(&mut self, host: HostInfo, now: u64) -> PlaceReply
         ensures { GivesInMemory (PlaceEvent.Register host) now result self.old.state self.new.state }
     {
@@ -228,7 +228,8 @@ impl Placement {
     }
 
     /// One step of the placement at the moment `now`, in milliseconds since 1970: in the room of the member's space, a
-    /// Tick in all rooms. A refused event changes nothing; only a Register may want memory, and changes nothing then.
+    /// Tick in all rooms. A refused event changes nothing; only a Register may run out of memory, and then changes
+    /// nothing.
     pub fn step(&mut self, event: PlaceEvent, now: u64) -> PlaceReply
         ensures gives { GivesStep event now result self.old.state self.new.state }
     {
@@ -243,8 +244,8 @@ impl Placement {
         }
     }
 
-    /// The restart of each room at the moment `now`, without memory: next versions, greatest boots and members are kept,
-    /// each member is heard, and a round starts in each room where one has ever started.
+    /// The restart of each room at the moment `now`; takes no memory. Next versions, greatest boots and members are
+    /// kept, each member is heard now, and a round starts in each room that ever had one and has a version left.
     pub fn restarted(&mut self, now: u64)
         ensures state { self.new.state ≡ placement_restarted self.old.state now }
     {

@@ -1,4 +1,4 @@
-// Rooms in byte order of space, each found by halving.
+// Rooms in byte order of space, each found by binary search.
 ghost use Rattle.std.specs.Prelude.{◌≡◌, ◌<◌, ◌≤◌, [], None, Some, IfOk, OnOk, OnErr, length, map, option_map};
 ghost use Rattle.std.specs.List.{slice_get};
 ghost use Rattle.std.specs.Option.{option_copied};
@@ -34,7 +34,7 @@ impl Model for Rooms {
     ghost invariant = { λ a. Ascends kept_space a.rooms.items × (length a.rooms.items ≤ 64) };
 }
 
-/// Where the room of this space stands, or is to stand.
+/// The index of this space's room, or the index at which it would be inserted.
 fn room_place(rooms: &[KeptRoom], space: &Space) -> Result<usize, usize>
     requires { Ascends kept_space rooms.now }
     ensures place { result ≡ place_by kept_space space.now rooms.now }
@@ -44,7 +44,7 @@ fn room_place(rooms: &[KeptRoom], space: &Space) -> Result<usize, usize>
 }
 
 impl Rooms {
-    /// No room.
+    /// No rooms.
     pub(crate) fn new(alloc: Global) -> Rooms
         ensures { result ≡ [] }
     {
@@ -62,7 +62,7 @@ impl Rooms {
         self.rooms.len() as u32
     }
 
-    /// The room of this space.
+    /// The room of this space, if there is one.
     pub(crate) fn room(&self, space: &Space) -> Option<&Room>
         ensures { option_map room_state (option_copied result) ≡ room_at self.now space.now }
     {
@@ -72,7 +72,7 @@ impl Rooms {
         }
     }
 
-    /// The space at this place.
+    /// The space at this index.
     pub(crate) fn space_at(&self, at: usize) -> Space
         requires { at < length self.now }
         ensures { (r : SpaceRoom) → slice_get self.now at ≡ Some r → result ≡ r.space }
@@ -80,7 +80,7 @@ impl Rooms {
         self.rooms[at].space
     }
 
-    /// The room at this place.
+    /// The room at this index.
     pub(crate) fn room_at(&self, at: usize) -> &Room
         requires { at < length self.now }
         ensures { (r : SpaceRoom) → slice_get self.now at ≡ Some r → result.now.state ≡ r.room }
@@ -88,7 +88,7 @@ impl Rooms {
         &self.rooms[at].room
     }
 
-    /// What happens in the room of this space; None where there is none.
+    /// One step in the room of this space; None if there is none.
     pub(crate) fn step(&mut self, space: &Space, event: PlaceEvent, now: u64) -> Option<PlaceReply>
         ensures { Steps event now space.now result self.old self.new }
     {
@@ -101,7 +101,7 @@ impl Rooms {
         }
     }
 
-    /// A room of a space that has none, at its place.
+    /// Inserts the room of a space that has none, at its place in the order.
     pub(crate) fn insert(&mut self, space: Space, room: Room) -> Result<(), OutOfMemory>
         requires free { room_at self.old space ≡ None }
         requires few { length self.old < 64 }
@@ -125,7 +125,7 @@ impl Rooms {
         tick_rooms(&mut self.rooms, now)
     }
 
-    /// Each room is restarted.
+    /// Restarts each room.
     pub(crate) fn restart(&mut self, now: u64)
         ensures { self.new ≡ map (each_room (restarted now)) self.old }
     {

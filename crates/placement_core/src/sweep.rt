@@ -1,4 +1,4 @@
-// A room beside its space, and what is done in all rooms, one after the other.
+// A room with its space, and what is done in all rooms, one after the other.
 ghost use Rattle.std.specs.Prelude.{◌≡◌, ◌≤◌, IfOk, length, map};
 ghost use Rattle.member_roster.specs.Members.{late_of};
 ghost use Rattle.placement_core.specs.Kept.{kept, kept_ticked, kept_restarted};
@@ -41,7 +41,7 @@ pub(crate) fn tick_rooms(rooms: &mut Vec<KeptRoom>, now: u64) -> u32
     dropped
 }
 
-/// Each room is restarted.
+/// Restarts each room.
 pub(crate) fn restart_rooms(rooms: &mut Vec<KeptRoom>, now: u64)
     ensures { rooms.new.items ≡ map (kept_restarted now) rooms.old.items }
 {

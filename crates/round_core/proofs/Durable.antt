@@ -1,4 +1,4 @@
--- The record of a step is absent exactly where nothing that a restart keeps has changed.
+-- The record of a step is absent exactly if nothing that a restart keeps has changed.
 use Rattle.std.proofs.Common.{◌≡◌, ℕ, suc, zero, ◌+◌, Bool, true, false, not, ◌||◌, cond, List, [], ◌∷◌, length, map, Option, None, Some, refl, sym, ap, ◌∙◌, subst, arith}
 use Rattle.std.specs.Prelude.{◌↔◌, ◌==◌, nat_lt, is_some, bytes_eq}
 use Rattle.std.proofs.lemmas.Bool.{lt-ltb, eq-eqb, eqb-true}
@@ -124,7 +124,7 @@ heard_all (j ∷ js) now e = go (is_late now j) (heard_all js now) e
 
 -- ---- the change of the members
 
--- where nobody joined or was removed it keeps what a restart keeps, and otherwise the count of members differs
+-- if nobody joined or was removed, it keeps what a restart keeps; otherwise the count of members differs
 record IsNoted (s : RoomState) (t : Membership) : Type 0 where
   kept : is_some t.joined ≡ false → nat_lt 0 (length t.removed) ≡ false → Keeps s t.state
   told : length t.state.members ≡ length s.members → (is_some t.joined ≡ false) × (nat_lt 0 (length t.removed) ≡ false)

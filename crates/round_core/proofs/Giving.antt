@@ -53,7 +53,7 @@ pub dirty_same : (d : Bool) (n : ℕ) → n ≡ 0 → d ≡ d || nat_lt 0 n
 dirty_same true n e = refl
 dirty_same false n e = rw e refl
 
--- where there is a member there is room for one
+-- if a member is here, there is at least one member
 pub here_some : (js : List Joined) (m : Member) → is_here js m ≡ true → 0 < length js
 here_some [] m e = absurd (cc)
 here_some (j ∷ js) m e = omega arith

@@ -1,4 +1,4 @@
--- A placement whose next version is 1 is the opening one, also after what happens to it.
+-- A placement whose next version is 1 is the opening one, also after each event.
 use Rattle.std.proofs.Common.{◌≡◌, ℕ, ◌<◌, ◌≤◌, true, refl, sym, ◌∙◌, subst, inl, inr, arith}
 use Rattle.std.specs.Prelude.{◌==◌}
 use Rattle.std.proofs.lemmas.Bool.{cases_eq, eq-eqb, true≢false, cond_both}
@@ -13,7 +13,7 @@ use Rattle.round_core.proofs.Versions.{Rises, rises_all, rises_on, settle_rises}
 pub new_kept : IsNewOrUsed new_room
 new_kept = record { used = omega arith; unused = λ _. refl }
 
--- where a round has used a version it stays so
+-- if a round has used a version, that stays so
 pub used_kept : (s t : RoomState) → 1 < s.next_version → Rises s t → IsNewOrUsed t
 used_kept s t h r =
     record { used = (let l = r.low in omega arith); unused = λ e. (let l = r.low in absurd (omega arith)) }
@@ -21,7 +21,7 @@ used_kept s t h r =
 above_one : (n : ℕ) → 1 ≤ n → (n ≡ 1 → ⊥) → 1 < n
 above_one n a off = omega arith
 
--- what holds of the opening state, and of those whose version was used
+-- by cases: the opening state, or a state that has used a version
 pub by_use : (P : RoomState → Type 0) (s : RoomState) → IsNewOrUsed s → P new_room → (1 < s.next_version → P s) → P s
 by_use P s k new used = elim (cases_eq s.next_version 1) [
   | inl e ↦ subst P (sym (k.unused e)) new

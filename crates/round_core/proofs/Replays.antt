@@ -37,7 +37,7 @@ late_off (j ∷ js) now node h =
     go true e ih = (e, ih)
     go false e ih = ih
 
--- members of other nodes are removed behind the first one
+-- members of other nodes are removed after the first one, which stays
 removes_behind : (k : Joined) (ms : List Member) (ks ls : List Joined) → AllOff (joined_node k) ms → removes_all ks ms ≡ Some ls → removes_all (k ∷ ks) ms ≡ Some (k ∷ ls)
 removes_behind k [] ks ls o e = let f : ks ≡ ls = cc in rw f refl
 removes_behind k (m ∷ ms) ks ls o e = rw o.0 (go (is_here ks m) (λ f. removes_behind k ms (without_node ks m.node) ls o.1 f) e)
@@ -46,7 +46,7 @@ removes_behind k (m ∷ ms) ks ls o e = rw o.0 (go (is_here ks m) (λ f. removes
     go true ih f = ih f
     go false ih f = absurd (cc)
 
--- the members that are pending
+-- what remains after the removals has the same hosts as `js`
 record IsRemoved (js ks : List Joined) (ms : List Member) : Type 0 where
   rest : List Joined
   removed : removes_all ks ms ≡ Some rest
@@ -78,7 +78,7 @@ late_removed (j ∷ js) (k ∷ ks) now e d =
 
 -- ---- a change of the members, replayed from its record
 
--- from a state of which a restart keeps the same, who was removed and joined leads to the same boots and hosts
+-- from a state of which a restart keeps the same, the removals and the join lead to the same boots and hosts
 record Replays (t : RoomState) (m : Membership) : Type 0 where
   after : RoomState
   is : after_removal t m.joined (removes_all t.members m.removed) ≡ Some after
@@ -168,7 +168,7 @@ module _ (s t : RoomState) (d : SameDurableState s t) where
 
 -- ---- an event of a run, replayed from its record
 
--- a record that there is, is that of the change
+-- if there is a record, it is that of the change
 record_is : (b : Bool) (x r : RecordOf) → cond b (Some x) None ≡ Some r → r ≡ x
 record_is true x r e = cc
 record_is false x r e = absurd (cc)
@@ -177,7 +177,7 @@ same_on : (s t u : RoomState) → SameDurableState s t → SameDurableState s u 
 same_on s t u a b =
     record { next_version = a.next_version ∙ sym b.next_version; boots = a.boots ∙ sym b.boots; members = a.members ∙ sym b.members }
 
--- no record, and nothing has changed that a restart keeps
+-- if there is no record, nothing that a restart keeps has changed
 event_kept : (s : RoomState) (e : RunEvent) → IsReached s → record_after s e ≡ None → SameDurableState s (state_after s e)
 event_kept s (Steps event now) r n = (recorded_durable s event now).0 n
 event_kept s (Restarts now) r n =
@@ -243,7 +243,7 @@ run_restored run now =
     let l = run_replayed new_room new_room run 0 new_reached (record { next_version = refl; boots = refl; members = refl }) in
     rw l.is (ap (λ (s : RoomState). Ok s) (restarted_same (run_state new_room run) l.after now l.same))
 
--- records of a run have no bad one among them
+-- no record of a run is bad
 pub run_is_good : (error : RestoreError) (run : List RunEvent) → IsBadAt error (after_records 0 new_room (run_records new_room run)) → error ≡ OutOfMemory
 run_is_good (BadRecord index) run b =
     let l = run_replayed new_room new_room run 0 new_reached (record { next_version = refl; boots = refl; members = refl }) in

@@ -49,7 +49,7 @@ table_is_fixed = refl
 round_ends : reply_after first_round (events.Ack (a 1) stages.Unlock 1) ≡ replies.Idle
 round_ends = refl
 
--- an acknowledgement of another version is only heard
+-- an acknowledgement of another version only counts as being heard
 late_ack : reply_after (joins (a 1) ∷ []) (events.Ack (a 1) stages.Lock 2) ≡ replies.Lock 1
 late_ack = refl
 
@@ -65,7 +65,7 @@ equal_boot_is_stale = refl
 node_is_busy : reply_after (joins (a 1) ∷ []) (joins (a 2)) ≡ replies.NodeBusy 1
 node_is_busy = refl
 
--- the round without targets runs through and uses its version
+-- a round without targets runs through and uses its version
 leave_uses_version : last_version (after new_room (joins (a 1) ∷ events.Leave (a 1) ∷ [])) ≡ 2
 leave_uses_version = refl
 
@@ -101,7 +101,7 @@ removed_at next m = record { joined = None; removed = m ∷ []; next_version = n
 nothing_restores_opening : room_restored [] 5 ≡ Ok new_room
 nothing_restores_opening = refl
 
--- of the records of a run the restart of its last state
+-- restoring the records of a run gives the restart of its last state
 one_join_is_restored : room_restored (joined_at 2 (a 1) ∷ []) 5 ≡ Ok (room_restarted (after new_room (joins (a 1) ∷ [])) 5)
 one_join_is_restored = refl
 

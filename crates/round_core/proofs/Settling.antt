@@ -1,4 +1,4 @@
--- Where a step or a restart leads, rounds have nothing left to do; what is refused changes nothing.
+-- After a step or a restart, rounds have nothing left to do; a refused event changes nothing.
 use Rattle.std.proofs.Common.{◌≡◌, ◌⊎◌, inl, inr, ℕ, suc, ◌+◌, ◌≤◌, Bool, true, false, ◌&&◌, cond, List, [], ◌∷◌, map, Option, None, Some, refl, sym, ap, subst, ◌∙◌, arith}
 use Rattle.std.specs.Prelude.{nat_lt, nat_le, ◌==◌}
 use Rattle.std.proofs.lemmas.Bool.{cond_both}
@@ -25,7 +25,7 @@ rank (Running stages.Unlock) = 1
 rank (Running stages.Update) = 2
 rank (Running stages.Lock) = 3
 
--- somebody is pending, or the round is as near to its end as that
+-- somebody is pending, or the round has at most n stages to its end
 abbrev Nears : ℕ → RoomState → Type 0
 Nears n s = (any_pending s.members ≡ true) ⊎ (rank s.phase ≤ n)
 
@@ -111,7 +111,7 @@ settle_settled s = record { waits = fully_waits (start_round (advance_fully s));
 
 -- ---- what a refusal leaves
 
--- nothing has changed; or it is no refusal
+-- nothing has changed, or it isn't a refusal
 abbrev Rests : RoomState → RoomState → Conclusion → Type 0
 Rests s t (Stays reply) = t ≡ s
 Rests s t (Says reply) = IsRefusal reply → ⊥

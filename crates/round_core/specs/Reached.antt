@@ -1,4 +1,4 @@
--- What holds of each state that a placement reaches. Own.
+-- What holds in each state that a placement reaches. Own.
 use Rattle.std.specs.Prelude.{◌≡◌, ◌≤◌, ◌^◌, ℕ, Bool, false, ◌||◌, List, [], ◌∷◌, bytes_eq}
 use Rattle.place_table.specs.declared.host.HostInfo.{HostInfo}
 use Rattle.member_roster.specs.Members.{hosts_of}
@@ -9,7 +9,7 @@ abbrev pub has_host : List HostInfo → List ℕ → Bool
 has_host [] node = false
 has_host (h ∷ hs) node = bytes_eq node h.member.node || has_host hs node
 
--- no two hosts have one node
+-- no two hosts have the same node
 abbrev pub Distinct : List HostInfo → Type 0
 Distinct [] = Unit {0}
 Distinct (h ∷ hs) = (has_host hs h.member.node ≡ false) × Distinct hs

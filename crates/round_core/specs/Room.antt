@@ -45,7 +45,7 @@ same_stage _ _ = false
 
 -- ---- rounds
 
--- the next stage, where nobody is pending: it fixes the table, goes on, or ends the round
+-- the next stage, if nobody is pending: it fixes the table, goes on, or ends the round
 abbrev pub next_stage : RoomState → RoundPhase → RoomState
 next_stage s Quiet = s
 next_stage s (Running stages.Lock) = record s { phase = Running stages.Update; members = map entered s.members; table = target_hosts s.members }
@@ -62,16 +62,16 @@ is_quiet (Running stage) = false
 abbrev pub may_start : RoomState → Bool
 may_start s = is_quiet s.phase && (s.dirty && nat_lt s.next_version version_limit)
 
--- a round begins where none is running and one is due: each member is a target, and pending
+-- a round starts if none is running and one is due: each member is a target, and pending
 abbrev pub start_round : RoomState → RoomState
 start_round s =
     if may_start s then record s { next_version = s.next_version + 1; members = map targeted s.members; phase = Running stages.Lock; dirty = false } else s
 
--- as far as a round goes by itself: it has three stages
+-- the round advances as far as it goes by itself: it has three stages
 abbrev pub advance_fully : RoomState → RoomState
 advance_fully s = advance_round (advance_round (advance_round s))
 
--- as far as the round goes by itself, then a new one where it is due, as far as that goes by itself
+-- the round advances as far as it goes by itself; then a new one starts if it is due, and advances as far
 abbrev pub settle_round : RoomState → RoomState
 settle_round s = advance_fully (start_round (advance_fully s))
 
@@ -86,7 +86,7 @@ abbrev pub phase_reply : RoundPhase → ℕ → PlaceReply
 phase_reply Quiet version = replies.Idle
 phase_reply (Running stage) version = stage_reply stage version
 
--- what a member is told: the stage of the round where it is among those pending
+-- what a member is told: the stage of the round, if it is pending
 abbrev pub reply_for : RoomState → Member → PlaceReply
 reply_for s m = if is_pending s.members m then phase_reply s.phase (last_version s) else replies.Idle
 
@@ -126,7 +126,7 @@ join_free s host now =
     if is_full s host.member.node then unchanged s (replies.Full (length s.members) (length s.boots))
     else record { state = with_joined s host now; joined = Some host; removed = []; conclusion = Tells host.member }
 
--- a host joins where its node has no member
+-- a host joins if its node has no member
 abbrev pub join_node : RoomState → HostInfo → ℕ → Option Joined → Membership
 join_node s host now (Some j) = unchanged s (replies.NodeBusy j.host.member.boot)
 join_node s host now None = join_free s host now
@@ -142,7 +142,7 @@ abbrev pub is_in_stage : RoundPhase → AckStage → Bool
 is_in_stage Quiet stage = false
 is_in_stage (Running running) stage = same_stage running stage
 
--- an acknowledgement of the stage and version of the running round; any other is only heard
+-- an acknowledgement of the stage and version of the running round; any other one only counts as being heard
 abbrev pub ack_change : RoomState → AckStage → ℕ → ℕ → Joined → Joined
 ack_change s stage version now = if is_in_stage s.phase stage && (version == last_version s) then acked_at now else heard_at now
 
@@ -188,7 +188,7 @@ room_step s event now = let change = apply_membership s event now in conclude ch
 abbrev pub awoken : RoomState → ℕ → RoomState
 awoken s now = record { next_version = s.next_version; boots = s.boots; members = map (restarted_at now) s.members; phase = Quiet; dirty = true; table = [] }
 
--- the restart, which starts a round; where no round has ever started it is the opening state
+-- the restart, which starts a round if a version is left; if no round has ever started, it is the opening state
 abbrev pub room_restarted : RoomState → ℕ → RoomState
 room_restarted s now = if s.next_version == 1 then new_room else settle_round (awoken s now)
 

@@ -16,7 +16,7 @@ abbrev pub state_after : RoomState → RunEvent → RoomState
 state_after s (Steps event now) = (room_step s event now).state
 state_after s (Restarts now) = room_restarted s now
 
--- what of it has to be on the disk
+-- the part of the event that has to be on the disk
 abbrev pub record_after : RoomState → RunEvent → Option RecordOf
 record_after s (Steps event now) = step_record s event now
 record_after s (Restarts now) = restart_record s now
@@ -37,12 +37,12 @@ run_records s (e ∷ es) = and_then (record_after s e) (run_records (state_after
 
 -- ---- what is never forgotten
 
--- a member of one of the hosts
+-- the member of one of the hosts
 abbrev pub HasMember : List HostInfo → Member → Type 0
 HasMember [] m = ⊥
 HasMember (h ∷ hs) m = (m ≡ h.member) ⊎ HasMember hs m
 
--- no greatest boot falls, who is new has a boot above the greatest one that its node had, and no version falls
+-- no greatest boot falls, a new member has a boot above the greatest one that its node had, and no version falls
 pub record ForgetsNothing (s t : RoomState) : Type 0 where
   pub greatest : (node : List ℕ) → greatest_boot s.boots node ≤ greatest_boot t.boots node
   pub fresh : (m : Member) → HasMember (hosts_of t.members) m → HasMember (hosts_of s.members) m ⊎ (greatest_boot s.boots m.node < m.boot)

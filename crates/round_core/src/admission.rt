@@ -1,4 +1,4 @@
-// A host takes its place among the members, with all the room that it needs.
+// Adds a host to the members, with all the room that this needs.
 ghost use Rattle.std.specs.Prelude.{◌≡◌, ◌≤◌, None, false, OnOk, OnErr};
 ghost use Rattle.member_roster.specs.Members.{of_node};
 ghost use Rattle.round_core.specs.Room.{is_full, with_joined};
@@ -9,7 +9,7 @@ use member_roster::MemberList;
 use place_table::HostInfo;
 use std::alloc::Global;
 
-/// A host joins: its second copy, and the room to remove it and all others, are made first.
+/// Adds a host; its second copy, and the room to remove it and all others, are made first.
 pub(crate) fn admit(
     alloc: Global,
     rounds: &mut Rounds,

@@ -5,7 +5,7 @@ use place_table::{AckStage, HostInfo};
 /// What happens to a placement.
 #[derive(Drop)]
 pub enum PlaceEvent {
-    /// A host is to join, or is heard again.
+    /// A host asks to join, or is heard again.
     Register {
         host: HostInfo,
     },
@@ -44,22 +44,22 @@ pub enum PlaceReply {
     Unlock { version: u64 },
     /// There is nothing for the member to do.
     Idle,
-    /// The member is no member any more.
+    /// The member is no longer a member.
     Gone,
-    /// So many members were not heard for 10,000 milliseconds or more, and are no members any more.
+    /// `dropped` members were not heard for 10,000 milliseconds or more, and are no longer members.
     Ticked { dropped: u32 },
     /// Nothing has changed.
     Looked,
     /// Refused: the boot isn't above the greatest one of its node.
     StaleBoot { greatest: u64 },
-    /// Refused: the node has a member, of this boot.
+    /// Refused: the node has a member, with this boot.
     NodeBusy { boot: u64 },
     /// Refused: there is no such member; the greatest boot of its node, 0 for an unknown node.
     NotMember { greatest: u64 },
-    /// Refused: there are as many spaces as there may be, and the member is of another. No room answers so.
+    /// Refused: there are as many spaces as there may be, and the member is of another one. No room answers this.
     SpacesFull { spaces: u32 },
     /// Refused: there are 256 members, or 65,536 known nodes and this one is new.
     Full { members: u32, nodes: u32 },
-    /// There was no memory; the placement is as before. Answered to Register alone.
+    /// There was no memory; the placement's state is as before. Only a Register is answered this.
     OutOfMemory,
 }

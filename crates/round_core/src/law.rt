@@ -1,4 +1,4 @@
-// What holds over every run of steps and restarts, from the opening state on.
+// What holds in every run of steps and restarts from the opening state.
 ghost use Rattle.std.specs.Prelude.{◌≡◌, ℕ, List};
 ghost use Rattle.round_core.specs.declared.event.PlaceEvent.{PlaceEvent};
 ghost use Rattle.std.specs.declared.result.Result.TheVariants.{Ok};
@@ -7,24 +7,24 @@ ghost use Rattle.round_core.specs.Settled.{IsSettled, IsRefusal};
 ghost use Rattle.round_core.specs.Records.{room_restored};
 ghost use Rattle.round_core.specs.Runs.{RunEvent, ForgetsNothing, run_state, run_records, state_after};
 
-/// The records that a run leaves are enough: of them the restart of its last state is restored.
+/// The records that a run leaves are enough: restoring them gives the restart of its last state.
 pub fn restore_law()
     ensures { (run : List RunEvent) (now : ℕ) → room_restored (run_records new_room run) now ≡ Ok (room_restarted (run_state new_room run) now) }
 {}
 
-/// No event of a run forgets anything, and no restart does: greatest boots and versions never fall, and who is new
-/// has a boot above the greatest one that its node had.
+/// No event and no restart of a run forgets anything: greatest boots and versions never fall, and a new member has a
+/// boot above the greatest one that its node had.
 pub fn memory_law()
     ensures { (run : List RunEvent) (event : RunEvent) → ForgetsNothing (run_state new_room run) (state_after (run_state new_room run) event) }
 {}
 
 /// In each state of a run rounds have nothing left to do: no stage can go on, and no round can start. So a room has to
-/// go on only at what happens in it.
+/// go on only if something happens in it.
 pub fn settled_law()
     ensures { (run : List RunEvent) → IsSettled (run_state new_room run) }
 {}
 
-/// A refused event changes nothing, in whatever state.
+/// A refused event changes nothing, in any state.
 pub fn refused_law()
     ensures { (s : RoomState) (event : PlaceEvent) (now : ℕ) → IsRefusal (room_step s event now).reply → (room_step s event now).state ≡ s }
 {}

@@ -1,7 +1,7 @@
 // One room of a placement: which members exist, and the rounds of lock, update and unlock that spread each table.
 //
-// Promise: each call of a `Room` is the state machine of `specs/Room`, with the record of each step that a restart
-// needs (`specs/Records`). Stands on `member_roster`, `place_table` and `actor_names`.
+// Promise: each call of a `Room` follows the state machine of `specs/Room`, with the record of each step that a restart
+// needs (`specs/Records`). Depends on `member_roster`, `place_table` and `actor_names`.
 #![tactic(auto)]
 
 mod admission;

@@ -1,8 +1,8 @@
-// What of a step has to be on the disk.
+// The part of a step that has to be on the disk.
 use member_roster::MemberList;
 use place_table::HostInfo;
 
-/// What of a step has to be on the disk before its reply goes out.
+/// The part of a step that has to be on the disk before its reply goes out.
 #[derive(Drop)]
 pub struct RoomRecord {
     /// The host that joined.

@@ -13,10 +13,10 @@ use place_table::HostInfo;
 use std::alloc::Global;
 use thiserror::Error;
 
-/// Why no room is restored of some records.
+/// Why no room is restored from some records.
 #[derive(Clone, Copy, Debug, PartialEq, Eq, Error)]
 pub enum RestoreError {
-    /// The record at `index`, counted from 0, is the first bad one: it removes somebody who is no member, it joins
+    /// The record at `index`, counted from 0, is the first bad one: it removes somebody who isn't a member, it joins
     /// a node that has a member, a boot that isn't above the node's greatest one, a 257th member or a 65,537th
     /// known node, or its next version is below the one before it or above 2^62.
     #[error("record {index} is bad")]
@@ -26,7 +26,7 @@ pub enum RestoreError {
     OutOfMemory,
 }
 
-/// A host joins again, where it may. It counts as heard at 0 until the restart.
+/// A host joins again, if it may; says whether it may. It counts as heard at 0 until the restart.
 fn join_again(
     alloc: Global,
     rounds: &mut Rounds,
@@ -62,7 +62,7 @@ fn join_recorded(
     }
 }
 
-/// What a record says happens again; false where it is bad.
+/// Replays a record; false if it is bad.
 fn apply_record(
     alloc: Global,
     rounds: &mut Rounds,
@@ -87,7 +87,7 @@ fn apply_record(
     Ok(true)
 }
 
-/// What the records say happens again, in their order.
+/// Replays the records in their order.
 pub(crate) fn apply_records(
     alloc: Global,
     rounds: &mut Rounds,

@@ -1,11 +1,11 @@
-// Restores of the records of worked runs, and of records that no run leaves.
+// Restores from the records of worked runs, and from records that no run leaves.
 use super::*;
 use crate::tests::{host, register};
 use actor_names::read_member;
 use std::alloc::Global;
 use std::test::Fail;
 
-/// A run that is going on: the room, and the records that it has pending.
+/// A run in progress: the room, and the records that it has left so far.
 #[derive(Drop)]
 struct Run {
     alloc: Global,
@@ -69,7 +69,7 @@ impl Run {
     }
 }
 
-/// Nodes `a` to `j` join, two leave and come back, it restarts, and a Tick drops the seven that were not heard
+/// Nodes `a` to `j` join, two leave and come back, the room restarts, and a Tick drops the seven that were not heard
 /// since; four join then, and one of them leaves.
 fn go_through(run: &mut Run) -> Result<(), Fail> {
     run.join_all(&[b"a/1", b"b/1", b"c/1", b"d/1", b"e/1"])?;
@@ -92,7 +92,7 @@ fn told(room: &mut Room, member: &[u8]) -> Result<PlaceReply, Fail> {
     Ok(room.step(PlaceEvent::Beat { member }, 20_001))
 }
 
-/// Whether both answer a Beat of each member with the Lock of `version`, and those of strangers as they have to.
+/// Whether both answer a Beat of each member with the Lock of `version`, and those of strangers as they should.
 fn tell_same(restored: &mut Room, live: &mut Room, version: u64) -> Result<bool, Fail> {
     let table: [(&[u8], PlaceReply); 9] = [
         (b"a/1", PlaceReply::Lock { version }),
@@ -138,7 +138,7 @@ fn no_records_restore_opening_state(rt: HostRuntime) -> Result<(), Fail> {
     Ok(())
 }
 
-/// Puts a record at the end: a member that joins or is removed, and the next version.
+/// Adds a record at the end: a member that joins or is removed, and the next version.
 fn note(
     records: &mut Vec<RoomRecord>,
     alloc: Global,
@@ -161,7 +161,7 @@ fn note(
     Ok(())
 }
 
-/// The index of the bad record, where there is one.
+/// The index of the bad record, if there is one.
 fn bad_index(alloc: Global, records: &[RoomRecord]) -> Option<u64> {
     match &Room::restore(alloc, records, 5000) {
         Ok(_) => None,
@@ -221,7 +221,7 @@ fn numbered(alloc: Global, number: u32) -> Result<String, Fail> {
     Ok(format!(in alloc; "n{number}/1")?)
 }
 
-/// Puts a record at the end by which a node joins and the one before it is removed.
+/// Adds a record at the end by which a node joins and the one before it is removed.
 fn pass_on(records: &mut Vec<RoomRecord>, alloc: Global, number: u32) -> Result<(), Fail> {
     let mut removed = Vec::new(alloc);
     if number > FIRST {
@@ -246,7 +246,7 @@ fn many_records(alloc: Global) -> Result<Vec<RoomRecord>, Fail> {
     Ok(records)
 }
 
-/// What is restored of all records but the last.
+/// The room that is restored from all records but the last.
 fn restored_before_last(alloc: Global, records: &[RoomRecord]) -> Result<Room, Fail> {
     if records.is_empty() {
         return Err("no records")?;
@@ -255,7 +255,7 @@ fn restored_before_last(alloc: Global, records: &[RoomRecord]) -> Result<Room, F
     Ok(Room::restore(alloc, front, 5000)?)
 }
 
-/// Whether nobody else is a member.
+/// Whether the member is the only one.
 fn is_alone(room: &Room, member: &[u8]) -> Result<bool, Fail> {
     let member = read_member(member)?;
     let hosts = room.members();

@@ -44,7 +44,7 @@ impl Model for Room {
     ghost invariant = { λ a. (a.rounds.capacity ≤ a.record.removed.capacity) × IsNewOrUsed a.rounds.state };
 }
 
-/// A record of nothing.
+/// An empty record.
 fn new_record(alloc: Global) -> RoomRecord
     ensures joined { result.joined ≡ None }
     ensures removed { result.removed.members ≡ [] }
@@ -56,7 +56,7 @@ fn new_record(alloc: Global) -> RoomRecord
     }
 }
 
-/// Nobody joined or was removed.
+/// Empties the record: nobody joined or was removed.
 fn clear_record(record_: &mut RoomRecord)
     ensures { record_.new ≡ record record_.old { joined = None; removed = record { members = []; capacity = record_.old.removed.capacity } } }
 {
@@ -64,7 +64,7 @@ fn clear_record(record_: &mut RoomRecord)
     record_.removed.clear();
 }
 
-/// Rounds go on; says whether anything has to be on the disk then.
+/// Lets rounds go on; says whether anything has to be on the disk afterwards.
 fn go_on(rounds: &mut Rounds, record_: &mut RoomRecord) -> bool
     ensures rounds { rounds.new ≡ with_state rounds.old (settle_round rounds.old.state) }
     ensures noted { record_.new ≡ record record_.old { next_version = (settle_round rounds.old.state).next_version } }
@@ -77,7 +77,7 @@ fn go_on(rounds: &mut Rounds, record_: &mut RoomRecord) -> bool
     record_.joined.is_some() || record_.removed.as_slice().len() > 0 || !(after == before)
 }
 
-/// The rounds are restarted; says whether that has to be on the disk.
+/// Restarts the rounds; says whether that has to be on the disk.
 fn restart(rounds: &mut Rounds, record_: &mut RoomRecord, now: u64) -> bool
     ensures rounds { rounds.new ≡ with_state rounds.old (room_restarted rounds.old.state now) }
     ensures noted { record_.new ≡ record record_.old { next_version = (room_restarted rounds.old.state now).next_version } }
@@ -91,7 +91,7 @@ fn restart(rounds: &mut Rounds, record_: &mut RoomRecord, now: u64) -> bool
     !(after == before)
 }
 
-/// A host joins, and is noted.
+/// Adds a host, and notes it in the record.
 fn join(
     alloc: Global,
     rounds: &mut Rounds,
@@ -114,7 +114,7 @@ fn join(
 }
 
 impl Room {
-    /// The opening state: the next version is 1, there is nobody and no round. It takes no memory.
+    /// The opening state: the next version is 1, there are no members and no round. It takes no memory.
     pub fn new(alloc: Global) -> Room
         ensures { result ≡ record { state = new_room; recent = None } }
     {
@@ -126,8 +126,8 @@ impl Room {
         }
     }
 
-    /// The restart, at the moment `now`, of the state after these records; with no records it is the opening state.
-    /// For the records of a run, in their order, that is the restart of the state at its end.
+    /// The restart, at the moment `now`, of the state after these records; without records it is the opening state.
+    /// For the records of a run, in their order, this is the restart of the state at the run's end.
     pub fn restore(alloc: Global, records: &[RoomRecord], now: u64) -> Result<Room, RestoreError>
         ensures restored { IfOk result (λ room. room_restored (map record_of records.now) now ≡ Ok room.state) }
         ensures recent { IfOk result (λ room. restored_record (map record_of records.now) now ≡ room.recent) }
@@ -152,7 +152,8 @@ impl Room {
         }
     }
 
-    /// The hosts of the table that was fixed last, in byte order of node; none before the first.
+    /// The hosts of the table that was fixed last, in byte order of node; none before the first table, also
+    /// after a restart.
     pub fn table_hosts(&self) -> &[HostInfo]
         ensures hosts { result.now ≡ self.now.state.table }
         ensures order { Ascends host_node result.now }
@@ -176,7 +177,7 @@ impl Room {
         self.rounds.len()
     }
 
-    /// Whether the member at this place of `members` was not heard for 10,000 milliseconds or more at the moment `now`.
+    /// Whether the member at this index of `members` was not heard for 10,000 milliseconds or more at the moment `now`.
     /// These are the members that a Tick at that moment drops.
     pub fn is_late(&self, at: usize, now: u64) -> bool
         requires { at < length self.now.state.members }
@@ -192,7 +193,8 @@ impl Room {
         self.rounds.next_version() - 1
     }
 
-    /// What of the last step has to be on the disk before its reply goes out, if anything; it is lent without memory.
+    /// The part of the last step that has to be on the disk before its reply goes out, if any; lending it takes no
+    /// memory.
     pub fn record(&self) -> Option<&RoomRecord>
         ensures { option_map record_of (option_copied result) ≡ self.now.recent }
     {
@@ -203,7 +205,7 @@ impl Room {
         }
     }
 
-    /// An equal room with the same capacity, on which a step can be tried.
+    /// An equal room, on which a step can be tried.
     pub fn copy(&self, alloc: Global) -> Result<Room, OutOfMemory>
         ensures { IfOk result (λ copy. copy ≡ self.now) }
     {
@@ -290,7 +292,7 @@ impl Room {
         PlaceReply::Gone
     }
 
-    /// A host is to join, or is heard again.
+    /// A host asks to join, or is heard again.
     fn register(&mut self, host: HostInfo, now: u64) -> PlaceReply
         ensures { GivesInMemory (PlaceEvent.Register host) now result self.old self.new }
     {
@@ -324,8 +326,8 @@ impl Room {
     }
 
     /// One step of the room at the moment `now`, in milliseconds since 1970. A refused event changes nothing;
-    /// only a Register may want memory. There is no record exactly where next version, greatest boots and the
-    /// members' hosts are as before.
+    /// only a Register may run out of memory. There is no record exactly if the next version, the greatest boots
+    /// and the members' hosts are as before.
     pub fn step(&mut self, event: PlaceEvent, now: u64) -> PlaceReply
         ensures gives { GivesStep event now result self.old self.new }
         ensures durable { self.new.recent ≡ None ↔ SameDurableState self.old.state self.new.state }
@@ -346,8 +348,9 @@ impl Room {
         }
     }
 
-    /// The restart at the moment `now`, without memory: next version, greatest boots and members are kept, each
-    /// member is heard, and a round starts. Where no round has ever started it is the opening state.
+    /// The restart at the moment `now`; takes no memory. The next version, the greatest boots and the members are kept,
+    /// each member is heard now, and a round starts if a version is left. If no round has ever started, the restart is
+    /// the opening state.
     pub fn restarted(&mut self, now: u64)
         ensures state { self.new.state ≡ room_restarted self.old.state now }
         ensures recent { self.new.recent ≡ restart_record self.old.state now }

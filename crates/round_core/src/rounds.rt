@@ -40,7 +40,7 @@ impl Model for Rounds {
 }
 
 impl Rounds {
-    /// Nobody, and no round.
+    /// No members and no round.
     pub(crate) fn new(alloc: Global) -> Rounds
         ensures { result ≡ record { state = new_room; capacity = 0 } }
     {
@@ -78,14 +78,14 @@ impl Rounds {
         self.next_version
     }
 
-    /// The greatest boot of the node, 0 for an unknown one.
+    /// The greatest boot of the node, 0 if the node is unknown.
     pub(crate) fn greatest(&self, node: &Node) -> u64
         ensures { result ≡ greatest_boot self.now.state.boots node.now }
     {
         self.boots.greatest(node)
     }
 
-    /// The next stage of the round, where nobody is pending.
+    /// Enters the next stage of the round, if nobody is pending.
     fn advance(&mut self)
         ensures { self.new ≡ with_state self.old (advance_round self.old.state) }
     {
@@ -119,7 +119,7 @@ impl Rounds {
         }
     }
 
-    /// As far as the round goes by itself.
+    /// Advances the round as far as it goes by itself.
     fn advance_fully(&mut self)
         ensures { self.new ≡ with_state self.old (advance_fully self.old.state) }
     {
@@ -138,7 +138,7 @@ impl Rounds {
         }
     }
 
-    /// A round starts where none is running and one is due.
+    /// Starts a round, if none is running and one is due.
     fn start(&mut self)
         ensures { self.new ≡ with_state self.old (start_round self.old.state) }
     {
@@ -153,7 +153,7 @@ impl Rounds {
         self.dirty = false;
     }
 
-    /// Rounds go on, and start.
+    /// Advances the running round, and starts a new one if it is due.
     pub(crate) fn settle(&mut self)
         ensures { self.new ≡ with_state self.old (settle_round self.old.state) }
     {
@@ -184,7 +184,7 @@ impl Rounds {
         }
     }
 
-    /// The member is heard, if it is one; says whether it is.
+    /// Records that the member is heard now, if it is one; says whether it is.
     pub(crate) fn hear(&mut self, member: &Member, now: u64) -> bool
         ensures here { result ≡ is_here self.old.state.members member.now }
         ensures heard { IsTrue result → self.new ≡ with_state self.old (record self.old.state { members = with_node self.old.state.members member.now.node (heard_at now) }) }
@@ -205,7 +205,7 @@ impl Rounds {
         }
     }
 
-    /// The member acknowledges, if it is one; says whether it is.
+    /// Records the member's acknowledgement, if it is one; says whether it is.
     pub(crate) fn ack(&mut self, member: &Member, stage: AckStage, version: u64, now: u64) -> bool
         ensures here { result ≡ is_here self.old.state.members member.now }
         ensures acked { IsTrue result → self.new ≡ with_state self.old (record self.old.state { members = with_node self.old.state.members member.now.node (ack_change self.old.state stage version now) }) }
@@ -218,7 +218,7 @@ impl Rounds {
         }
     }
 
-    /// The member is removed, if it is one; says whether it was.
+    /// Removes the member, if it is one; says whether it was.
     pub(crate) fn remove(&mut self, member: &Member) -> bool
         ensures here { result ≡ is_here self.old.state.members member.now }
         ensures removed { IsTrue result → self.new ≡ with_state self.old (record self.old.state { members = without_node self.old.state.members member.now.node; dirty = true }) }
@@ -231,7 +231,7 @@ impl Rounds {
         true
     }
 
-    /// The boot of the member of this node.
+    /// The boot of the member of this node, if there is one.
     pub(crate) fn boot_at(&self, node: &Node) -> Option<u64>
         ensures { result ≡ option_map boot_of (of_node self.now.state.members node.now) }
     {
@@ -254,7 +254,7 @@ impl Rounds {
         self.boots.len()
     }
 
-    /// Whether no member of this node may join for want of places.
+    /// Whether no member of this node may join because all places are taken.
     pub(crate) fn is_full(&self, node: &Node) -> bool
         ensures { result ≡ is_full self.now.state node.now }
     {
@@ -271,7 +271,7 @@ impl Rounds {
             && !self.is_full(node)
     }
 
-    /// Removes members in their order, and says whether each was one. No change awaits the next round by that.
+    /// Removes members in their order, and says whether each was one. This makes no new round due.
     pub(crate) fn remove_all(&mut self, members: &[Member]) -> bool
         ensures all { IsTrue result → removes_all self.old.state.members members.now ≡ Some self.new.state.members }
         ensures stranger { IsFalse result → removes_all self.old.state.members members.now ≡ None }
@@ -280,7 +280,7 @@ impl Rounds {
         self.roster.remove_all(members)
     }
 
-    /// The next version is this one.
+    /// Sets the next version.
     pub(crate) fn set_version(&mut self, version: u64)
         requires used { 1 ≤ version }
         requires within { version ≤ 2 ^ 62 }
@@ -289,14 +289,14 @@ impl Rounds {
         self.next_version = version;
     }
 
-    /// For how many members there is room.
+    /// How many members there is room for.
     pub(crate) fn capacity(&self) -> usize
         ensures { result ≡ self.now.capacity }
     {
         self.roster.capacity()
     }
 
-    /// Makes room for one member more.
+    /// Makes room for one more member.
     pub(crate) fn reserve(&mut self) -> Result<(), OutOfMemory>
         ensures state { self.new.state ≡ self.old.state }
         ensures capacity { self.old.capacity ≤ self.new.capacity }
@@ -307,7 +307,7 @@ impl Rounds {
         Ok(())
     }
 
-    /// A host joins, for which there is room; `spare` is a copy of it.
+    /// Adds a host, for which there is room; `spare` is a copy of it.
     pub(crate) fn join(
         &mut self,
         host: HostInfo,
@@ -327,7 +327,7 @@ impl Rounds {
         Ok(())
     }
 
-    /// Whether the member at this place was not heard for 10,000 milliseconds or more.
+    /// Whether the member at this index was not heard for 10,000 milliseconds or more.
     pub(crate) fn is_late(&self, at: usize, now: u64) -> bool
         requires { at < length self.now.state.members }
         ensures { (j : Joined) → slice_get self.now.state.members at ≡ Some j → result ≡ is_late now j }
@@ -335,7 +335,7 @@ impl Rounds {
         self.roster.is_late(at, now)
     }
 
-    /// Drops each member that was not heard for 10,000 milliseconds, lists it, and counts them.
+    /// Drops each member that was not heard for 10,000 milliseconds or more, adds it to `removed`, and counts them.
     pub(crate) fn drop_late(&mut self, removed: &mut MemberList, now: u64) -> u32
         requires { length removed.old.members + length self.old.state.members ≤ removed.old.capacity }
         ensures state { self.new ≡ with_state self.old (drop_late self.old.state now).state }
@@ -352,7 +352,7 @@ impl Rounds {
         dropped
     }
 
-    /// The restart; where no round has ever started it is the opening state.
+    /// The restart; if no round has ever started, it is the opening state.
     pub(crate) fn restart(&mut self, now: u64)
         ensures { self.new ≡ with_state self.old (room_restarted self.old.state now) }
     {

@@ -7,7 +7,7 @@ use Rattle.jiff_core.proofs.SignedLemmas.{signed_arith}
 use Rattle.jiff_core.proofs.MarchLemmas.{leap_day, march_days-suc, leap_day-shift, day_count-early, day_count-late, month_and_day, day_in_month, day_in_early_month}
 use Rattle.schedule_text.specs.Calendar.{CivilDate, days_to_1970, days_to, march_century, in_century, date_in, date_of}
 
--- the days to a date are the calendar's, which adds those of years and months up
+-- the days to a date are the calendar's, which adds up the days of years and months
 pub days_to-day_count : (y m d : ℕ) → 1 ≤ m → m ≤ 12 → 1 ≤ d → days_to y m d ≡ day_count (pos y) m d
 unfolding days_to
 days_to-day_count y m d low high some = elim (cases_lt m 3) [
@@ -47,7 +47,7 @@ days_to-early : (y m d : ℕ) → m < 3 → days_to y m d ≡ march_days (y + 99
 unfolding days_to
 days_to-early y m d early = rw (lt-ltb m 3 early) refl
 
--- a day of January or February is there, since the year of that February has its leap day
+-- a day of January or February is in the calendar, since the year of that February has its leap day
 leap_room : (n k : ℕ) → march_days n + k < march_days (n + 1) → k < 365 + leap_day (pos (n + 1))
 leap_room n k within =
     let more : suc n ≡ n + 1 = omega arith in

@@ -1,4 +1,4 @@
--- The dates and times of `jiff` in the words of the definitions of this crate.
+-- The dates and times of `jiff` in terms of this crate's definitions.
 use Rattle.std.proofs.Common.{◌≡◌, ℕ, ◌/◌, ◌%◌, ◌<◌, ◌≤◌, arith, sym, ◌∙◌, pos, ◌+ℤ◌}
 use Rattle.jiff_core.specs.declared.civil.date.Date.{Date}
 use Rattle.jiff_core.specs.declared.civil.datetime.DateTime.{DateTime}

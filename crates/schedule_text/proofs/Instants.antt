@@ -31,7 +31,7 @@ epoch_day-days_to d late =
     let year : d.year ≡ pos (unsigned_abs d.year) = omega (arith, signed_arith, one_part d.year) in
     ap (λ (y : ℤ). days_from_civil y d.month d.day +ℤ pos days_to_1970) year ∙ days_from_civil-days_to (unsigned_abs d.year) d.month d.day d.month_in.0 d.month_in.1 d.day_in.0
 
--- seconds of UTC are what the clock shows less its offset
+-- the seconds in UTC are those that the clock shows, less its offset
 utc_seconds-signed : (local : ℕ) (behind : Bool) (offset : ℕ) (seconds : ℤ) → offset ≤ local → seconds ≡ pos local -ℤ signed behind offset → utc_seconds local (behind, offset) ≡ unsigned_abs seconds
 utc_seconds-signed local true offset seconds far is = omega (arith, signed_arith, one_part seconds)
 utc_seconds-signed local false offset seconds far is = omega (arith, signed_arith, one_part seconds)
@@ -78,7 +78,7 @@ pub in_range-ok_or : (moment : Option ℕ) → in_range moment ≡ ok_or moment 
 in_range-ok_or None = refl
 in_range-ok_or (Some moment) = refl
 
--- the instant of a text, by what the date and time of its parts show
+-- the instant of a text, from its parts
 pub instant_of-parts : (dt : DateTime) (offset : Offset) (d : Date) (clock nanos : ℕ) (zone : Bool × ℕ) → dt.date ≡ d → pos 0 ≤ℤ d.year → time_seconds dt.time ≡ clock → dt.time.subsec_nanosecond ≡ nanos → zone.1 ≤ 86340 → offset.seconds ≡ signed zone.0 zone.1
     → instant (utc_seconds (days_to (civil_date d).year d.month d.day * 86400 + clock) zone) nanos ≡ instant_of (dt, offset)
 instant_of-parts dt offset d clock nanos zone date late time fraction small is =

@@ -1,4 +1,4 @@
--- A period without months passes all missed moments in one step.
+-- With a period without months, all missed moments are passed in one step.
 use Rattle.std.proofs.Common.{◌≡◌, ℕ, zero, suc, ◌+◌, ◌-◌, ◌%◌, ◌<◌, ◌≤◌, nat_lt, true, false, inl, inr, Some, None, arith, refl}
 use Rattle.std.proofs.lemmas.Bool.{cases_lt, le-ltb, lt-ltb}
 use Rattle.std.proofs.Math.Nat.{add-mod_right, mod-le, mod-eq_of_lt}
@@ -28,7 +28,7 @@ mod_less gap n low =
     let again : gap - n + n ≡ gap = omega arith in
     rw again at (add-mod_right (gap - n) n)
 
--- the moments before the jump's are missed ones, as a step brings them nearer
+-- the jump from a missed moment leads where the jump from the moment before it leads
 jumped-step : (nanos now m : ℕ) → m + nanos ≤ now → 0 < nanos → jumped nanos now (m + nanos) ≡ jumped nanos now m
 jumped-step nanos now m missed some =
     let gap : now - (m + nanos) ≡ now - m - nanos = omega arith in
@@ -44,7 +44,7 @@ jumped-first nanos now m later some =
 jumped-least : (nanos now m : ℕ) → m + nanos ≤ jumped nanos now m
 jumped-least nanos now m = omega arith
 
--- one step, where all that may be missed is known of the moment after it
+-- one step, if the claim is known for the moment after it
 one_step : (most : ℕ) (period : Period) (now m : ℕ) → period.months ≡ 0 → 0 < period.nanos
     → (m + period.nanos ≤ now → first_after most period now (m + period.nanos) ≡ moment_of (jumped period.nanos now (m + period.nanos)))
     → first_after (suc most) period now m ≡ moment_of (jumped period.nanos now m)

@@ -18,7 +18,7 @@ use Rattle.schedule_text.proofs.Calendars.{date_of-date}
 use Rattle.schedule_text.proofs.CivilDates.{days_from_civil-days_to, epoch_day-date_of, civil_nanos-day}
 use Rattle.schedule_text.proofs.Progress.{later_month}
 
--- the date that many months later is one that the calendar has, but for the range of its year
+-- the date that many months later is one that the calendar has, except for the range of its year
 record IsAfter (date : CivilDate) (months : ℕ) (after : CivilDate) : Type 0 where
   pub month : (1 ≤ after.month) × (after.month ≤ 12)
   pub day : (1 ≤ after.day) × (after.day ≤ days_in_month (pos after.year) after.month)
@@ -76,7 +76,7 @@ module _ (nanos months : ℕ) (low : nanos < end_of_time) where
       let later = later_month 1969 12 31 after.year after.month after.day civil is.month.0 is.month.1 is.day.0 (omega (arith, is.year)) in
       omega (arith, later, day_before_1970)
 
-  -- from the year 9999 on a sum is past the last moment
+  -- from the year 9999 on, a sum is past the last moment
   pub months_on-end : 9999 ≤ after.year → end_of_time ≤ months_on nanos months
   unfolding months_on
   months_on-end late =
@@ -85,7 +85,7 @@ module _ (nanos months : ℕ) (low : nanos < end_of_time) where
       let later = later_month 9998 12 31 after.year after.month after.day civil is.month.0 is.month.1 is.day.0 (omega arith) in
       omega (arith, later, last_day)
 
-  -- and before it none is
+  -- before the year 9999 none is
   pub months_on-before_end : after.year < 9999 → months_on nanos months < end_of_time
   unfolding months_on
   months_on-before_end early =
@@ -94,7 +94,7 @@ module _ (nanos months : ℕ) (low : nanos < end_of_time) where
       let later = later_month after.year after.month after.day 9999 1 1 civil (omega arith) (omega arith) (omega arith) (omega arith) in
       omega (arith, later, first_day)
 
-  -- more months than lie between two moments
+  -- more months than there are between two moments lead past the last one
   pub months_on-many : 119988 < months → end_of_time ≤ months_on nanos months
   months_on-many many =
       let is = is_after in
@@ -140,7 +140,7 @@ module _ (nanos months : ℕ) (low : nanos < end_of_time) where
           let before = months_on-before_end early in
           (rw (month, shifted_year-after) (omega (arith, signed_arith)), rw sum (omega (arith, signed_arith)))
 
--- a result of which the value is taken
+-- a result whose value was taken is Ok
 pub ok_of-some : {T E : Type 0} → (r : Result T E) (x : T) → result_ok r ≡ Some x → r ≡ Ok x
 ok_of-some (Ok y) x is = cc
 ok_of-some (Err e) x is = cc

@@ -1,4 +1,4 @@
--- What `jiff` prints of a date and time is the text of the moment.
+-- What `jiff` prints for a date and time is the text of the moment.
 use Rattle.std.proofs.Common.{◌≡◌, ℕ, ◌/◌, ◌%◌, ◌<◌, ◌==◌, if◌then◌else◌, Bool, true, false, Option, Some, List, [], ◌∷◌, ◌++◌, arith, refl, ap, ◌∙◌, pos}
 use Rattle.jiff_core.specs.declared.civil.date.Date.{Date}
 use Rattle.jiff_core.specs.declared.civil.datetime.DateTime.{DateTime}

@@ -62,7 +62,7 @@ sum_of-later moment period low length = elim (cases_lt 0 period.months) [
       ]
 ]
 
--- a moment that follows is the sum, in range
+-- a moment that follows is the sum, and in range
 moment_of-is : (n r : ℕ) → moment_of n ≡ Some r → (n ≡ r) × (r < end_of_time)
 moment_of-is n r found = elim (cases_lt n end_of_time) [
   | inl low ↦
@@ -107,7 +107,7 @@ module _ (period : Period) (now : ℕ) where
     | inr missed ↦ Missed moment next r is missed (rest next (sym (step-missed most moment next is missed) ∙ first))
   ]
 
-  -- the first moment after now that is found is one
+  -- what is found is the first moment after now
   pub first_after-fires : (most moment r : ℕ) → first_after most period now moment ≡ Some r → FiresAt period now moment r
   first_after-fires zero moment r first =
       let none : None ≡ Some r = sym (first_after-zero period now moment) ∙ first in
@@ -127,7 +127,7 @@ module _ (period : Period) (now : ℕ) where
           Skipped moment next is missed (rest next later.1 (omega (arith, later.0)) (sym (step-missed most moment next is missed) ∙ first))
     ]
 
-    -- where none is found, none is there: no more periods lie before now than nanoseconds
+    -- if none is found, there is none: there are no more periods up to now than nanoseconds
     pub first_after-ends : (most moment : ℕ) → moment < end_of_time → now - moment < most → first_after most period now moment ≡ None → FiringEnds period now moment
     first_after-ends zero moment low enough first = absurd (omega arith)
     first_after-ends (suc most) moment low enough first = ends_by most moment (add_period moment period) low enough refl first (λ next. first_after-ends most next)

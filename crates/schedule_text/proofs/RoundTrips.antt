@@ -1,4 +1,4 @@
--- What is printed of a moment reads as that moment.
+-- What is printed for a moment reads as that moment.
 use Rattle.std.proofs.Common.{◌≡◌, ℕ, ◌+◌, ◌-◌, ◌*◌, ◌/◌, ◌%◌, ◌<◌, ◌≤◌, true, false, inl, inr, List, [], ◌∷◌, ◌++◌, arith, refl, ap, ◌∙◌, pos, Result, Ok, ◌==◌}
 use Rattle.std.proofs.lemmas.Bool.{le-leb, lt-ltb, le-ltb, cases_lt, ne_eqb}
 use Rattle.std.specs.Int.{IsInRange}
@@ -117,7 +117,7 @@ moment_at-parts moment days low is =
     let whole : (days * 86400 + moment % day_nanos / billionth - 0 - days_to_1970 * 86400) * billionth + moment % billionth ≡ moment = omega arith in
     rw (le-ltb _ _ late, whole, lt-ltb moment end_of_time low) refl
 
--- what is printed of a moment reads as that moment
+-- what is printed for a moment reads as that moment
 pub read_moment-moment_text : (moment : ℕ) → moment < end_of_time → read_moment (moment_text moment) ≡ Ok moment
 unfolding read_moment moment_text
 read_moment-moment_text moment low =

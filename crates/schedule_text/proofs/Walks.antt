@@ -1,4 +1,4 @@
--- What one step to the next moment makes of the first one after now.
+-- The first moment after now, before and after one step to the next moment.
 use Rattle.std.proofs.Common.{◌≡◌, ℕ, zero, suc, ◌-◌, ◌<◌, ◌≤◌, Some, None, arith, refl}
 use Rattle.std.proofs.lemmas.Bool.{le-ltb, lt-ltb}
 use Rattle.schedule_text.specs.declared.advance.Period.{Period}

@@ -1,5 +1,5 @@
--- Dates and days of the Gregorian calendar of ISO 8601, by years that begin on 1 March, so that a leap day comes
--- last. Days are counted from 1970-01-01, where nothing else is said.
+-- Dates and days of the Gregorian calendar of ISO 8601, computed with years that begin on 1 March, so that a leap
+-- day comes last. Days are counted from 1970-01-01 unless something else is said.
 use Rattle.std.specs.Prelude.{ℕ, ◌+◌, ◌-◌, ◌*◌, ◌/◌, ◌%◌, min, nat_lt, if◌then◌else◌, pos, unsigned_abs}
 use Rattle.jiff_core.specs.declared.civil.date.Date.{Date}
 use Rattle.jiff_core.specs.Calendar.{days_in_month}
@@ -18,11 +18,12 @@ civil_date d = record { year = unsigned_abs d.year; month = d.month; day = d.day
 abbrev pub days_to_1970 : ℕ
 days_to_1970 = 4371953
 
--- nanoseconds of a day
+-- the nanoseconds of a day
 abbrev pub day_nanos : ℕ
 day_nanos = 86400000000000
 
--- days from the first day of the year -10000 to a day of a month from 3 to 14 of a year that begins in March
+-- days from the first day of the year -10000 to a day of a month, from 3 to 14, of a year that begins in March and is
+-- counted from -10000
 abbrev pub march_days_to : ℕ → ℕ → ℕ → ℕ
 march_days_to year month day = 365 * year + year / 4 - year / 100 + year / 400 + (153 * month - 457) / 5 + day + 59
 
@@ -30,14 +31,14 @@ march_days_to year month day = 365 * year + year / 4 - year / 100 + year / 400 +
 unfoldable pub days_to : ℕ → ℕ → ℕ → ℕ
 days_to year month day = if nat_lt month 3 then march_days_to (year + 9999) (month + 12) day else march_days_to (year + 10000) month day
 
--- the date of a day, from 0, of a year that begins in March, counted from -10000
+-- the date of a day, counted from 0, in a year that begins in March and is counted from -10000
 abbrev pub date_in : ℕ → ℕ → CivilDate
 date_in year day =
     if nat_lt 12 ((5 * day + 461) / 153)
     then record { year = year + 1 - 10000; month = (5 * day + 461) / 153 - 12; day = (5 * day + 461) % 153 / 5 + 1 }
     else record { year = year - 10000; month = (5 * day + 461) / 153; day = (5 * day + 461) % 153 / 5 + 1 }
 
--- the year that begins in March, from -10000, of a day counted from its 1 March, and the day of that year
+-- of a day counted from 1 March of the year -10000: its century, and four times its day in that century and 3 more
 abbrev pub march_century : ℕ → ℕ
 march_century days = (4 * days + 3) / 146097
 
@@ -50,7 +51,7 @@ date_of day =
     let days = day + days_to_1970 - 60 in
     date_in (100 * march_century days + in_century days / 1461) (in_century days % 1461 / 4)
 
--- a date that many months later, the day cut to the month's last
+-- the date that many months later; a day that the month lacks becomes its last day
 unfoldable pub date_after : CivilDate → ℕ → CivilDate
 date_after date months =
     let number = date.year * 12 + (date.month - 1) + months in

@@ -15,12 +15,12 @@ abbrev pub unit_with_s : ℕ → List ℕ → Result (ℕ × List ℕ) ℕ
 unit_with_s nanos [] = Err 0
 unit_with_s nanos (b ∷ bs) = if b == 115 then Ok (nanos, bs) else Err (length (b ∷ bs))
 
--- minutes, or milliseconds where an `s` follows
+-- minutes, or milliseconds if an `s` follows
 abbrev pub unit_behind_m : List ℕ → Result (ℕ × List ℕ) ℕ
 unit_behind_m [] = Ok (60000000000, [])
 unit_behind_m (b ∷ bs) = if b == 115 then Ok (1000000, bs) else Ok (60000000000, b ∷ bs)
 
--- the second byte of a letter mu, and an `s`
+-- the second byte of a letter mu, and then an `s`
 abbrev pub unit_behind_mu : ℕ → List ℕ → Result (ℕ × List ℕ) ℕ
 unit_behind_mu second [] = Err 0
 unit_behind_mu second (b ∷ bs) = if b == second then unit_with_s 1000 bs else Err (length (b ∷ bs))
@@ -47,7 +47,7 @@ abbrev pub behind_first : List ℕ → List ℕ
 behind_first [] = []
 behind_first (b ∷ bs) = bs
 
--- the digits behind a point, of which there is one at least unless digits stand before the point
+-- the digits behind a point; there is at least one, unless there are digits before the point
 abbrev pub fraction_at : Bool → ℕ → List ℕ → Result ((ℕ × ℕ) × List ℕ) ℕ
 fraction_at before whole text =
     if before || begins_with_digit text
@@ -61,18 +61,18 @@ literal_at text =
     then fraction_at (begins_with_digit text) (number_from 0 text) (behind_first (behind_digits text))
     else (if begins_with_digit text then Ok ((number_from 0 text, 0), behind_digits text) else Err (length text))
 
--- a literal of a unit, cut down to whole nanoseconds
+-- a literal times its unit, cut down to whole nanoseconds
 abbrev pub term_nanos : ℕ × ℕ → ℕ → ℕ
 term_nanos literal unit = capped (capped (literal.0 * unit) + literal.1 * unit / billionth)
 
--- a literal and a unit
+-- a literal and its unit
 unfoldable pub term_at : List ℕ → Result (ℕ × List ℕ) ℕ
 term_at text =
     literal_at text >>= λ literal.
     unit_at literal.1 >>= λ unit.
     Ok (term_nanos literal.0 unit.0, unit.1)
 
--- The sum of the terms up to the text's end. A term has a byte at least, so there are at most as many as bytes.
+-- The sum of the terms up to the text's end. A term has at least one byte, so there are no more terms than bytes.
 unfoldable pub terms_from : ℕ → ℕ → List ℕ → Result ℕ ℕ
 terms_from most sum [] = Ok sum
 terms_from zero sum (b ∷ bs) = Err (length (b ∷ bs))
@@ -83,11 +83,11 @@ abbrev pub is_zero_alone : List ℕ → Bool
 is_zero_alone [] = false
 is_zero_alone (b ∷ bs) = (b == 48) && (length bs == 0)
 
--- `0` alone, or one term or more
+-- `0` alone, or at least one term
 abbrev pub sum_at : List ℕ → Result ℕ ℕ
 sum_at text = if is_zero_alone text then Ok 0 else (if length text == 0 then Err 0 else terms_from (length text) 0 text)
 
--- what stands behind a sign, where there is one
+-- what is behind the sign, if there is one
 abbrev pub behind_sign : List ℕ → List ℕ
 behind_sign [] = []
 behind_sign (b ∷ bs) = if (b == 43) || (b == 45) then bs else b ∷ bs
@@ -96,12 +96,12 @@ abbrev pub is_negative : List ℕ → Bool
 is_negative [] = false
 is_negative (b ∷ bs) = b == 45
 
--- a fault that has so many bytes left of the text, at its place
+-- a fault with the number of bytes left, as a fault with its place in the text
 abbrev pub placed : {A : Type 0} → List ℕ → Result A ℕ → Result A ScheduleError
 placed text (Ok x) = Ok x
 placed text (Err left) = Err (BadDuration (length text - left))
 
--- the sum by its sign and its range
+-- the sum, if its sign and its range are allowed
 abbrev pub signed_sum : Bool → ℕ → Result ℕ ScheduleError
 signed_sum negative sum =
     if negative && not (sum == 0) then Err Negative else (

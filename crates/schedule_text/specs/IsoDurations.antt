@@ -12,23 +12,24 @@ abbrev pub begins_with : ℕ → List ℕ → Bool
 begins_with byte [] = false
 begins_with byte (b ∷ bs) = b == byte
 
--- whether a number and that letter begin the text
+-- whether the text begins with a number and that letter
 abbrev pub has_field : ℕ → List ℕ → Bool
 has_field letter text = begins_with_digit text && begins_with letter (behind_digits text)
 
--- the number before that letter; 0 without them
+-- the number before that letter; 0 if the text doesn't begin with them
 abbrev pub field_number : ℕ → List ℕ → ℕ
 field_number letter text = if has_field letter text then number_from 0 text else 0
 
--- what stands behind that letter; all of the text without them
+-- what is behind that letter; the whole text if it doesn't begin with them
 abbrev pub behind_field : ℕ → List ℕ → List ℕ
 behind_field letter text = if has_field letter text then behind_first (behind_digits text) else text
 
--- A byte behind the last letter is refused itself; else the byte behind the digits is, where no letter fits.
+-- How many bytes are left at the fault: behind the last letter the next byte is refused; else the byte behind the
+-- digits is, since no letter fits.
 abbrev pub left_at : Bool → List ℕ → ℕ
 left_at last text = if last then length text else length (behind_digits text)
 
--- hours, minutes and seconds up to the text's end, one of them at least, in nanoseconds
+-- hours, minutes and seconds up to the text's end, at least one of them, in nanoseconds
 unfoldable pub time_at : List ℕ → Result ℕ ℕ
 time_at text =
     let behind_h = behind_field 72 text in
@@ -52,7 +53,7 @@ amounts_at text =
     then Ok (months, days)
     else Err (left_at (has_field 68 behind_w) behind_d))
 
--- a `P` and the amounts
+-- a `P` and then the amounts
 abbrev pub duration_at : List ℕ → Result (ℕ × ℕ) ℕ
 duration_at text = if begins_with 80 text then amounts_at (behind_first text) else Err (length text)
 
@@ -60,17 +61,17 @@ duration_at text = if begins_with 80 text then amounts_at (behind_first text) el
 abbrev pub most_months : ℕ
 most_months = 119988
 
--- the amounts, where they are in range
+-- the amounts, if they are in range
 abbrev pub ranged : ℕ × ℕ → Result Period ScheduleError
 ranged amounts =
     if nat_lt most_months amounts.0 || nat_lt most_nanos amounts.1 then Err OutOfRange else
     Ok (record { months = amounts.0; nanos = amounts.1 })
 
--- a duration that is all of the text
+-- the duration that the whole text is
 unfoldable pub iso_duration : List ℕ → Result Period ScheduleError
 iso_duration text = placed text (duration_at text) >>= λ amounts. ranged amounts
 
--- digits and a `/`
+-- the number of some digits, which a `/` follows
 abbrev pub count_at : List ℕ → Result (ℕ × List ℕ) ℕ
 count_at text =
     if begins_with_digit text && begins_with 47 (behind_digits text)
@@ -87,7 +88,7 @@ repeated text count =
     if count.0 == 0 then Err ZeroRepeats else
     (placed text (duration_at count.1) >>= λ amounts. counted count.0 amounts)
 
--- a duration, and how often it is repeated where an `R` begins the text
+-- a duration, and how often it is repeated if the text begins with an `R`
 unfoldable pub iso_period : List ℕ → Result (Period × Option ℕ) ScheduleError
 iso_period text =
     if begins_with 82 text

@@ -14,7 +14,7 @@ use Rattle.schedule_text.specs.Reading.{◌>>=◌}
 use Rattle.schedule_text.specs.GoDurations.{behind_first}
 use Rattle.schedule_text.specs.IsoDurations.{begins_with}
 
--- A number out of its range is refused at its first byte, where it has two bytes left before `rest`.
+-- A number out of its range is refused at its first byte, which is two bytes before `rest`.
 abbrev pub bounded : ℕ → ℕ → ℕ → List ℕ → Result (ℕ × List ℕ) ℕ
 bounded low high n rest = if nat_le low n && nat_le n high then Ok (n, rest) else Err (suc (suc (length rest)))
 
@@ -23,7 +23,7 @@ abbrev pub ones_at : ℕ → ℕ → ℕ → List ℕ → Result (ℕ × List �
 ones_at low high tens [] = Err 0
 ones_at low high tens (b ∷ bs) = if is_digit b then bounded low high ((tens - 48) * 10 + (b - 48)) bs else Err (length (b ∷ bs))
 
--- A number of two digits from `low` to `high`. A first byte that no such number has is refused itself.
+-- A number of two digits from `low` to `high`. A first byte that no such number has is refused by itself.
 abbrev pub two_at : ℕ → ℕ → List ℕ → Result (ℕ × List ℕ) ℕ
 two_at low high [] = Err 0
 two_at low high (b ∷ bs) = if is_digit b && nat_le (b - 48) (high / 10) then ones_at low high b bs else Err (length (b ∷ bs))
@@ -74,7 +74,7 @@ subsecond_at text =
     else Err (length (behind_first text)))
     else Ok (0, text)
 
--- nothing more may stand in the text
+-- the text must end here
 abbrev pub ending : {A : Type 0} → A → List ℕ → Result A ℕ
 ending x text = if length text == 0 then Ok x else Err (length text)
 
@@ -90,7 +90,7 @@ zone_at text =
     if begins_with 45 text then offset_at true (behind_first text) else
     Err (length text)))
 
--- seconds of UTC from the first day of the year -10000, by those that a clock shows there
+-- the seconds in UTC from the first day of the year -10000 on, from those that a clock at this offset shows
 abbrev pub utc_seconds : ℕ → Bool × ℕ → ℕ
 utc_seconds local zone = if zone.0 then local + zone.1 else local - zone.1
 
@@ -108,18 +108,18 @@ abbrev pub in_range : Option ℕ → Result ℕ ScheduleError
 in_range None = Err OutOfRange
 in_range (Some moment) = Ok moment
 
--- the moment of that instant, where it is one
+-- the moment of that instant, if it is one
 abbrev pub moment_at : ℕ × ℕ → Result ℕ ScheduleError
 moment_at instant =
     if nat_lt instant.0 (days_to_1970 * 86400) then Err OutOfRange else
     in_range (moment_of ((instant.0 - days_to_1970 * 86400) * billionth + instant.1))
 
--- the moment of an instant, or the place of a fault that has so many bytes left of the text
+-- the moment of an instant; or the fault with its place in the text, from the number of bytes left
 abbrev pub read_from : List ℕ → Result (ℕ × ℕ) ℕ → Result ℕ ScheduleError
 read_from text (Ok instant) = moment_at instant
 read_from text (Err left) = Err (BadMoment (length text - left))
 
--- seconds of UTC and the nanoseconds, where a clock that is so far from UTC shows a date and time
+-- the seconds in UTC and the nanoseconds at which a clock with this offset shows this date and time
 abbrev pub instant_of : DateTime × Offset → ℕ × ℕ
 instant_of shown = (unsigned_abs (civil_seconds shown.0 -ℤ shown.1.seconds +ℤ pos (days_to_1970 * 86400)), shown.0.time.subsec_nanosecond)
 
@@ -143,11 +143,11 @@ date_text date = two_digits (date.year / 100) ++ two_digits (date.year % 100) ++
 abbrev pub clock_text : ℕ → List ℕ
 clock_text seconds = two_digits (seconds / 3600) ++ 58 ∷ two_digits (seconds / 60 % 60) ++ 58 ∷ two_digits (seconds % 60)
 
--- a point and nine digits, where the nanoseconds aren't 0
+-- a point and nine digits, if the nanoseconds aren't 0
 abbrev pub subsecond_text : ℕ → List ℕ
 subsecond_text nanos = if nanos == 0 then [] else 46 ∷ nine_digits nanos
 
--- a moment as `YYYY-MM-DDThh:mm:ssZ`, with nine digits of nanoseconds where they aren't 0
+-- a moment as `YYYY-MM-DDThh:mm:ssZ`, with nine digits of nanoseconds if they aren't 0
 unfoldable pub moment_text : ℕ → List ℕ
 moment_text moment =
     date_text (date_of (moment / day_nanos)) ++ 84 ∷ clock_text (moment % day_nanos / billionth) ++ subsecond_text (moment % billionth) ++ 90 ∷ []

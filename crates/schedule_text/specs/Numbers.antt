@@ -13,26 +13,26 @@ abbrev pub begins_with_digit : List ℕ → Bool
 begins_with_digit [] = false
 begins_with_digit (b ∷ bs) = is_digit b
 
--- the number with one digit more
+-- the number with one more digit
 abbrev pub with_digit : ℕ → ℕ → ℕ
 with_digit n b = capped (n * 10 + (b - 48))
 
--- the number that n and the digits at the head of a text stand for
+-- the number that the digits of n and then those at the start of a text spell
 abbrev pub number_from : ℕ → List ℕ → ℕ
 number_from n [] = n
 number_from n (b ∷ bs) = if is_digit b then number_from (with_digit n b) bs else n
 
--- what stands behind the digits at the head of a text
+-- what is behind the digits at the start of a text
 abbrev pub behind_digits : List ℕ → List ℕ
 behind_digits [] = []
 behind_digits (b ∷ bs) = if is_digit b then behind_digits bs else b ∷ bs
 
--- The digits behind a point, at most nine of them, in billionths: the next one counts `weight`.
+-- The digits behind a point, at most nine, in billionths: the next digit counts `weight` times its value.
 abbrev pub billionths_from : ℕ → ℕ → List ℕ → ℕ
 billionths_from weight n [] = n
 billionths_from weight n (b ∷ bs) = if is_digit b && not (weight == 0) then billionths_from (weight / 10) (n + (b - 48) * weight) bs else n
 
--- what stands behind those digits
+-- what is behind those digits
 abbrev pub behind_billionths : ℕ → List ℕ → List ℕ
 behind_billionths weight [] = []
 behind_billionths weight (b ∷ bs) = if is_digit b && not (weight == 0) then behind_billionths (weight / 10) bs else b ∷ bs

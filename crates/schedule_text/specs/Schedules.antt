@@ -15,12 +15,12 @@ abbrev pub present : Option ℕ → Result (Option ℕ) ScheduleError
 present None = Err OutOfRange
 present (Some moment) = Ok (Some moment)
 
--- the moment a duration after now
+-- the moment one duration after now
 abbrev pub moment_from_now : ℕ → Period → Result (Option ℕ) ScheduleError
 moment_from_now now period = present (add_period now period)
 
 -- A moment, or a duration from now on; an empty text is absent. A `P` begins an ISO duration, a `-` as the fifth
--- byte tells a moment, and all else is a duration as Go writes it.
+-- byte means a moment, and everything else is a duration as Go writes it.
 abbrev pub moment_or_duration : List ℕ → ℕ → Result (Option ℕ) ScheduleError
 moment_or_duration text now =
     if length text == 0 then Ok None else (
@@ -28,18 +28,18 @@ moment_or_duration text now =
     if nat_lt 4 (length text) && (slice_index text 4 == 45) then (read_moment text >>= λ moment. Ok (Some moment)) else
     (go_nanos text >>= λ nanos. moment_from_now now (record { months = 0; nanos = nanos }))))
 
--- a period of zero length is absent, and its count too
+-- a period of zero length is absent, and so is its count
 abbrev pub one_or_absent : Period × Option ℕ → Option Period × Option ℕ
 one_or_absent read = if is_zero read.0 then (None, None) else (Some read.0, read.1)
 
--- A period and how many firings it allows. An `R` or a `P` begins one of ISO 8601.
+-- A period and how many firings it allows. A period of ISO 8601 begins with an `R` or a `P`.
 abbrev pub period_reading : List ℕ → Result (Option Period × Option ℕ) ScheduleError
 period_reading text =
     if length text == 0 then Ok (None, None) else (
     if begins_with 82 text || begins_with 80 text then (iso_period text >>= λ read. Ok (one_or_absent read)) else
     (go_nanos text >>= λ nanos. Ok (one_or_absent (record { months = 0; nanos = nanos }, None))))
 
--- a first moment at or after the end is none
+-- the first moment, if it is before the end
 abbrev pub first_before : ℕ → Option ℕ → Option ℕ
 first_before first None = Some first
 first_before first (Some end) = if nat_lt first end then Some first else None

@@ -5,41 +5,41 @@ ghost use Rattle.schedule_text.specs.Firing.{add_period, following, next_firing,
 use crate::calendar::months_on;
 use crate::moment::{END_OF_TIME, Moment};
 
-/// The time from one firing to the next: months of the calendar, then nanoseconds.
+/// The time from one firing to the next: calendar months, then nanoseconds.
 #[derive(Clone, Copy, Debug, PartialEq, Eq)]
 pub struct Period {
-    /// Months; the day is cut to the month's last.
+    /// Calendar months; a day that the month lacks becomes its last day.
     pub months: u32,
-    /// Nanoseconds, which are added after the months.
+    /// Nanoseconds, added after the months.
     pub nanos: u64,
 }
 
 /// When something fires.
 #[derive(Clone, Copy, Debug, PartialEq, Eq)]
 pub struct Schedule {
-    /// The first moment; None where there is none at all.
+    /// The first firing; `None` if there is none at all.
     pub first: Option<Moment>,
-    /// The time from one firing to the next; without it there is one firing.
+    /// The time from one firing to the next; without it there is only one firing.
     pub period: Option<Period>,
-    /// How many firings are still allowed; without it any number is.
+    /// How many firings are still allowed; without it, any number.
     pub left: Option<u32>,
-    /// The moment at which, and after which, nothing fires.
+    /// The moment from which on nothing fires.
     pub end: Option<Moment>,
 }
 
 /// What follows a firing.
 #[derive(Clone, Copy, Debug, PartialEq, Eq)]
 pub enum Next {
-    /// The next firing, and how many are allowed from it on.
+    /// The next firing, and how many firings are allowed from this one on.
     At { moment: Moment, left: Option<u32> },
-    /// There is none: no period, or the last firing was allowed, or the end is met.
+    /// There is none: there is no period, the last allowed firing was this one, or the end is reached.
     Done,
-    /// The next moment would be past the last one, and no end forbids it.
+    /// The next firing would be past the last moment, and there is no end before that.
     OutOfRange,
 }
 
-/// The moment a period later: the months are added to the UTC date, the day cut to the month's last, and then
-/// the nanoseconds. None past the last moment.
+/// The moment one period later: the months are added to the UTC date, where a day that the month lacks becomes its
+/// last day, and then the nanoseconds are added. `None` if that is past the last moment.
 #[tactic(auto, unfolding(crate::specs::Firing::add_period, crate::specs::Firing::sum_of))]
 pub fn add_period(moment: Moment, period: &Period) -> Option<Moment>
     ensures { result ≡ add_period moment period.now }
@@ -52,7 +52,7 @@ pub fn add_period(moment: Moment, period: &Period) -> Option<Moment>
     Moment::from_nanos(on.nanos() + period.nanos as u128)
 }
 
-// The first moment after now, where a period has no months: all that were missed are passed at once.
+// The first firing after now for a period without months: all missed ones are passed in one step.
 fn jump(moment: Moment, period: &Period, now: Moment) -> Option<Moment>
     requires months { period.now.months ≡ 0 }
     requires nanos { 0 < period.now.nanos }
@@ -65,7 +65,7 @@ fn jump(moment: Moment, period: &Period, now: Moment) -> Option<Moment>
     Moment::from_nanos(start + (gap - passed + nanos))
 }
 
-// The same where it has months: each moment from the one before, since the day stays cut.
+// The same for a period with months: each moment is found from the one before, since a day once cut stays cut.
 fn walk(moment: Moment, period: &Period, now: Moment) -> Option<Moment>
     ensures { result ≡ following period.now moment now }
 {
@@ -83,7 +83,7 @@ fn walk(moment: Moment, period: &Period, now: Moment) -> Option<Moment>
     None
 }
 
-// The first moment after now of those that follow.
+// The first moment after now among those that follow.
 fn following(moment: Moment, period: &Period, now: Moment) -> Option<Moment>
     requires { is_zero period.now ≡ false }
     ensures { result ≡ following period.now moment now }
@@ -105,7 +105,7 @@ fn is_last(left: Option<u32>) -> bool
     }
 }
 
-// Whether a moment is before the end, where there is one.
+// Whether a moment is before the end, if there is one.
 fn is_before_end(moment: Moment, end: Option<Moment>) -> bool
     ensures { result ≡ is_before_end moment end }
 {
@@ -115,7 +115,7 @@ fn is_before_end(moment: Moment, end: Option<Moment>) -> bool
     }
 }
 
-// One firing fewer is left.
+// The number of firings left, less one.
 fn one_fewer(left: Option<u32>) -> Option<u32>
     ensures { result ≡ option_map (λ n. n - 1) left }
 {
@@ -125,7 +125,7 @@ fn one_fewer(left: Option<u32>) -> Option<u32>
     }
 }
 
-// The answer at the moment that follows, where there is one.
+// The answer for the moment that follows, if there is one.
 fn next_at(end: Option<Moment>, left: Option<u32>, next: Option<Moment>) -> Next
     ensures { result ≡ next_at end left next }
 {
@@ -153,8 +153,8 @@ impl Schedule {
         *self
     }
 
-    /// What follows the firing of `moment` at `now`: the first moment after `now` of those that follow it by
-    /// one period each, with one firing fewer left, however many moments were missed. It takes no memory.
+    /// What follows when `moment` fires at `now`: the first moment after `now` among those that follow `moment` by one
+    /// period each. One firing fewer is left then, however many moments were missed. It takes no memory.
     pub fn advance(&self, moment: Moment, now: Moment) -> Next
         ensures { result ≡ next_firing self.now moment now }
     {

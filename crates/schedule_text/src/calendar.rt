@@ -11,7 +11,7 @@ use jiff::civil::{Date, DateTime, date};
 use jiff::tz::Offset;
 use jiff::{Timestamp, ToSpan};
 
-// Two moments lie no more months apart.
+// Two moments are at most this many months apart.
 const MOST_MONTHS: u32 = 119_988;
 
 /// The timestamp of a moment, as `jiff` has it.
@@ -22,7 +22,7 @@ pub(crate) fn timestamp_of(moment: Moment) -> Timestamp
     Timestamp::from_nanosecond(moment.nanos() as i128).unwrap()
 }
 
-/// The days of a month from 1 to 12.
+/// The number of days of a month from 1 to 12.
 pub(crate) fn days_in(year: u64, month: u64) -> u64
     requires year { year ≤ 9999 }
     requires month { (1 ≤ month) × (month ≤ 12) }
@@ -41,7 +41,7 @@ pub(crate) fn date_on(year: u64, month: u64, day: u64) -> Date
     date(year as i16, month as i8, day as i8)
 }
 
-/// The moment at which a clock that is `offset` from UTC shows a date and time, where it is one.
+/// The moment at which a clock that is `offset` ahead of UTC shows this date and time, if it is a moment.
 pub(crate) fn moment_shown(shown: DateTime, offset: Offset) -> Option<Moment>
     ensures { result ≡ moment_from (civil_nanos shown -ℤ nanos_of_seconds offset.seconds) }
 {
@@ -50,8 +50,8 @@ pub(crate) fn moment_shown(shown: DateTime, offset: Offset) -> Option<Moment>
     Moment::from_nanos(nanos)
 }
 
-/// The moment some months later at the same time of the day in UTC, the day cut to the month's last. None past
-/// the last moment.
+/// The moment some months later, at the same time of the day in UTC; a day that the month lacks becomes its last.
+/// `None` if that is past the last moment.
 pub(crate) fn months_on(moment: Moment, months: u32) -> Option<Moment>
     ensures { result ≡ moment_of (months_on moment months) }
 {

@@ -1,15 +1,15 @@
-// Why a text is no schedule.
+// Why a text isn't a schedule.
 use std::alloc::AllocError;
 use thiserror::Error;
 
-/// Why a text is no moment or no schedule, in the order in which the faults of one text are found. Places count
+/// Why a text isn't a moment or a schedule, in the order in which the faults of one text are found. Places are in
 /// bytes from 0; a text that ends too early has its fault at its length.
 #[derive(Clone, Copy, Debug, PartialEq, Eq, Error)]
 pub enum ScheduleError {
-    /// No moment has the byte at `at` there, or the field that begins at `at` is out of its range.
+    /// The byte at `at` can't be there in a moment, or the field that begins at `at` is out of its range.
     #[error("a bad moment at {at}")]
     BadMoment { at: u64 },
-    /// No duration or period has the byte at `at` there.
+    /// The byte at `at` can't be there in a duration or period.
     #[error("a bad duration at {at}")]
     BadDuration { at: u64 },
     /// A duration is below 0.

@@ -21,7 +21,7 @@ const MILLISECOND: u64 = 1_000_000;
 
 const MICROSECOND: u64 = 1_000;
 
-// A unit in nanoseconds, and what stands behind it; or how many bytes are left where it fails.
+// A unit in nanoseconds, and what is behind it; or how many bytes are left at the fault.
 type Unit<'a> = Result<(u64, &'a [u8]), usize>;
 
 // An `s`, which ends a unit of that many nanoseconds.
@@ -36,7 +36,7 @@ fn unit_with_s(nanos: u64, text: &[u8]) -> Unit<'_>
     Ok((nanos, &text[1..]))
 }
 
-// Minutes, or milliseconds where an `s` follows.
+// Minutes, or milliseconds if an `s` follows.
 fn unit_behind_m(text: &[u8]) -> Unit<'_>
     ensures reading { Gives (λ x. (x.0, x.1.now)) result (unit_behind_m text.now) }
     ensures bound { IfOk result (λ x. x.0 ≤ 3600000000000) }
@@ -47,7 +47,7 @@ fn unit_behind_m(text: &[u8]) -> Unit<'_>
     Ok((MILLISECOND, &text[1..]))
 }
 
-// The second byte of a letter mu, and an `s`.
+// The second byte of a letter mu, and then an `s`.
 fn unit_behind_mu(second: u8, text: &[u8]) -> Unit<'_>
     ensures reading { Gives (λ x. (x.0, x.1.now)) result (unit_behind_mu second text.now) }
     ensures bound { IfOk result (λ x. x.0 ≤ 3600000000000) }
@@ -95,7 +95,7 @@ fn unit_at(text: &[u8]) -> Unit<'_>
 // The whole part of a literal, and its billionths.
 type Literal = (u64, u64);
 
-// The digits behind a point, of which there is one at least unless digits stand before the point.
+// The digits behind a point; there is at least one, unless there are digits before the point.
 fn fraction_at(before: bool, whole: u64, text: &[u8]) -> Result<(Literal, &[u8]), usize>
     ensures reading { Gives (λ x. (x.0, x.1.now)) result (fraction_at before whole text.now) }
     ensures bound { IfOk result (λ x. x.0.1 ≤ billionth) }
@@ -132,7 +132,7 @@ fn part_of(billionths: u64, unit: u64) -> u64
     (billionths as u128 * unit as u128 / 1_000_000_000) as u64
 }
 
-// A literal of a unit, cut down to whole nanoseconds.
+// A literal times its unit, cut down to whole nanoseconds.
 fn term_nanos(literal: Literal, unit: u64) -> u64
     requires billionths { literal.1 ≤ billionth }
     requires unit { unit ≤ 3600000000000 }
@@ -143,7 +143,7 @@ fn term_nanos(literal: Literal, unit: u64) -> u64
     whole.saturating_mul(unit).saturating_add(part)
 }
 
-// A literal and a unit.
+// A literal and its unit.
 #[tactic(auto, unfolding(crate::specs::GoDurations::term_at))]
 fn term_at(text: &[u8]) -> Result<(u64, &[u8]), usize>
     ensures { Gives (λ x. (x.0, x.1.now)) result (term_at text.now) }
@@ -153,7 +153,7 @@ fn term_at(text: &[u8]) -> Result<(u64, &[u8]), usize>
     Ok((term_nanos(literal, unit), behind))
 }
 
-// The sum of the terms up to the text's end; a term has a byte at least.
+// The sum of the terms up to the text's end. A term has at least one byte.
 #[tactic(auto, unfolding(crate::specs::GoDurations::terms_from))]
 fn terms_at(text: &[u8]) -> Result<u64, usize>
     ensures { result ≡ terms_from (length text.now) 0 text.now }
@@ -173,7 +173,7 @@ fn terms_at(text: &[u8]) -> Result<u64, usize>
     Ok(sum)
 }
 
-// `0` alone, or one term or more.
+// `0` alone, or at least one term.
 fn sum_at(text: &[u8]) -> Result<u64, usize>
     ensures { result ≡ sum_at text.now }
 {
@@ -186,7 +186,7 @@ fn sum_at(text: &[u8]) -> Result<u64, usize>
     terms_at(text)
 }
 
-// What stands behind a sign, where there is one.
+// What is behind the sign, if there is one.
 fn behind_sign(text: &[u8]) -> &[u8]
     ensures { result.now ≡ behind_sign text.now }
 {
@@ -204,7 +204,7 @@ fn is_negative(text: &[u8]) -> bool
     !text.is_empty() && text[0] == b'-'
 }
 
-/// The bad byte of a text that has so many bytes left there.
+/// The fault at the byte of the text that has `left` bytes from there to its end.
 pub(crate) fn bad_duration(text: &[u8], left: usize) -> ScheduleError
     ensures { result ≡ BadDuration (length text.now - left) }
 {
@@ -213,7 +213,7 @@ pub(crate) fn bad_duration(text: &[u8], left: usize) -> ScheduleError
     }
 }
 
-// A sum by its sign and its range.
+// The sum, if its sign and its range are allowed.
 fn signed_sum(negative: bool, sum: u64) -> Result<u64, ScheduleError>
     ensures { result ≡ signed_sum negative sum }
 {

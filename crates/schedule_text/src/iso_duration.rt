@@ -21,7 +21,7 @@ const MINUTE: u64 = 60_000_000_000;
 
 const SECOND: u64 = 1_000_000_000;
 
-// A number with its letter, where the text begins with them; the number is 0 where it doesn't.
+// A number with its letter, if the text begins with them; if it doesn't, the number is 0.
 #[derive(Clone, Copy)]
 struct Field<'a> {
     found: bool,
@@ -36,7 +36,7 @@ pub(crate) fn begins_with(byte: u8, text: &[u8]) -> bool
     !text.is_empty() && text[0] == byte
 }
 
-// The number and the letter at the head of a text.
+// The number and the letter at the start of a text.
 fn field_at(letter: u8, text: &[u8]) -> Field<'_>
     ensures found { result.found ≡ has_field letter text.now }
     ensures number { result.number ≡ field_number letter text.now }
@@ -57,7 +57,7 @@ fn field_at(letter: u8, text: &[u8]) -> Field<'_>
     }
 }
 
-// How many bytes are left where no field fits; `last` where no field can follow at all.
+// How many bytes are left at the fault if no field fits; `last` says that no field can follow at all.
 fn left_at(last: bool, text: &[u8]) -> usize
     ensures { result ≡ left_at last text.now }
 {
@@ -108,7 +108,7 @@ fn amounts_at(text: &[u8]) -> Result<(u64, u64), usize>
     Ok((all_months, all_days))
 }
 
-// A `P` and the amounts.
+// A `P` and then the amounts.
 fn duration_at(text: &[u8]) -> Result<(u64, u64), usize>
     ensures { result ≡ duration_at text.now }
 {
@@ -118,7 +118,7 @@ fn duration_at(text: &[u8]) -> Result<(u64, u64), usize>
     amounts_at(&text[1..])
 }
 
-// The amounts, where they are in range.
+// The amounts, if they are in range.
 fn ranged(amounts: (u64, u64)) -> Result<Period, ScheduleError>
     ensures { result ≡ ranged amounts }
 {
@@ -132,7 +132,7 @@ fn ranged(amounts: (u64, u64)) -> Result<Period, ScheduleError>
     })
 }
 
-/// A duration of ISO 8601 that is all of the text.
+/// The duration of ISO 8601 that the whole text is.
 #[tactic(auto, unfolding(crate::specs::IsoDurations::iso_duration))]
 pub(crate) fn iso_duration(text: &[u8]) -> Result<Period, ScheduleError>
     ensures { result ≡ iso_duration text.now }
@@ -143,7 +143,7 @@ pub(crate) fn iso_duration(text: &[u8]) -> Result<Period, ScheduleError>
     }
 }
 
-// Digits and a `/`.
+// The number of some digits, which a `/` follows.
 fn count_at(text: &[u8]) -> Result<(u64, &[u8]), usize>
     ensures { Gives (λ x. (x.0, x.1.now)) result (count_at text.now) }
 {
@@ -165,7 +165,7 @@ fn counted(count: u64, amounts: (u64, u64)) -> Result<(Period, Option<u32>), Sch
     Ok((period, Some(count as u32)))
 }
 
-// A duration behind its count.
+// A count, and the duration behind it.
 fn repeated(text: &[u8], count: u64, behind: &[u8]) -> Result<(Period, Option<u32>), ScheduleError>
     ensures { result ≡ repeated text.now (count, behind.now) }
 {
@@ -178,7 +178,7 @@ fn repeated(text: &[u8], count: u64, behind: &[u8]) -> Result<(Period, Option<u3
     }
 }
 
-/// A duration, and how often it is repeated where an `R` begins the text.
+/// A duration, and how often it is repeated if the text begins with an `R`.
 #[tactic(auto, unfolding(crate::specs::IsoDurations::iso_period))]
 pub(crate) fn iso_period(text: &[u8]) -> Result<(Period, Option<u32>), ScheduleError>
     ensures { result ≡ iso_period text.now }

@@ -1,7 +1,7 @@
 // Schedules: the texts of moments, durations and repetitions, and when a schedule fires.
 //
-// Promise: a reader accepts exactly the texts of its form and names the first fault of any other; `advance` is
-// the definition of the firing moments. Stands on nothing; the calendar and the printer of moments are `jiff`'s.
+// Promise: a reader accepts exactly the texts of its form and names the first fault of any other; `advance`
+// follows the definition of the firing moments. It depends on `jiff`, for the calendar and the printer of moments.
 #![tactic(auto)]
 
 mod advance;

@@ -4,7 +4,7 @@ ghost use Rattle.schedule_text.specs.Range.{end_of_time, moment_of};
 
 use std::marker::Model;
 
-/// Nanoseconds from 1970-01-01T00:00:00Z to the first moment of 9999, which is no moment any more.
+/// Nanoseconds from 1970-01-01T00:00:00Z to 9999-01-01T00:00:00Z, which is past the last moment.
 pub const END_OF_TIME: u128 = 253_370_764_800_000_000_000;
 
 /// A moment: nanoseconds since 1970-01-01T00:00:00Z, before 9999-01-01T00:00:00Z.
@@ -30,7 +30,7 @@ impl Model for Moment {
 }
 
 impl Moment {
-    /// The moment of that many nanoseconds since 1970, where it is one.
+    /// The moment that many nanoseconds after 1970-01-01T00:00:00Z; `None` from 9999 on.
     pub fn from_nanos(nanos: u128) -> Option<Moment>
         ensures { result ≡ moment_of nanos }
     {

@@ -1,4 +1,4 @@
-// The printer of moments.
+// Prints moments.
 ghost use Rattle.std.specs.Prelude.{◌≡◌, false, Some, Ok, IfOk, IfErr, if◌then◌else◌, string_bytes};
 ghost use Rattle.jiff_fmt.specs.Printer.{options};
 ghost use Rattle.schedule_text.specs.declared.error.ScheduleError.TheVariants.{OutOfMemory};
@@ -10,7 +10,7 @@ use crate::moment::Moment;
 use jiff::fmt::temporal::DateTimePrinter;
 use std::alloc::Global;
 
-// The printer of moments: a whole second has no fraction, any other nine digits of it.
+// The printer of moments: it writes no fraction for a whole second, and nine digits for any other moment.
 fn printer(is_whole: bool) -> DateTimePrinter
     ensures { options result ≡ (false, 84, Some (if is_whole then 0 else 9)) }
 {
@@ -18,8 +18,8 @@ fn printer(is_whole: bool) -> DateTimePrinter
     DateTimePrinter::new().precision(Some(digits))
 }
 
-/// Prints a moment in UTC, as `YYYY-MM-DDThh:mm:ssZ`, with nine digits of nanoseconds where they aren't 0. Only
-/// want of memory is an error.
+/// Prints a moment in UTC, as `YYYY-MM-DDThh:mm:ssZ`, with nine digits of nanoseconds if they aren't 0. Its only
+/// error is `OutOfMemory`.
 pub fn print_moment(alloc: Global, moment: Moment) -> Result<String, ScheduleError>
     ensures text { IfOk result (λ text. string_bytes text ≡ moment_text moment) }
     // Reading it again gives the moment.

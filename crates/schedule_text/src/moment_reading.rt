@@ -1,4 +1,4 @@
-// The reader of moments.
+// Reads moments.
 ghost use Rattle.std.specs.Prelude.{◌≡◌, ◌≤◌, ◌<◌, ◌≤ℤ◌, ◌+◌, ◌*◌, pos, IfOk};
 ghost use Rattle.jiff_core.specs.Sign.{signed};
 ghost use Rattle.schedule_text.specs.Calendar.{civil_date};
@@ -14,7 +14,7 @@ use crate::numbers::{begins_with_digit, billionths_at};
 use jiff::civil::{Date, DateTime, time};
 use jiff::tz::Offset;
 
-// A number and what stands behind it, or how many bytes are left where it fails.
+// A number and what is behind it, or how many bytes are left at the fault.
 type Number<'a> = Result<(u64, &'a [u8]), usize>;
 
 // A number of two digits from `low` to `high`.
@@ -193,8 +193,8 @@ fn shown_at(text: &[u8]) -> Result<Shown, usize>
     Ok((DateTime::from_parts(date, clock), offset_of(zone)))
 }
 
-/// Reads a moment: `YYYY-MM-DDThh:mm:ss`, at most nine digits of a fraction, and `Z` or an offset up to 23:59,
-/// as RFC 3339 writes it. A leap second is refused; a moment before 1970 or from 9999 on is `OutOfRange`.
+/// Reads a moment as RFC 3339 writes it: `YYYY-MM-DDThh:mm:ss`, a fraction of at most nine digits, and `Z` or an
+/// offset up to 23:59. A leap second is refused; a moment before 1970 or from 9999 on is `OutOfRange`.
 #[tactic(auto, unfolding(crate::specs::Moments::read_moment))]
 pub fn read_moment(text: &str) -> Result<Moment, ScheduleError>
     ensures { result ≡ read_moment text.now }
@@ -202,7 +202,7 @@ pub fn read_moment(text: &str) -> Result<Moment, ScheduleError>
     moment_in(text.as_bytes())
 }
 
-/// The same of bytes.
+/// The same for bytes.
 #[tactic(auto, unfolding(crate::specs::Moments::read_moment))]
 pub(crate) fn moment_in(text: &[u8]) -> Result<Moment, ScheduleError>
     ensures { result ≡ read_moment text.now }

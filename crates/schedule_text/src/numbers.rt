@@ -9,7 +9,7 @@ pub(crate) fn begins_with_digit(text: &[u8]) -> bool
     !text.is_empty() && text[0].is_ascii_digit()
 }
 
-// The number with one digit more.
+// The number with one more digit.
 fn with_digit(number: u64, byte: u8) -> u64
     requires { is_digit byte ≡ true }
     ensures { result ≡ with_digit number byte }
@@ -18,7 +18,7 @@ fn with_digit(number: u64, byte: u8) -> u64
     number.saturating_mul(10).saturating_add(digit)
 }
 
-/// The number at the head of a text, 0 without a digit, and what stands behind it.
+/// The number at the start of a text, 0 if there is no digit, and what is behind it.
 pub(crate) fn number_at(text: &[u8]) -> (u64, &[u8])
     ensures number { result.0 ≡ number_from 0 text.now }
     ensures behind { result.1.now ≡ behind_digits text.now }
@@ -34,7 +34,7 @@ pub(crate) fn number_at(text: &[u8]) -> (u64, &[u8])
     (number, &text[text.len()..])
 }
 
-/// The digits at the head of a text, at most nine, as billionths, and what stands behind them.
+/// The digits at the start of a text, at most nine, as billionths, and what is behind them.
 pub(crate) fn billionths_at(text: &[u8]) -> (u64, &[u8])
     ensures number { result.0 ≡ billionths_from first_weight 0 text.now }
     ensures behind { result.1.now ≡ behind_billionths first_weight text.now }

@@ -1,4 +1,4 @@
-// The reader of schedules.
+// Reads schedules.
 ghost use Rattle.std.specs.Prelude.{◌≡◌};
 ghost use Rattle.schedule_text.specs.Schedules.{moment_from_now, moment_or_duration, period_reading, one_or_absent, first_before, due_or_now, read_schedule};
 
@@ -19,7 +19,7 @@ fn moment_from_now(period: &Period, now: Moment) -> Result<Option<Moment>, Sched
     }
 }
 
-// A moment, or a duration from now on, or nothing.
+// A moment; or a duration from now on, as the moment at its end; or nothing.
 fn moment_or_duration(text: &[u8], now: Moment) -> Result<Option<Moment>, ScheduleError>
     ensures { result ≡ moment_or_duration text.now now }
 {
@@ -38,7 +38,7 @@ fn moment_or_duration(text: &[u8], now: Moment) -> Result<Option<Moment>, Schedu
     moment_from_now(&Period { months: 0, nanos }, now)
 }
 
-// A period with its count; one of zero length is absent, and its count too.
+// A period with its count. A period of zero length is absent, and so is its count.
 fn one_or_absent(period: Period, left: Option<u32>) -> (Option<Period>, Option<u32>)
     ensures { result ≡ one_or_absent (period, left) }
 {
@@ -64,7 +64,7 @@ fn period_reading(text: &[u8]) -> Result<(Option<Period>, Option<u32>), Schedule
     Ok(one_or_absent(Period { months: 0, nanos }, None))
 }
 
-// The first moment, where it is before the end.
+// The first moment, if it is before the end.
 fn first_before(first: Moment, end: &Option<Moment>) -> Option<Moment>
     ensures { result ≡ first_before first end.now }
 {
@@ -90,10 +90,10 @@ fn due_or_now(due: Option<Moment>, now: Moment) -> Moment
     }
 }
 
-/// Reads a schedule of Dapr's texts at `now`; an empty text is absent. `due` and `ttl` are a moment of RFC 3339,
-/// a duration as Go writes it or one of ISO 8601, counted from now; `period` is such a duration, and one of ISO
-/// 8601 may have its repetitions before it, as `R5/PT1M`. The texts are read in this order, each with its sum,
-/// and the first fault is answered, with its place in its own text.
+/// Reads a schedule from Dapr's texts at `now`; an empty text counts as absent. `due` and `ttl` are a moment of
+/// RFC 3339, or a duration from now on as Go or ISO 8601 writes it. `period` is such a duration; one of ISO 8601
+/// may have its repetitions before it, as in `R5/PT1M`. The texts are read in this order, each with its sum, and
+/// the first fault is answered, with its place in its own text.
 #[tactic(auto, unfolding(crate::specs::Schedules::read_schedule))]
 pub fn read_schedule(
     due: &str,

@@ -1,17 +1,17 @@
 use super::*;
 
-// The moment of that many nanoseconds.
+// The moment that many nanoseconds after 1970.
 fn at(nanos: u128) -> Result<Moment, ScheduleError> {
     Moment::from_nanos(nanos).ok_or(ScheduleError::OutOfRange)
 }
 
-// The first moment of a due text at the first moment of all.
+// The first firing, in nanoseconds, of a due text that is read at the first moment of 1970.
 fn first_of(due: &str) -> Result<u128, ScheduleError> {
     let schedule = read_schedule(due, "", "", at(0)?)?;
     Ok(schedule.first.ok_or(ScheduleError::OutOfRange)?.nanos())
 }
 
-// The months, the nanoseconds and the firings of a period, 0 where it is absent.
+// The months, the nanoseconds and the firings of a period; the first two are 0 if it is absent.
 fn period_of(text: &str) -> Result<(u32, u64, Option<u32>), ScheduleError> {
     let schedule = read_schedule("", text, "", at(0)?)?;
     match schedule.period {
@@ -201,7 +201,7 @@ fn schedule_cuts_day_to_month_end(rt: HostRuntime) -> Result<(), ScheduleError> 
     Ok(())
 }
 
-// What follows a firing a second before the end of time, at that very moment.
+// What follows a firing one second before the end of time, at that very moment.
 fn after_last(period: &str, ttl: &str) -> Result<Next, ScheduleError> {
     let last = read_moment("9998-12-31T23:59:59Z")?;
     let schedule = read_schedule("", period, ttl, last)?;

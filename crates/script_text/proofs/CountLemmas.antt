@@ -1,4 +1,4 @@
--- How many lines a text has: its line feeds, and one more where something stands behind the last of them.
+-- How many lines a text has: its line feeds, and one more if anything follows the last of them.
 use Rattle.std.proofs.Common.{◌≡◌, ◌≢◌, ◌<◌, ◌+◌, ◌-◌, ◌==◌, ℕ, Bool, true, false, zero, suc, List, [], ◌∷◌, length, get_or, take, drop, if◌then◌else◌, refl, ◌∙◌, arith}
 use Rattle.std.specs.List.{count_by}
 use Rattle.std.proofs.lemmas.List.Recursion.{is_count_by}
@@ -43,7 +43,7 @@ one-byte-more : (t : Bool) (b : ℕ) (ls : List (List ℕ)) (n k : ℕ) → 0 < 
 one-byte-more true b ls n k some e = omega (arith, e)
 one-byte-more false b ls n k some e = onto-length b ls some ∙ e
 
--- the lines of a text are its line feeds and k, where that is so of its last byte
+-- a text has k more lines than line feeds if its last byte has
 lines-by-last : (k b : ℕ) (bs : List ℕ) → length (lines_of (get_or (b ∷ bs) (length bs) 0 ∷ [])) ≡ line_feeds (get_or (b ∷ bs) (length bs) 0 ∷ []) + k
     → length (lines_of (b ∷ bs)) ≡ line_feeds (b ∷ bs) + k
 lines-by-last k b [] last = last

@@ -57,7 +57,7 @@ onto-column : (past column b : ℕ) (words : List Word) → 0 < length words →
 onto-column past column b [] some = absurd (omega arith)
 onto-column past column b (word ∷ words) some = refl
 
--- the first word stands at the column from which a line is looked at
+-- the first word is at the column from which a line is read
 pub first_word_column : (past column : ℕ) (xs : List ℕ) → next_column past (words_from column xs) ≡ column
 first_word_column past column [] = refl
 first_word_column past column (b ∷ bs) =

@@ -9,7 +9,7 @@ use Rattle.lists_and_limits.specs.Decimals.{is_digit, decimal_value, is_unpadded
 use Rattle.script_text.specs.Lines.{LacksByte}
 use Rattle.script_text.specs.Reading.{greatest_number, number_in}
 
--- one digit more
+-- one more digit
 pub digits_more : (text : List ℕ) (i : ℕ) → i < length text → list_all is_digit (take i text) ≡ true → is_digit (get_or text i 0) ≡ true → list_all is_digit (take (i + 1) text) ≡ true
 digits_more text i below digits digit =
     rw (add-one, take-suc text i 0 below, list_all-append is_digit (take i text) (get_or text i 0 ∷ []), digits) (rw digit refl)

@@ -31,7 +31,7 @@ some-piece [] = omega arith
 some-piece (b ∷ bs) =
     cond_both (b == 44) _ _ (λ (pieces : List (List ℕ)). 0 < length pieces) (λ t. omega arith) (λ f. some-onto b (pieces_of bs))
 
--- a text that is tested names 1 to 32 different types
+-- a text that passes the test names 1 to 32 different types
 pub boot_types_sound : (text : List ℕ) → are_boot_types text ≡ true → AreBootTypes (pieces_of text)
 boot_types_sound text tested =
     let parts = and_parts (list_all is_type (pieces_of text)) (are_different (pieces_of text) && nat_le (0 + length (pieces_of text)) 32) tested in
@@ -39,7 +39,7 @@ boot_types_sound text tested =
     let few = leb-true (0 + length (pieces_of text)) 32 two.1 in
     record { some = some-piece text; few = omega (arith, few); different = two.0 }
 
--- the tests of the pieces that are left, one piece after another
+-- the tests of the remaining pieces, one piece after another
 and-false : (t : Bool) → (t && false) ≡ false
 and-false true = refl
 and-false false = refl

@@ -14,11 +14,11 @@ pub data ClusterLine : Type 0 where
   Sets : Setting → ClusterLine
   Does : (column : ℕ) → WorldEvent → ClusterLine  -- the column of a call's number or an `at`'s moment; else 1
 
--- an event whose refusal stands at column 1
+-- an event that is refused at column 1
 abbrev pub does : WorldEvent → ClusterLine
 does event = Does 1 event
 
--- two words, read so, and nothing more
+-- two words, each read by its function, and nothing more
 abbrev pub two_as : {A B : Type 0} → (List ℕ → Option A) → (List ℕ → Option B) → ℕ → List Word → Result (A × B) ℕ
 two_as read other past words = next_as read past words >>= λ a. only_as other past a.1 >>= λ b. Ok (a.0, b)
 
@@ -35,7 +35,7 @@ actor_words past words = two_as member_in key_in past words >>= λ w. Ok (w.0, k
 abbrev pub actor_line : (Member → ActorKey → WorldEvent) → ℕ → List Word → Result ClusterLine ℕ
 actor_line event past words = actor_words past words >>= λ w. Ok (does (event w.0 w.1))
 
--- of a member and the number of one of its parts
+-- a member and the number of one of its parts
 abbrev pub part_line : (Member → ℕ → WorldEvent) → ℕ → List Word → Result ClusterLine ℕ
 part_line event past words = two_as member_in number_in past words >>= λ w. Ok (does (event w.0 w.1))
 
@@ -67,8 +67,8 @@ call_line past words =
 abbrev pub bare_line : WorldEvent → List Word → Result ClusterLine ℕ
 bare_line event words = ending_with (does event) words
 
--- A line by its first word; `late` where an event line stands before it. First what concerns the placement and time, and
--- the settings; any other word can't stand there.
+-- A line by its first word; `late` if an event line comes before it. First lines about the placement and time, and
+-- settings; any other word isn't allowed there.
 abbrev pub other_line_by : Bool → ℕ → List ℕ → List Word → Result ClusterLine ℕ
 other_line_by late past first words =
     if bytes_eq first (codes "at") then at_line past words else (
@@ -76,7 +76,7 @@ other_line_by late past first words =
     if bytes_eq first (codes "restart") then bare_line lines.Restart words else (
     setting_unless late past first words >>= λ setting. Ok (Sets setting))))
 
--- what concerns the actors of a member, and members that come
+-- lines about the actors of a member, and about members that boot
 abbrev pub actor_line_by : Bool → ℕ → List ℕ → List Word → Result ClusterLine ℕ
 actor_line_by late past first words =
     if bytes_eq first (codes "hold") then actor_line (λ m key. lines.Hold m key) past words else (
@@ -85,7 +85,7 @@ actor_line_by late past first words =
     if bytes_eq first (codes "boot") then boot_line past words else
     other_line_by late past first words)))
 
--- what concerns one member or one of its parts
+-- lines about one member or one of its parts
 abbrev pub member_line_by : Bool → ℕ → List ℕ → List Word → Result ClusterLine ℕ
 member_line_by late past first words =
     if bytes_eq first (codes "beat") then member_line (λ m. lines.Beat m) past words else (
@@ -97,7 +97,7 @@ member_line_by late past first words =
     if bytes_eq first (codes "stop") then part_line (λ m i. lines.Stop m i) past words else
     actor_line_by late past first words))))))
 
--- any line: what concerns calls and messages stands first
+-- any line: those about calls and messages are tested first
 abbrev pub cluster_line_by : Bool → ℕ → List ℕ → List Word → Result ClusterLine ℕ
 cluster_line_by late past first words =
     if bytes_eq first (codes "call") then call_line past words else (
@@ -132,7 +132,7 @@ event_has_names (lines.Lost member) = false
 event_has_names lines.PlacementTick = false
 event_has_names lines.Restart = false
 
--- a line that isn't refused, and makes names
+-- a line that isn't refused and makes names
 abbrev pub reading_makes_names : Result ClusterLine ℕ → Bool
 reading_makes_names (Err column) = false
 reading_makes_names (Ok Blank) = false
@@ -145,7 +145,7 @@ pub record AreBootTypes (kinds : List (List ℕ)) : Type 0 where
   pub few : length kinds ≤ 32
   pub different : are_different kinds ≡ true
 
--- what a world asks of an event beside its line's order
+-- what a world requires of an event apart from the order of the lines
 abbrev pub IsWithinLimits : WorldEvent → Type 0
 IsWithinLimits (lines.At moment) = moment ≤ greatest_number
 IsWithinLimits (lines.Boot space node kinds) = AreBootTypes kinds
@@ -167,7 +167,7 @@ IsWithinLimits (lines.Lost member) = Unit {0}
 IsWithinLimits lines.PlacementTick = Unit {0}
 IsWithinLimits lines.Restart = Unit {0}
 
--- the first line of a script: `cluster P` makes it a cluster script of so many parts, any other a solo script
+-- the first line of a script: `cluster P` begins a cluster script with P parts per member, any other a solo script
 abbrev pub parts_line_by : ℕ → List ℕ → List Word → Result (Option ℕ) ℕ
 parts_line_by past first words =
     if bytes_eq first (codes "cluster") then (only_as parts_in past words >>= λ parts. Ok (Some parts)) else Ok None

@@ -1,4 +1,4 @@
--- The words that only lines of cluster scripts have. Own: docs/scripts.md.
+-- The words that only the lines of cluster scripts have. Own: docs/scripts.md.
 use Rattle.std.specs.Prelude.{ℕ, ◌+◌, ◌^◌, Bool, true, not, ◌&&◌, ◌==◌, nat_le, if◌then◌else◌, List, [], ◌∷◌, length, bytes_eq, codes, Option, None, Some, is_none, unwrap_or, option_map, option_and_then, Result, Ok, Err}
 use Rattle.std.specs.List.{list_any, list_all}
 use Rattle.actor_names.specs.declared.actor_key.ActorKey.{ActorKey}
@@ -12,7 +12,7 @@ use Rattle.script_text.specs.Reading.{number_in, some_number, next_as, only_as}
 abbrev pub node_in : List ℕ → Option (List ℕ)
 node_in text = if is_none (node_fault text) then Some text else None
 
--- `NODE/BOOT` of the space `default`, or `SPACE:NODE/BOOT`; of a boot from 1 to 2^62
+-- `NODE/BOOT` in the space `default`, or `SPACE:NODE/BOOT`; the boot is from 1 to 2^62
 abbrev pub member_of : List ℕ → Option ℕ → Option Member
 member_of text boot = option_map (λ n. record { space = space_in text; node = before_slash (local_in text); boot = n }) boot
 
@@ -39,7 +39,7 @@ are_different (piece ∷ pieces) = not (list_any (bytes_eq piece) pieces) && are
 abbrev pub is_type : List ℕ → Bool
 is_type text = is_none (actor_type_fault text)
 
--- different types, no more than 32 with those that stand before them
+-- different types, no more than 32 with the `n` before them
 abbrev pub are_types_behind : ℕ → List (List ℕ) → Bool
 are_types_behind n kinds = list_all is_type kinds && (are_different kinds && nat_le (n + length kinds) 32)
 
@@ -53,7 +53,7 @@ boot_types_in text = if are_boot_types text then Some (pieces_of text) else None
 abbrev pub space_named : List ℕ → Option (List ℕ)
 space_named text = if is_none (space_fault text) then Some text else None
 
--- nothing, which stands for the space `default`, or `space` and a space; and nothing more
+-- nothing, which means the space `default`, or `space` and a space; and nothing more
 abbrev pub space_clause : ℕ → List Word → Result (List ℕ) ℕ
 space_clause past [] = Ok default_space
 space_clause past (word ∷ words) = if bytes_eq word.text (codes "space") then only_as space_named past words else Err word.column
@@ -62,7 +62,7 @@ space_clause past (word ∷ words) = if bytes_eq word.text (codes "space") then 
 abbrev pub parts_in : List ℕ → Option ℕ
 parts_in text = option_and_then some_number (number_of 16 text)
 
--- nothing, which stands for 0, or `least` and a version; where another word stands it is left for what follows
+-- nothing, which means 0, or `least` and a version; any other word is left for what follows
 abbrev pub least_clause : ℕ → List Word → Result (ℕ × List Word) ℕ
 least_clause past [] = Ok (0, [])
 least_clause past (word ∷ words) = if bytes_eq word.text (codes "least") then next_as number_in past words else Ok (0, word ∷ words)

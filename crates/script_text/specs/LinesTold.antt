@@ -1,4 +1,4 @@
--- What the lines that the program has read tell.
+-- What the lines that the program has read say.
 use Rattle.std.specs.Prelude.{◌≡◌, ◌+◌, ℕ, List, [], length, true, Option, None, Some, Result, Ok, Err}
 use Rattle.actor_names.specs.Names.{actor_type_fault}
 use Rattle.world_events.specs.Solo.{event_told}
@@ -31,20 +31,20 @@ cluster_told clusterread.Blank = cluster.Blank
 cluster_told (clusterread.Sets setting) = cluster.Sets (setting_told setting)
 cluster_told (clusterread.Does column event) = cluster.Does column event
 
--- a line is what its reading gives, or its column is where the reading is refused; want of memory comes only where the
--- line isn't refused, and makes names
+-- a line is what its reading gives, or its column is where the reading is refused; it runs out of memory only if the
+-- line isn't refused and makes names
 abbrev pub ReadsLine : Result ClusterRead LineError → Result cluster.ClusterLine ℕ → Type 0
 ReadsLine (Ok line) reading = reading ≡ Ok (cluster_told line)
 ReadsLine (Err (BadColumn column)) reading = reading ≡ Err column
 ReadsLine (Err OutOfMemory) reading = reading_makes_names reading ≡ true
 
--- what a line's words give, or the column at which they are refused; want of memory comes only where they aren't
+-- what a line's words give, or the column at which they are refused; out of memory comes only if they aren't refused
 abbrev pub Reads : {X : Type 0} → Result X LineError → Result X ℕ → Type 0
 Reads {X} (Ok x) reading = reading ≡ Ok x
 Reads {X} (Err (BadColumn column)) reading = reading ≡ Err column
 Reads {X} (Err OutOfMemory) reading = (x : X) × (reading ≡ Ok x)
 
--- the type of a setting is one
+-- the type of a setting is an actor type
 abbrev pub SettingIsSound : SettingRead → Type 0
 SettingIsSound (setting.Reentrant column kind depth) = actor_type_fault kind.now ≡ None
 SettingIsSound (setting.Idle ms) = Unit {0}
@@ -56,12 +56,12 @@ LineIsWithinLimits clusterread.Blank = Unit {0}
 LineIsWithinLimits (clusterread.Sets setting) = SettingIsSound setting
 LineIsWithinLimits (clusterread.Does column event) = IsWithinLimits event
 
--- the pieces that are left of a text
+-- the remaining pieces of a text
 abbrev pub pieces_left_of : Option (List ℕ) → List (List ℕ)
 pieces_left_of None = []
 pieces_left_of (Some text) = pieces_of text
 
--- how much is left of a text
+-- how much of a text remains
 abbrev pub bytes_left_of : Option (List ℕ) → ℕ
 bytes_left_of None = 0
 bytes_left_of (Some text) = length text + 1

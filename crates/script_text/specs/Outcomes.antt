@@ -49,7 +49,7 @@ stage_text stage.Lock = codes " ack lock "
 stage_text stage.Update = codes " ack update "
 stage_text stage.Unlock = codes " ack unlock "
 
--- An answer of the placement behind its number. The last three answer no request that is a message.
+-- An answer of the placement, after its number. The last three answer no request that is a message.
 abbrev pub reply_text : PlaceReply → List ℕ
 reply_text (reply.Lock version) = codes " lock " ++ decimal version
 reply_text (reply.Update version) = codes " update " ++ decimal version
@@ -103,6 +103,6 @@ outcome_text (out.NotMember greatest) = codes "not-member " ++ decimal greatest 
 outcome_text (out.Dropped members) = codes "ptick dropped " ++ decimal members ++ codes "\n"
 outcome_text (out.Restarted versions) = codes "restart" ++ versions_text versions ++ codes "\n"
 
--- the line of a refused line
+-- the line that reports a refused line
 abbrev pub bad_line_text : ℕ → ℕ → List ℕ
 bad_line_text line column = codes "bad line " ++ decimal line ++ codes " column " ++ decimal column ++ codes "\n"

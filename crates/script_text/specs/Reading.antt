@@ -15,7 +15,7 @@ abbrev pub ◌>>=◌ : {A B : Type 0} → Result A ℕ → (A → Result B ℕ) 
 (Ok x) >>= f = f x
 (Err column) >>= f = Err column
 
--- a text of 0 to 999,999,999,999
+-- a number from 0 to 999,999,999,999
 abbrev pub number_in : List ℕ → Option ℕ
 number_in text = number_of greatest_number text
 
@@ -27,7 +27,7 @@ some_number n = if n == 0 then None else Some n
 abbrev pub depth_in : List ℕ → Option ℕ
 depth_in text = option_and_then some_number (number_of 1024 text)
 
--- a text that has no fault stands for itself; a key is written without its space
+-- a text without fault is its own value; a key is written without its space
 abbrev pub key_in : List ℕ → Option (List ℕ)
 key_in text = if is_none (local_key_fault text) then Some text else None
 
@@ -42,7 +42,7 @@ abbrev pub word_value : {A : Type 0} → Word → List Word → Option A → Res
 word_value word words None = Err word.column
 word_value word words (Some value) = Ok (value, words)
 
--- the next word, read so; a missing word is refused one past the line's end
+-- the next word, read by this function; a missing word is refused one past the line's end
 abbrev pub next_as : {A : Type 0} → (List ℕ → Option A) → ℕ → List Word → Result (A × List Word) ℕ
 next_as read past [] = Err past
 next_as read past (word ∷ words) = word_value word words (read word.text)
@@ -52,12 +52,12 @@ abbrev pub next_column : ℕ → List Word → ℕ
 next_column past [] = past
 next_column past (word ∷ words) = word.column
 
--- nothing more may stand in the line
+-- nothing more may follow in the line
 abbrev pub ending_with : {A : Type 0} → A → List Word → Result A ℕ
 ending_with value [] = Ok value
 ending_with value (word ∷ words) = Err word.column
 
--- one word, read so, and nothing more
+-- one word, read by this function, and nothing more
 abbrev pub only_as : {A : Type 0} → (List ℕ → Option A) → ℕ → List Word → Result A ℕ
 only_as read past words = next_as read past words >>= λ value. ending_with value.0 value.1
 
@@ -67,7 +67,7 @@ chain_clause past [] = Ok (None, [])
 chain_clause past (word ∷ words) =
     if bytes_eq word.text (codes "chain") then (next_as chain_in past words >>= λ chain. Ok (Some chain.0, chain.1)) else Err word.column
 
--- what holds for a whole script; the column of a type is that of its word, where a second depth of it is refused
+-- what holds for a whole script; the column of a type is that of its word, where a second depth for it is refused
 pub data Setting : Type 0 where
   Reentrant : (column : ℕ) → (kind : List ℕ) → (depth : ℕ) → Setting
   Idle : (ms : ℕ) → Setting
@@ -79,7 +79,7 @@ reentrant_line past words =
     next_as depth_in past kind.1 >>= λ depth.
     ending_with (Reentrant (next_column past words) kind.0 depth.0) depth.1
 
--- A setting by its first word; any other word can't stand there, `cluster` among them.
+-- A setting by its first word; any other word isn't allowed there, not even `cluster`.
 abbrev pub setting_by : ℕ → List ℕ → List Word → Result Setting ℕ
 setting_by past first words =
     if bytes_eq first (codes "reentrant") then reentrant_line past words else (
@@ -87,7 +87,7 @@ setting_by past first words =
     if bytes_eq first (codes "drain") then (only_as number_in past words >>= λ ms. Ok (Drain ms)) else
     Err 1))
 
--- Settings stand before all events: a late one is refused at column 1.
+-- Settings come before all events: a late one is refused at column 1.
 abbrev pub setting_unless : Bool → ℕ → List ℕ → List Word → Result Setting ℕ
 setting_unless late past first words = if late then Err 1 else setting_by past first words
 
@@ -96,7 +96,7 @@ abbrev pub is_blank : List ℕ → Bool
 is_blank [] = true
 is_blank (b ∷ bs) = b == 35
 
--- a line by its first word and the words behind it
+-- a line by its first word and the words after it
 abbrev pub by_first_word : {A : Type 0} → (ℕ → List ℕ → List Word → Result A ℕ) → ℕ → List Word → Result A ℕ
 by_first_word line past [] = Err past
 by_first_word line past (word ∷ words) = line past word.text words

@@ -20,7 +20,7 @@ call_line past words =
 abbrev pub end_line : ℕ → List Word → Result SoloLine ℕ
 end_line past words = only_as number_in past words >>= λ call. Ok (Does 1 (End call))
 
--- a line by its first word; `late` where an event line stands before it
+-- a line by its first word; `late` if an event line comes before it
 abbrev pub solo_line_by : Bool → ℕ → List ℕ → List Word → Result SoloLine ℕ
 solo_line_by late past first words =
     if bytes_eq first (codes "call") then call_line past words else (

@@ -15,7 +15,7 @@ const COMMA: u8 = b',';
 
 const MOST_TYPES: usize = 32;
 
-/// The first piece of a text, and what stands behind its comma.
+/// The first piece of a text, and what follows its comma.
 fn next_piece(text: &[u8]) -> (&[u8], Option<&[u8]>)
     ensures pieces { pieces_of text.now ≡ result.0.now ∷ pieces_left_of (option_copied result.1) }
     ensures shorter { bytes_left_of (option_copied result.1) ≤ length text.now }
@@ -26,7 +26,7 @@ fn next_piece(text: &[u8]) -> (&[u8], Option<&[u8]>)
     }
 }
 
-/// Whether a piece is one of those that are left.
+/// Whether a piece is one of the remaining ones.
 fn is_among(piece: &[u8], rest: Option<&[u8]>) -> bool
     ensures { result ≡ list_any (bytes_eq piece.now) (pieces_left_of (option_copied rest.entry)) }
 {

@@ -21,26 +21,26 @@ use crate::words::Words;
 use std::alloc::Global;
 use world_events::WorldEvent;
 
-/// What a line of a cluster script says; the type of a setting is lent from it.
+/// What a line of a cluster script says; the type of a setting is borrowed from it.
 #[derive(Drop)]
 pub enum ClusterLine<'a> {
     /// An empty line or a comment.
     Blank,
     /// Something holds for the whole script.
     Sets { setting: Setting<'a> },
-    /// Something happens. The column of a call's number, where a wrong one is refused, or of the moment of `at`, where
-    /// one that falls is; and 1 for the others.
+    /// Something happens. `column` is that of a call's number, where a wrong one is refused, or of the moment of `at`,
+    /// where one before the present moment is refused; 1 for the others.
     Does { column: u64, event: WorldEvent },
 }
 
-/// The line of an event whose refusal stands at column 1.
+/// The line of an event that is refused at column 1.
 fn does<'a>(event: WorldEvent) -> ClusterLine<'a>
     ensures { result ≡ line_does 1 event }
 {
     ClusterLine::Does { column: 1, event }
 }
 
-/// Behind `call`: a number, a member, a key of its space and what may follow them.
+/// After `call`: a number, a member, a key of its space and what may follow them.
 fn call_line<'a>(alloc: Global, past: u64, words: Words<'a>) -> Result<ClusterLine<'a>, LineError>
     ensures reads { ReadsLine result (call_line past (words_left words.entry)) }
     ensures limits { IfOk result (λ line. LineIsWithinLimits line) }
@@ -65,7 +65,7 @@ fn call_line<'a>(alloc: Global, past: u64, words: Words<'a>) -> Result<ClusterLi
     Ok(ClusterLine::Does { column, event })
 }
 
-/// Behind `part`: the numbers of a message and of a part.
+/// After `part`: the numbers of a message and of a part.
 fn deliver_line<'a>(past: u64, words: Words<'a>) -> Result<ClusterLine<'a>, LineError>
     ensures reads { ReadsLine result (deliver_line past (words_left words.entry)) }
     ensures limits { IfOk result (λ line. LineIsWithinLimits line) }
@@ -74,7 +74,7 @@ fn deliver_line<'a>(past: u64, words: Words<'a>) -> Result<ClusterLine<'a>, Line
     Ok(does(WorldEvent::Part { message, part }))
 }
 
-/// Behind `end`: the number of a call.
+/// After `end`: the number of a call.
 fn end_line<'a>(past: u64, words: Words<'a>) -> Result<ClusterLine<'a>, LineError>
     ensures reads { ReadsLine result (number_line (λ n. end_of n) past (words_left words.entry)) }
     ensures limits { IfOk result (λ line. LineIsWithinLimits line) }
@@ -83,7 +83,7 @@ fn end_line<'a>(past: u64, words: Words<'a>) -> Result<ClusterLine<'a>, LineErro
     Ok(does(WorldEvent::End { call }))
 }
 
-/// Behind `poll`: the number of a call.
+/// After `poll`: the number of a call.
 fn poll_line<'a>(past: u64, words: Words<'a>) -> Result<ClusterLine<'a>, LineError>
     ensures reads { ReadsLine result (number_line (λ n. poll_of n) past (words_left words.entry)) }
     ensures limits { IfOk result (λ line. LineIsWithinLimits line) }
@@ -92,7 +92,7 @@ fn poll_line<'a>(past: u64, words: Words<'a>) -> Result<ClusterLine<'a>, LineErr
     Ok(does(WorldEvent::Poll { call }))
 }
 
-/// Behind `to`: the number of a message.
+/// After `to`: the number of a message.
 fn to_line<'a>(past: u64, words: Words<'a>) -> Result<ClusterLine<'a>, LineError>
     ensures reads { ReadsLine result (number_line (λ k. to_of k) past (words_left words.entry)) }
     ensures limits { IfOk result (λ line. LineIsWithinLimits line) }
@@ -101,7 +101,7 @@ fn to_line<'a>(past: u64, words: Words<'a>) -> Result<ClusterLine<'a>, LineError
     Ok(does(WorldEvent::To { message }))
 }
 
-/// Behind `boot`: a node, its types and perhaps its space.
+/// After `boot`: a node, its types and perhaps its space.
 fn boot_line<'a>(alloc: Global, past: u64, words: Words<'a>) -> Result<ClusterLine<'a>, LineError>
     ensures reads { ReadsLine result (boot_line past (words_left words.entry)) }
     ensures limits { IfOk result (λ line. LineIsWithinLimits line) }
@@ -114,7 +114,7 @@ fn boot_line<'a>(alloc: Global, past: u64, words: Words<'a>) -> Result<ClusterLi
     Ok(does(WorldEvent::Boot { space, node, kinds }))
 }
 
-/// Behind `at`: a moment.
+/// After `at`: a moment.
 fn at_line<'a>(past: u64, words: Words<'a>) -> Result<ClusterLine<'a>, LineError>
     ensures reads { ReadsLine result (at_line past (words_left words.entry)) }
     ensures limits { IfOk result (λ line. LineIsWithinLimits line) }
@@ -125,7 +125,7 @@ fn at_line<'a>(past: u64, words: Words<'a>) -> Result<ClusterLine<'a>, LineError
     Ok(ClusterLine::Does { column, event })
 }
 
-/// What concerns the placement and time, and the settings, by the first word.
+/// A line about the placement or time, or a setting, by its first word.
 fn other_line_by<'a>(
     late: bool,
     past: u64,
@@ -150,7 +150,7 @@ fn other_line_by<'a>(
     Ok(ClusterLine::Sets { setting })
 }
 
-/// What concerns the actors of a member, and members that come, by the first word.
+/// A line about the actors of a member, or about a member that boots, by its first word.
 fn actor_line_by<'a>(
     alloc: Global,
     late: bool,
@@ -179,7 +179,7 @@ fn actor_line_by<'a>(
     other_line_by(late, past, first, words)
 }
 
-/// What concerns one member or one of its parts, by the first word.
+/// A line about one member or one of its parts, by its first word.
 fn member_line_by<'a>(
     alloc: Global,
     late: bool,
@@ -250,8 +250,8 @@ fn line_by<'a>(
     member_line_by(alloc, late, past, first, words)
 }
 
-/// What a line of a cluster script says, or why it isn't read; `late` where an event line stands before it. A line that
-/// is refused takes no memory.
+/// What a line of a cluster script says, or why it isn't read; `late` if an event line comes before it. A refused
+/// line takes no memory.
 pub fn read_cluster_line(
     alloc: Global,
     line: &[u8],
@@ -269,7 +269,7 @@ pub fn read_cluster_line(
         return Ok(ClusterLine::Blank);
     }
     let past = line.len() as u64 + 1;
-    // The events that come most often are known by their first bytes.
+    // The most frequent events are recognized by their first bytes.
     match line {
         [b'c', b'a', b'l', b'l', b' ', rest @ ..] => {
             call_line(alloc, past, Words::from_column(rest, 6))

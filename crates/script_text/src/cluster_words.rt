@@ -1,4 +1,4 @@
-// The words that only lines of cluster scripts have.
+// The words that only the lines of cluster scripts have.
 ghost use Rattle.std.specs.Prelude.{◌≡◌, None, Some, true, IfOk, IfErr};
 ghost use Rattle.std.specs.Option.{option_copied, ForSome};
 ghost use Rattle.actor_names.specs.Names.{local_key_fault, chain_id_fault};
@@ -62,7 +62,7 @@ fn only_space(past: u64, words: Words<'_>) -> Result<Space, u64>
     Ok(space)
 }
 
-/// Nothing, which stands for the space `default`, or `space` and a space; and nothing more.
+/// Nothing, which means the space `default`, or `space` and a space; and nothing more.
 pub(crate) fn space_clause(past: u64, words: Words<'_>) -> Result<Space, u64>
     ensures { GivesValue (λ space. space) result (space_clause past (words_left words.entry)) }
 {
@@ -90,7 +90,7 @@ pub(crate) fn next_boot_types<'a>(past: u64, words: Words<'a>) -> Result<(&'a [u
     }
 }
 
-/// Nothing, which stands for 0, or `least` and a version.
+/// Nothing, which means 0, or `least` and a version.
 pub(crate) fn least_clause<'a>(past: u64, words: Words<'a>) -> Result<(u64, Words<'a>), u64>
     ensures { Gives (λ version. version) result (least_clause past (words_left words.entry)) }
 {
@@ -156,7 +156,7 @@ pub(crate) fn make_key(alloc: Global, space: &Space, text: &[u8]) -> Result<Acto
     }
 }
 
-/// The chain of this text, where there is one.
+/// The chain of this text, if there is one.
 pub(crate) fn make_chain(alloc: Global, text: Option<&[u8]>) -> Result<Option<ChainId>, OutOfMemory>
     requires { ForSome text (λ t. chain_id_fault t.now ≡ None) }
     ensures { IfOk result (λ chain. chain ≡ option_copied text.entry) }

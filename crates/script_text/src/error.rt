@@ -6,11 +6,11 @@ use thiserror::Error;
 /// Why a line of a cluster script isn't read.
 #[derive(Clone, Copy, Debug, PartialEq, Eq, Error)]
 pub enum LineError {
-    /// The first word that can't stand there begins at this column, from 1 and in bytes; or a word is missing there,
-    /// one past the line's end.
+    /// The first word that isn't allowed begins at this column, from 1 and in bytes; or a word is missing there, one
+    /// past the line's end.
     #[error("bad column {column}")]
     BadColumn { column: u64 },
-    /// There was no memory for the names of the line, which may stand.
+    /// There was no memory for the names in the line, which isn't refused.
     #[error("out of memory")]
     OutOfMemory,
 }

@@ -1,4 +1,4 @@
-// The first line of a script, which says of what kind the script is.
+// The first line of a script, which says what kind of script it is.
 ghost use Rattle.std.specs.Prelude.{◌≡◌, ◌≤◌, IfOk, IfSome};
 ghost use Rattle.script_text.specs.Told.{Gives, GivesValue, words_left};
 ghost use Rattle.script_text.specs.Reading.{next_as};
@@ -36,8 +36,8 @@ fn parts_by<'a>(past: u64, first: &[u8], words: Words<'a>) -> Result<Option<u8>,
     Ok(Some(parts))
 }
 
-/// How many parts a member has, where a script's first line is `cluster P`; None where it is any other line, which a
-/// solo script begins with; or the column at which it is refused.
+/// How many parts a member has, from 1 to 16, if a script's first line is `cluster P`; None if it is any other line,
+/// with which a solo script begins; or the column at which it is refused.
 pub fn read_cluster_setting(line: &[u8]) -> Result<Option<u8>, u64>
     ensures reads { GivesValue (λ parts. parts) result (parts_line line.now) }
     ensures range { IfOk result (λ found. IfSome found (λ parts. (1 ≤ parts) × (parts ≤ 16))) }

@@ -1,8 +1,8 @@
 // The lines of scripts: what a line of either kind says, and the line that an outcome prints.
 //
 // Promise: a line is read exactly as `specs/SoloLines` and `specs/ClusterLines` define it, or refused at the column that
-// they name; an outcome's line is that of `specs/Outcomes`, and it comes whole or not at all. Want of memory comes only
-// where a line makes names, and where lines are added. Stands on `world_events`, `place_table`, `round_core`,
+// they name; an outcome's line is that of `specs/Outcomes`, and it comes whole or not at all. Only a line that makes
+// names, or the adding of lines, may run out of memory. Depends on `world_events`, `place_table`, `round_core`,
 // `actor_names`, `itoa` and `memchr`.
 #![tactic(auto)]
 

@@ -1,4 +1,4 @@
-// A line that is made from its end to its beginning.
+// A line that is written from its end to its start.
 ghost use Rattle.std.specs.Prelude.{◌≡◌, ◌≤◌, ◌+◌, ◌++◌, [], length, decimal};
 
 use itoa::write_digits;
@@ -7,8 +7,8 @@ use std::marker::Model;
 /// The greatest length of a line, in bytes.
 const MOST_BYTES: usize = 80;
 
-/// A text of at most 80 bytes; what is put to it stands before what it has. So a number's digits, of which the last
-/// is known first, are written where they stay.
+/// A text of at most 80 bytes, to which text is added at the front. So a number's digits, of which the last is known
+/// first, are written where they stay.
 #[derive(Drop)]
 pub(crate) struct OutcomeLine {
     bytes: [u8; MOST_BYTES],
@@ -26,7 +26,7 @@ impl Model for OutcomeLine {
 }
 
 impl OutcomeLine {
-    /// No byte.
+    /// An empty text.
     pub(crate) fn new() -> OutcomeLine
         ensures { result ≡ [] }
     {
@@ -43,7 +43,7 @@ impl OutcomeLine {
         &self.bytes[self.start..]
     }
 
-    /// Takes all bytes away.
+    /// Removes all bytes.
     pub(crate) fn clear(&mut self)
         ensures { self.new ≡ [] }
     {

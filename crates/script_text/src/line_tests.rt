@@ -4,7 +4,7 @@ use std::alloc::Global;
 use std::test::Fail;
 use world_events::{SoloEvent, WorldEvent};
 
-/// The column at which a line of a cluster script is refused, 0 where it is read.
+/// The column at which a line of a cluster script is refused, 0 if it is read.
 fn refused_at(alloc: Global, line: &[u8], late: bool) -> Result<u64, Fail> {
     match read_cluster_line(alloc, line, late) {
         Ok(_) => Ok(0),
@@ -131,7 +131,7 @@ fn settings_stand_before_events(rt: HostRuntime) -> Result<(), Fail> {
     Ok(())
 }
 
-/// A `boot` line of so many different types of one byte or two.
+/// A `boot` line of `count` different types of one or two bytes.
 fn boot_of(alloc: Global, count: u8) -> Result<Vec<u8>, Fail> {
     let mut line = Vec::new(alloc);
     line.extend_from_slice(b"boot a ")?;
@@ -187,7 +187,7 @@ fn first_line_says_kind_of_script(rt: HostRuntime) -> Result<(), Fail> {
     Ok(())
 }
 
-/// Whether an event is call 12 of `counter/k0` at `node-3/7` with all that may follow.
+/// Whether an event is call 12 of `counter/k0` at `node-3/7` with everything that may follow.
 fn is_call_in_full(event: &WorldEvent) -> bool {
     match event {
         WorldEvent::Call {
@@ -250,7 +250,7 @@ fn is_boot_in(event: &WorldEvent, place: &[u8]) -> bool {
     }
 }
 
-/// Whether an event is the hold of `counter/a:b` at `a/1`, both of one space.
+/// Whether an event is the hold of `counter/a:b` at `a/1`, both of the same space.
 fn is_hold_in(event: &WorldEvent, place: &[u8]) -> bool {
     match event {
         WorldEvent::Hold { member, key } => {
@@ -294,7 +294,7 @@ fn members_and_keys_of_line_have_one_space(rt: HostRuntime) -> Result<(), Fail> 
     Ok(())
 }
 
-/// The first word of the line that tells an event.
+/// The first word of an event's line.
 fn first_word(event: &WorldEvent) -> &'static [u8] {
     match event {
         WorldEvent::At { .. } => b"at".as_slice(),
@@ -361,7 +361,7 @@ fn is_solo_call(event: SoloEvent<'_>) -> bool {
     }
 }
 
-/// Whether a setting is one of `counter` whose type stands at this column.
+/// Whether a setting is one of `counter` whose type is at this column.
 fn is_setting_of_counter(setting: Setting<'_>, place: u64) -> bool {
     match setting {
         Setting::Reentrant { column, kind, .. } => {

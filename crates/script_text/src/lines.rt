@@ -1,4 +1,4 @@
-// The lines of a script and the words of a line, lent from its bytes.
+// The lines of a script and the words of a line, borrowed from its bytes.
 ghost use Rattle.std.specs.Prelude.{◌≡◌, ◌==◌, ◌<◌, ◌≤◌, ◌∷◌, length, count_by, IfSome, IfNone};
 ghost use Rattle.script_text.specs.Lines.{IsFirstByte, LacksByte, lines_of};
 
@@ -6,7 +6,7 @@ use memchr::memchr;
 
 const LINE_FEED: u8 = 10;
 
-/// How many bytes are counted at a time: so few that a byte holds the count, and so many that 16 are compared at once.
+/// How many bytes are counted at a time: few enough for a byte to hold the count, enough to compare 16 at once.
 const PIECE: usize = 240;
 
 /// The place, from 0, of the first such byte.
@@ -17,7 +17,7 @@ pub(crate) fn find_byte(text: &[u8], byte: u8) -> Option<usize>
     memchr(byte, text)
 }
 
-/// The first line of a text that isn't empty, and what stands behind its line feed.
+/// The first line of a text that isn't empty, and what follows its line feed.
 pub fn next_line(text: &[u8]) -> (&[u8], &[u8])
     requires { 0 < length text.now }
     ensures lines { lines_of text.now ≡ result.0.now ∷ lines_of result.1.now }
@@ -58,7 +58,7 @@ fn count_ends(text: &[u8]) -> usize
     ends + count_in_piece(rest) as usize
 }
 
-/// How many lines a text has: its line feeds, and one more where something stands behind the last of them.
+/// How many lines a text has: its line feeds, and one more if anything follows the last of them.
 #[tactic(auto, using(crate::proofs::CountLemmas::lines_closed, crate::proofs::CountLemmas::lines_unclosed))]
 pub fn count_lines(text: &[u8]) -> usize
     ensures { result ≡ length (lines_of text.now) }

@@ -1,4 +1,4 @@
-// Texts that have the name of a member, of a length that isn't known.
+// Texts with the name of a member, of unknown length.
 ghost use Rattle.std.specs.Prelude.{◌≡◌, ◌++◌, length, take, codes, OnOk, OnErr};
 ghost use Rattle.script_text.specs.Outcomes.{space_text};
 
@@ -6,7 +6,7 @@ use crate::names::whole_or_none;
 use actor_names::{Member, Space, default_space};
 use std::alloc::AllocError;
 
-/// Appends a space and a colon, as much as there is memory for; nothing for the space `default`.
+/// Appends a space and a colon, as far as there is memory for them; nothing for the space `default`.
 fn append_space(into: &mut Vec<u8>, space: &Space) -> Result<(), AllocError>
     ensures added { OnOk result (into.new.items ≡ into.old.items ++ space_text space.now) }
     ensures kept { take (length into.old.items) into.new.items ≡ into.old.items }
@@ -18,7 +18,7 @@ fn append_space(into: &mut Vec<u8>, space: &Space) -> Result<(), AllocError>
     into.extend_from_slice(b":")
 }
 
-/// Appends a text, a member up to its slash and the rest, as much as there is memory for.
+/// Appends a text, a member up to its slash and the rest, as far as there is memory for them.
 fn append_member_pieces(
     into: &mut Vec<u8>,
     front: &[u8],
@@ -35,7 +35,7 @@ fn append_member_pieces(
     into.extend_from_slice(back)
 }
 
-/// Appends a text, a member up to its slash and the rest; where there is no memory for all of it, nothing.
+/// Appends a text, a member up to its slash and the rest; if there is no memory for all of it, nothing.
 pub(crate) fn append_member(
     into: &mut Vec<u8>,
     front: &[u8],

@@ -1,9 +1,9 @@
-// Texts that have a name of two pieces, of a length that isn't known, and how a text comes whole or not at all.
+// Texts with a name of two pieces, of unknown length, and how a text comes whole or not at all.
 ghost use Rattle.std.specs.Prelude.{◌≡◌, ◌++◌, length, take, codes, OnOk, OnErr};
 
 use std::alloc::AllocError;
 
-/// Appends the pieces one after another, as many as there is memory for, with a slash behind the second.
+/// Appends the pieces one after another, as many as there is memory for, with a slash after the second.
 fn append_pieces(
     into: &mut Vec<u8>,
     front: &[u8],
@@ -21,7 +21,7 @@ fn append_pieces(
     into.extend_from_slice(back)
 }
 
-/// What an appending behind `start` answered; where there was no memory for all of it, what it appended is taken away.
+/// The result of an append that began at `start`; if there was no memory for all of it, what it appended is removed.
 pub(crate) fn whole_or_none(
     into: &mut Vec<u8>,
     start: usize,
@@ -37,7 +37,7 @@ pub(crate) fn whole_or_none(
     appended
 }
 
-/// Appends the pieces, with a slash behind the second; where there is no memory for all of them, nothing.
+/// Appends the pieces, with a slash after the second; if there is no memory for all of them, nothing.
 pub(crate) fn append_pair(
     into: &mut Vec<u8>,
     front: &[u8],

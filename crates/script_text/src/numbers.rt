@@ -10,8 +10,8 @@ use actor_names::read_decimal;
 
 const GREATEST_NUMBER: u64 = 999_999_999_999;
 
-/// The number that the first digits of a text stand for, and how many they are: all of them, or as many as are sure
-/// to stand for no number above the greatest.
+/// The number that the first digits of a text denote, and how many they are: all of them, or as many as surely
+/// denote no number above the greatest.
 #[inline]
 fn leading_number(text: &[u8]) -> (u64, usize)
     ensures within { result.1 ≤ length text.now }
@@ -29,7 +29,7 @@ fn leading_number(text: &[u8]) -> (u64, usize)
     (number, text.len())
 }
 
-/// The next word as a number, where it is one, read together with its end.
+/// The next word as a number, if it is one, read together with its end.
 #[inline]
 fn plain_number<'a>(words: Words<'a>) -> Option<(u64, Words<'a>)>
     ensures { IfSome result (λ r. (past : ℕ) → next_as number_in past (words_left words.entry) ≡ Ok (r.0, words_left r.1)) }

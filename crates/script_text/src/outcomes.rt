@@ -22,7 +22,7 @@ fn add_word(into: &mut Vec<u8>, word: &str) -> Result<(), AllocError>
     into.extend_from_slice(word.as_bytes())
 }
 
-/// Adds a word and a number behind it.
+/// Adds a word and a number after it.
 fn add_number(
     line: &mut OutcomeLine,
     into: &mut Vec<u8>,
@@ -37,7 +37,7 @@ fn add_number(
     into.extend_from_slice(line.as_slice())
 }
 
-/// Adds two words with a number behind each.
+/// Adds two words with a number after each.
 fn add_two(
     line: &mut OutcomeLine,
     into: &mut Vec<u8>,
@@ -252,7 +252,7 @@ fn add_key(into: &mut Vec<u8>, word: &str, key: &ActorKey, rest: &[u8]) -> Resul
     )
 }
 
-/// Adds the line of an actor that isn't active any more.
+/// Adds the line of an actor that is no longer active.
 fn add_closed(
     line: &mut OutcomeLine,
     into: &mut Vec<u8>,
@@ -271,7 +271,7 @@ fn add_closed(
     }
 }
 
-/// Adds an outcome's line; `line` is room for it.
+/// Adds an outcome's line; `line` is scratch space for it.
 pub(crate) fn add_outcome(
     line: &mut OutcomeLine,
     into: &mut Vec<u8>,
@@ -324,7 +324,7 @@ pub(crate) fn add_outcome(
     }
 }
 
-/// Appends an outcome's line with its line feed; where there is no memory for it, nothing.
+/// Appends an outcome's line with its line feed; if there is no memory for it, nothing.
 pub fn outcome_line(outcome: &Outcome, into: &mut Vec<u8>) -> Result<(), AllocError>
     ensures added { OnOk result (into.new.items ≡ into.old.items ++ outcome_text outcome.now) }
     ensures unchanged { OnErr result (into.new.items ≡ into.old.items) }

@@ -6,7 +6,7 @@ use crate::line_buffer::OutcomeLine;
 use crate::names::whole_or_none;
 use std::alloc::AllocError;
 
-/// Appends each version behind a blank, as many as there is memory for.
+/// Appends each version after a space, as many as there is memory for.
 fn append_versions(
     line: &mut OutcomeLine,
     into: &mut Vec<u8>,

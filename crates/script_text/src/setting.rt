@@ -1,4 +1,4 @@
-// The lines that set what holds for a whole script, and what the lines of both kinds have in common.
+// The lines that set what holds for a whole script, and what lines of both kinds have in common.
 ghost use Rattle.std.specs.Prelude.{◌≡◌, None, IfOk, option_copied};
 ghost use Rattle.std.specs.Option.{ForSome};
 ghost use Rattle.actor_names.specs.Names.{actor_type_fault, local_key_fault, chain_id_fault};
@@ -13,13 +13,13 @@ use actor_names::{actor_type_fault, chain_id_fault, local_key_fault, read_decima
 
 const GREATEST_DEPTH: u64 = 1024;
 
-/// The most bytes of a script's line.
+/// The greatest length of a script's line, in bytes.
 pub(crate) const LONGEST_LINE: usize = 4096;
 
-/// What a setting line says; the type is lent from it.
+/// What a setting line says; the type is borrowed from it.
 #[derive(Clone, Copy)]
 pub enum Setting<'a> {
-    /// A type has reentrancy on, with this depth; the column of the type, where a second depth of it is refused.
+    /// A type has reentrancy on, with this depth; the column of the type, where a second depth for it is refused.
     Reentrant {
         column: u64,
         kind: &'a [u8],
@@ -99,7 +99,7 @@ fn next_chain<'a>(past: u64, words: Words<'a>) -> Result<(&'a [u8], Words<'a>), 
     }
 }
 
-/// Nothing more may stand in the line.
+/// Nothing more may follow in the line.
 pub(crate) fn no_more(words: Words<'_>) -> Result<(), u64>
     ensures { Ends result (words_left words.entry) }
 {
@@ -138,7 +138,7 @@ pub(crate) fn only_number(past: u64, words: Words<'_>) -> Result<u64, u64>
     Ok(number)
 }
 
-/// Behind `reentrant`: a type and a depth.
+/// After `reentrant`: a type and a depth.
 fn reentrant_line<'a>(past: u64, words: Words<'a>) -> Result<Setting<'a>, u64>
     ensures sound { IfOk result (λ setting. SettingIsSound setting) }
     ensures reads { GivesValue setting_told result (reentrant_line past (words_left words.entry)) }
@@ -173,7 +173,7 @@ fn setting_by<'a>(past: u64, first: &[u8], words: Words<'a>) -> Result<Setting<'
     Err(1)
 }
 
-/// A setting, by its first word, where no event line stands before it.
+/// A setting, by its first word, if no event line comes before it.
 pub(crate) fn setting_unless<'a>(
     late: bool,
     past: u64,

@@ -14,14 +14,14 @@ use crate::setting::{
 use crate::words::Words;
 use world_events::SoloEvent;
 
-/// What a line of a solo script says; keys, types and chains are lent from it.
+/// What a line of a solo script says; keys, types and chains are borrowed from it.
 #[derive(Clone, Copy)]
 pub enum SoloLine<'a> {
     /// An empty line or a comment.
     Blank,
     /// Something holds for the whole script.
     Sets { setting: Setting<'a> },
-    /// Something happens; the column of a call's number, where a wrong one is refused, and 1 for the others.
+    /// Something happens. `column` is that of a call's number, where a wrong one is refused; 1 for the others.
     Does { column: u64, event: SoloEvent<'a> },
 }
 
@@ -32,7 +32,7 @@ fn does(column: u64, event: SoloEvent<'_>) -> SoloLine<'_>
     SoloLine::Does { column, event }
 }
 
-/// Behind `call`: a number, a key and what may follow them.
+/// After `call`: a number, a key and what may follow them.
 fn call_line<'a>(past: u64, words: Words<'a>) -> Result<SoloLine<'a>, u64>
     ensures { GivesValue solo_told result (call_line past (words_left words.entry)) }
 {
@@ -44,7 +44,7 @@ fn call_line<'a>(past: u64, words: Words<'a>) -> Result<SoloLine<'a>, u64>
     Ok(does(column, SoloEvent::Call { call, key, chain }))
 }
 
-/// Behind `end`: the number of a call.
+/// After `end`: the number of a call.
 fn end_line<'a>(past: u64, words: Words<'a>) -> Result<SoloLine<'a>, u64>
     ensures { GivesValue solo_told result (end_line past (words_left words.entry)) }
 {
@@ -87,7 +87,7 @@ fn line_by<'a>(late: bool, past: u64, first: &[u8], words: Words<'a>) -> Result<
     Ok(SoloLine::Sets { setting })
 }
 
-/// What a line of a solo script says, or the column at which it is refused; `late` where an event line stands before it.
+/// What a line of a solo script says, or the column at which it is refused; `late` if an event line comes before it.
 pub fn read_solo_line(line: &[u8], late: bool) -> Result<SoloLine<'_>, u64>
     ensures { GivesValue solo_told result (solo_line late line.now) }
 {
@@ -98,7 +98,7 @@ pub fn read_solo_line(line: &[u8], late: bool) -> Result<SoloLine<'_>, u64>
         return Ok(SoloLine::Blank);
     }
     let past = line.len() as u64 + 1;
-    // The two events that come most often are known by their first bytes.
+    // The two most frequent events are recognized by their first bytes.
     match line {
         [b'c', b'a', b'l', b'l', b' ', rest @ ..] => call_line(past, Words::from_column(rest, 6)),
         [b'e', b'n', b'd', b' ', rest @ ..] => end_line(past, Words::from_column(rest, 5)),

@@ -9,7 +9,7 @@ use std::alloc::{AllocError, Global};
 use std::marker::Model;
 use world_events::{Outcome, TurnOutcome};
 
-/// The lines that wait to be written. Each line comes whole or not at all.
+/// The lines that wait to be written. Each line is added whole or not at all.
 #[derive(Drop)]
 pub struct Transcript {
     text: Vec<u8>,
@@ -25,7 +25,7 @@ impl Model for Transcript {
 }
 
 impl Transcript {
-    /// No line.
+    /// An empty transcript.
     pub fn new(alloc: Global) -> Transcript
         ensures { result ≡ [] }
     {
@@ -49,7 +49,7 @@ impl Transcript {
         self.text.len()
     }
 
-    /// No line any more.
+    /// Removes all lines.
     pub fn clear(&mut self)
         ensures { self.new ≡ [] }
     {
@@ -73,7 +73,7 @@ impl Transcript {
         add_outcome(&mut self.line, &mut self.text, outcome)
     }
 
-    /// Adds the line of a refused line.
+    /// Adds the line that reports a refused line.
     pub fn add_bad_line(&mut self, line: u64, column: u64) -> Result<(), AllocError>
         ensures added { OnOk result (self.new ≡ self.old ++ bad_line_text line column) }
         ensures unchanged { OnErr result (self.new ≡ self.old) }

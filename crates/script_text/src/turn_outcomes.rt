@@ -1,11 +1,11 @@
-// The lines that the outcomes of turns print, and the line of a refused line.
+// The lines that the outcomes of turns print, and the line that reports a refused line.
 ghost use Rattle.std.specs.Prelude.{◌≡◌, ◌≤◌, ◌+◌, ◌++◌, length, decimal, codes};
 ghost use Rattle.script_text.specs.Outcomes.{turn_text, bad_line_text};
 
 use crate::line_buffer::OutcomeLine;
 use world_events::TurnOutcome;
 
-/// Makes the line a word and the line's end.
+/// Sets the line to a word and the line's end.
 #[inline(always)]
 pub(crate) fn write_word(line: &mut OutcomeLine, word: &str)
     requires { length word.now ≤ 15 }
@@ -16,7 +16,7 @@ pub(crate) fn write_word(line: &mut OutcomeLine, word: &str)
     line.put_word(word);
 }
 
-/// Makes the line a word, a number behind it and the line's end.
+/// Sets the line to a word, a number after it and the line's end.
 #[inline(always)]
 pub(crate) fn write_number(line: &mut OutcomeLine, word: &str, number: u64)
     requires { length word.now ≤ 15 }
@@ -29,7 +29,7 @@ pub(crate) fn write_number(line: &mut OutcomeLine, word: &str, number: u64)
     line.put_word(word);
 }
 
-/// Makes the line two words with a number behind each, and the line's end.
+/// Sets the line to two words with a number after each, and the line's end.
 #[inline(always)]
 pub(crate) fn write_two(
     line: &mut OutcomeLine,
@@ -51,7 +51,7 @@ pub(crate) fn write_two(
     line.put_word(word);
 }
 
-/// Makes the line the outcome's.
+/// Sets the line to the outcome's.
 pub(crate) fn write_turn_outcome(line: &mut OutcomeLine, outcome: &TurnOutcome)
     ensures { line.new ≡ turn_text outcome.now }
 {
@@ -75,7 +75,7 @@ pub(crate) fn write_turn_outcome(line: &mut OutcomeLine, outcome: &TurnOutcome)
     }
 }
 
-/// Makes the line that of a refused line.
+/// Sets the line to the one that reports a refused line.
 pub(crate) fn write_bad_line(line: &mut OutcomeLine, number: u64, column: u64)
     ensures { line.new ≡ bad_line_text number column }
 {

@@ -26,8 +26,8 @@ pub(crate) struct Token<'a> {
     pub(crate) column: u64,
 }
 
-/// The words that are left of a line of at most 4,096 bytes: those of what stands behind the last space that
-/// was passed, and none behind the line's last word.
+/// The remaining words of a line of at most 4,096 bytes: those of what follows the last space that was passed, and
+/// none after the line's last word.
 #[derive(Clone, Copy)]
 pub(crate) struct Words<'a> {
     pub(crate) rest: Option<&'a [u8]>,
@@ -51,7 +51,7 @@ impl<'a> Words<'a> {
         }
     }
 
-    /// The words of what stands in a line from this column on.
+    /// The words of the rest of a line, which begins at this column.
     pub(crate) fn from_column(rest: &'a [u8], column: u64) -> Words<'a>
         requires { column + length rest.now ≤ 4097 }
         ensures { words_left result ≡ words_from column rest.now }
@@ -62,7 +62,7 @@ impl<'a> Words<'a> {
         }
     }
 
-    /// The words behind a first one that ends at this place of `rest`; none where no word ends there.
+    /// The words after a first one that ends at this place of `rest`; none if no word ends there.
     #[inline]
     pub(crate) fn behind(rest: &'a [u8], column: u64, end: usize) -> Option<Words<'a>>
         requires within { end ≤ length rest.now }
@@ -81,7 +81,7 @@ impl<'a> Words<'a> {
         })
     }
 
-    /// The next word and the words behind it.
+    /// The next word and the words after it.
     pub(crate) fn next(self) -> Option<(Token<'a>, Words<'a>)>
         ensures { MatchOption result (words_left self.entry ≡ [])
             (λ next. words_left self.entry ≡ word_told next.0 ∷ words_left next.1) }

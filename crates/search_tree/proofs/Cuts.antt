@@ -1,4 +1,4 @@
--- Elements that a probe cuts, cut at one of them: what is looked for or changed stands on one side of it.
+-- Elements that a probe cuts, split at one of them: what is looked for or changed is on one side of it.
 use Rattle.std.proofs.Common.{◌≡◌, ◌⊎◌, inl, inr, Bool, true, false, if◌then◌else◌, List, [], ◌∷◌, ◌++◌, Option, Some, None, refl, ap}
 use Rattle.std.specs.declared.cmp.Ordering.{Ordering}
 use Rattle.std.specs.declared.cmp.Ordering.TheVariants.{Less, Equal, Greater}
@@ -17,7 +17,7 @@ not_behind Less n = refl
 not_behind Equal n = refl
 not_behind Greater n = absurd (n refl)
 
--- the first of two, or the second where there is no first
+-- the first of two, or the second if there is no first
 abbrev pub or_else : {E : Type 0} → Option E → Option E → Option E
 or_else None b = b
 or_else (Some a) b = Some a
@@ -48,7 +48,7 @@ module _ {E : Type 0} (at : E → Ordering) where
   pub cut_behind : (l : List E) (x : E) (r : List E) → IsCut at (l ++ x ∷ r) → IsCut at r
   cut_behind l x r c = let m = cut_back l (x ∷ r) c in m.1
 
-  -- what stands before an element that is not behind what is looked for
+  -- an element before one that is not after what is looked for is before what is looked for
   before : (y : E) (l : List E) (x : E) (r : List E) → (at y ≡ Less) ⊎ AreBehind at (l ++ x ∷ r) → (at x ≡ Greater → ⊥) → at y ≡ Less
   before y l x r (inl e) n = e
   before y l x r (inr b) n = absurd (n (behind_middle l x r b))

@@ -1,4 +1,4 @@
--- Elements in order are a map from the places of the order: what each change leaves at each of them.
+-- Elements in order are a map from the places of the order: what each change leaves at each place.
 use Rattle.std.proofs.Common.{◌≡◌, Bool, true, false, if◌then◌else◌, List, [], ◌∷◌, Some, None, refl, ap, ◌∙◌}
 use Rattle.std.specs.declared.cmp.Ordering.{Ordering}
 use Rattle.std.specs.declared.cmp.Ordering.TheVariants.{Less, Equal, Greater}
@@ -13,7 +13,7 @@ eq-is Less h = absurd (cc)
 eq-is Equal h = refl
 eq-is Greater h = absurd (cc)
 
--- a place is that of some element
+-- each place is that of some element
 module _ {E : Type 0} (cmp : E → E → Ordering) (total : IsTotalOrder cmp) where
   abbrev at : E → E → Ordering
   at q x = cmp x q

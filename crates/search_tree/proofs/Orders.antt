@@ -1,4 +1,4 @@
--- Elements in order, by a lawful order, are cut by a place and stay in order.
+-- Elements that are in order by a lawful order are cut by a place, and stay in order.
 use Rattle.std.proofs.Common.{◌≡◌, ◌⊎◌, inl, inr, Bool, true, false, if◌then◌else◌, List, [], ◌∷◌, refl, sym, ap, ◌∙◌}
 use Rattle.std.specs.declared.cmp.Ordering.{Ordering}
 use Rattle.std.specs.declared.cmp.Ordering.TheVariants.{Less, Equal, Greater}

@@ -4,11 +4,11 @@ use Rattle.std.specs.declared.cmp.Ordering.{Ordering}
 use Rattle.std.specs.Ordering.{nat_cmp}
 use Rattle.search_tree.specs.Lists.{found, count_at, without, without_all, with_changed, with_put}
 
--- the number two
+-- looks for the number 2
 abbrev two : ℕ → Ordering
 two x = nat_cmp x 2
 
--- tens, by their first digit
+-- looks for the numbers from 20 to 29
 abbrev tens : ℕ → Ordering
 tens x = nat_cmp (x / 10) 2
 

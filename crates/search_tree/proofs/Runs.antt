@@ -1,4 +1,4 @@
--- Elements of which any number are looked for, cut at one of them; and one of them after another taken out.
+-- Elements of which any number match, split at one of them; and matches taken out one after another.
 use Rattle.std.proofs.Common.{◌≡◌, ◌⊎◌, inl, inr, suc, ◌+◌, ◌≤◌, Bool, true, false, not, cond, List, [], ◌∷◌, ◌++◌, length, Option, Some, None, Box, refl, sym, ap, subst, ◌∙◌, arith, append_assoc}
 use Rattle.std.specs.Option.{is_some}
 use Rattle.std.specs.declared.alloc.Global.{Global}
@@ -15,7 +15,7 @@ less-equal : {o : Ordering} → o ≡ Less → o ≡ Equal → ⊥
 less-equal l e = cc
 
 module _ {E : Type 0} (at : E → Ordering) where
-  -- how an element stands to those behind it
+  -- how an element relates to those after it
   abbrev Side : E → List E → Type 0
   Side x xs = (at x ≡ Less) ⊎ (((at x ≡ Equal) × NoneBefore at xs) ⊎ ((at x ≡ Greater) × AreBehind at xs))
 
@@ -79,7 +79,7 @@ module _ {E : Type 0} (at : E → Ordering) where
   run_side x xs (inl e) = inl e
   run_side x xs (inr b) = cut_side (at x) x xs refl b
 
-  -- one that is looked for at most is a run too
+  -- with at most one match it is a run too
   pub run-cut : (xs : List E) → IsCut at xs → IsRun at xs
   run-cut [] c = tt
   run-cut (x ∷ xs) c = (run_side x xs c.0, run-cut xs c.1)
@@ -177,7 +177,7 @@ module _ {E : Type 0} (at : E → Ordering) where
     takes_left l x r new None c h t = (rw t.0 refl, count_left x r l c h ∙ t.1)
 
     module _ (old new : List E) where
-      -- where one at most is looked for, it is the one that is taken
+      -- if there is at most one match, it is the one that is taken
       pub takes-found : (o : Option (Box (Node E S) Global)) → IsCut at old → IsWithoutOne at old new o → element_in o ≡ found at old
       takes-found (Some n) c t = let d = rw t.2 at c in rw t.2 (sym (found_here at n.value.element t.1 t.0 d t.4))
       takes-found None c t = sym (found-none old t.1)
@@ -186,7 +186,7 @@ module _ {E : Type 0} (at : E → Ordering) where
       takes-without (Some n) c t = let d = rw t.2 at c in rw (t.2, t.3) (sym (without_here at n.value.element t.1 t.0 d t.4))
       takes-without None c t = t.0 ∙ sym (without-none old t.1)
 
-      -- one after another
+      -- what remains is a run again
       pub still-run : (o : Option (Box (Node E S) Global)) → IsRun at old → IsWithoutOne at old new o → IsRun at new
       still-run (Some n) c t = rw t.3 (run_without t.0 n.value.element t.1 (subst (IsRun at) t.2 c))
       still-run None c t = rw t.0 c

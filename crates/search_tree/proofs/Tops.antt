@@ -10,7 +10,7 @@ module _ {E S : Type 0} where
   pub at_Full : {root : Root E S} {xs : List E} {n : Box (Node E S) Global} → root_items root ≡ xs → root ≡ Full n → xs ≡ n.value.left ++ n.value.element ∷ n.value.right
   at_Full view_is is = sym view_is ∙ ap root_items is
 
-  -- the elements that were taken out
+  -- the elements of the tree that was taken out
   pub opened : {old taken : List E} {root : Root E S} {n : Box (Node E S) Global} → taken ≡ old → root_items root ≡ taken → root ≡ Full n → old ≡ n.value.left ++ n.value.element ∷ n.value.right
   opened same view_is is = sym same ∙ at_Full view_is is
 

@@ -5,31 +5,31 @@ use Rattle.std.specs.declared.cmp.Ordering.TheVariants.{Less, Equal, Greater}
 use Rattle.std.specs.Ordering.{is_eq, is_gt}
 
 module _ {E : Type 0} where
-  -- the element in which a probe finds what it looks for
+  -- the first element that matches a probe
   abbrev pub found : (E → Ordering) → List E → Option E
   found at [] = None
   found at (x ∷ xs) = if is_eq (at x) then Some x else found at xs
 
-  -- the first element behind what a probe looks for
+  -- the first element after what a probe looks for
   abbrev pub first_behind : (E → Ordering) → List E → Option E
   first_behind at [] = None
   first_behind at (x ∷ xs) = if is_gt (at x) then Some x else first_behind at xs
 
-  -- how many these are
+  -- how many elements match
   abbrev pub count_at : (E → Ordering) → List E → ℕ
   count_at at [] = 0
   count_at at (x ∷ xs) = if is_eq (at x) then suc (count_at at xs) else count_at at xs
 
-  -- without the first of them
+  -- without the first match
   abbrev pub without : (E → Ordering) → List E → List E
   without at [] = []
   without at (x ∷ xs) = if is_eq (at x) then xs else x ∷ without at xs
 
-  -- without any of them
+  -- without any match
   abbrev pub without_all : (E → Ordering) → List E → List E
   without_all at xs = filter (λ x. not (is_eq (at x))) xs
 
-  -- with the first of them changed
+  -- with the first match changed
   abbrev pub with_changed : (E → Ordering) → (E → E) → List E → List E
   with_changed at f [] = []
   with_changed at f (x ∷ xs) = if is_eq (at x) then f x ∷ xs else x ∷ with_changed at f xs
@@ -39,7 +39,7 @@ module _ {E : Type 0} where
   put_by Equal e x xs later = e ∷ xs
   put_by Greater e x xs later = e ∷ x ∷ xs
 
-  -- with an element in its place, in the stead of one that is there
+  -- with an element in its place in the order, which replaces an equal one
   abbrev pub with_put : (E → E → Ordering) → E → List E → List E
   with_put cmp e [] = e ∷ []
   with_put cmp e (x ∷ xs) = put_by (cmp x e) e x xs (with_put cmp e xs)

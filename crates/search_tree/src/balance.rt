@@ -1,12 +1,12 @@
-// The balance of a tree: at each node the heights of the two sides differ by one at most. Own; as in AVL trees. What
-// is proved is that the elements and their order stay; the balance itself is for speed alone.
+// The balance of a tree: at each node the heights of the two sides differ by one at most. Own; as in AVL trees. It is
+// proved that the elements and their order stay; the balance itself is only for speed.
 ghost use Rattle.std.specs.Prelude.{◌≡◌};
 ghost use Rattle.search_tree.specs.Trees.{node_items};
 
 use crate::element::Element;
 use crate::tree::{Node, Root, Tree, close, emptied};
 
-// The left child comes to the top.
+// A right rotation: the left child comes to the top.
 fn raise_left<E: Element>(mut node: Box<Node<E>>) -> Box<Node<E>>
     ensures { node_items result.value ≡ node_items node.value }
 {
@@ -20,7 +20,7 @@ fn raise_left<E: Element>(mut node: Box<Node<E>>) -> Box<Node<E>>
     }
 }
 
-// The right child comes to the top.
+// A left rotation: the right child comes to the top.
 fn raise_right<E: Element>(mut node: Box<Node<E>>) -> Box<Node<E>>
     ensures { node_items result.value ≡ node_items node.value }
 {
@@ -34,7 +34,7 @@ fn raise_right<E: Element>(mut node: Box<Node<E>>) -> Box<Node<E>>
     }
 }
 
-// The left side is the higher one, or as high.
+// Rotates if needed, so that the left side is at least as high as the right one.
 fn lean_left<E: Element>(tree: Tree<E>) -> Tree<E>
     ensures { result ≡ tree }
 {
@@ -50,7 +50,7 @@ fn lean_left<E: Element>(tree: Tree<E>) -> Tree<E>
     }
 }
 
-// The right side is the higher one, or as high.
+// Rotates if needed, so that the right side is at least as high as the left one.
 fn lean_right<E: Element>(tree: Tree<E>) -> Tree<E>
     ensures { result ≡ tree }
 {
@@ -66,7 +66,7 @@ fn lean_right<E: Element>(tree: Tree<E>) -> Tree<E>
     }
 }
 
-/// A tree of one node, whose sides differ in height by two at most; it is balanced again.
+/// The tree of a node whose sides differ in height by two at most, balanced again.
 pub(crate) fn balanced<E: Element>(mut node: Box<Node<E>>) -> Tree<E>
     ensures { result ≡ node_items node.value }
 {

@@ -1,4 +1,4 @@
-// Changes of a tree. An element is taken out in its node and put back in it, so none takes memory.
+// Changes of a tree. An element is taken out in its node and put back in it, so no change takes memory.
 ghost use Rattle.std.specs.Prelude.{◌≡◌, ◌++◌, is_some};
 ghost use Rattle.search_tree.specs.Cuts.{IsCut, IsRun};
 ghost use Rattle.search_tree.specs.Lists.{found, without, without_all, with_changed, with_put};
@@ -28,7 +28,7 @@ fn take_first<E: Element>(tree: &mut Tree<E>) -> Option<Box<Node<E>>>
     }
 }
 
-// The elements of two trees in one, the heights of which differ by one at most.
+// Joins two trees whose heights differ by one at most.
 fn joined<E: Element>(left: Tree<E>, mut right: Tree<E>) -> Tree<E>
     ensures { result ≡ left ++ right }
 {
@@ -80,7 +80,7 @@ impl<E: Element> Tree<E> {
         self.take_one(probe)
     }
 
-    /// Drops the element that the probe looks for, and tells whether there was one; takes no memory.
+    /// Drops the element that the probe looks for, and says whether there was one; takes no memory.
     pub fn remove<P: Probe<E>>(&mut self, probe: &P) -> bool
         requires { IsCut (P.at probe.now) self.old }
         ensures there { result ≡ is_some (found (P.at probe.now) self.old) }
@@ -100,7 +100,7 @@ impl<E: Element> Tree<E> {
         while self.take_one(probe).is_some() {}
     }
 
-    /// Puts an element in its place, in the stead of one that is there; takes no memory.
+    /// Puts an element in its place in the order and replaces an equal one; takes no memory.
     pub fn put(&mut self, mut node: Box<Node<E>>)
         requires { IsCut (λ x. E.cmp x node.value.element) self.old }
         ensures { self.new ≡ with_put E.cmp node.value.element self.old }
@@ -129,7 +129,7 @@ impl<E: Element> Tree<E> {
         }
     }
 
-    /// Changes the element that the probe looks for, where there is one. It stays where it stands; takes no memory.
+    /// Changes the element that the probe looks for, if there is one. It keeps its place; takes no memory.
     pub fn change<P: Probe<E>, C: Change<E>>(&mut self, probe: &P, change: &C)
         requires { IsCut (P.at probe.now) self.old }
         ensures { self.new ≡ with_changed (P.at probe.now) (C.changed change.now) self.old }

@@ -1,4 +1,4 @@
-// What stands in a tree, what is looked for, and what changes an element.
+// What a tree holds, what is looked for, and what changes an element.
 ghost use Rattle.std.specs.Prelude.{◌≡◌, [], ◌∷◌, ◌++◌, List, Option, None};
 ghost use Rattle.std.specs.Cmp.{IsTotalOrder};
 ghost use Rattle.std.specs.declared.cmp.Ordering.{Ordering};
@@ -6,10 +6,10 @@ ghost use Rattle.search_tree.specs.Lists.{IsFirstSide};
 
 use std::cmp::Ordering;
 
-/// An element of a tree: what it is ordered by, and what is known of all elements below a node. Where nothing has to
-/// be known the summary is `()`.
+/// An element of a tree: its order, and the summary of all elements of a subtree. The summary is `()` if nothing has to
+/// be known.
 pub trait Element: Drop {
-    /// What is known of all elements below a node.
+    /// What is known of all elements of a subtree.
     type Summary: Copy;
 
     /// The order of two elements.
@@ -21,33 +21,33 @@ pub trait Element: Drop {
     /// The one of them that `Tree::first` finds.
     ghost first: { List Self → Option Self };
 
-    /// Where this element stands beside the other one.
+    /// How this element compares with the other one.
     fn order(&self, other: &Self) -> Ordering
         ensures { result ≡ cmp self.now other.now };
 
-    /// The summary where there is no element.
+    /// The summary of no elements.
     fn summary_of_none() -> Self::Summary
         ensures { result ≡ summary [] };
 
-    /// The summary of an element, with those before it and those behind it.
+    /// The summary of an element together with those before it and those after it.
     fn summary_around(left: Self::Summary, element: &Self, right: Self::Summary) -> Self::Summary
         ensures { (l r : List Self) → left ≡ summary l → right ≡ summary r → result ≡ summary (l ++ element.now ∷ r) };
 
-    /// On which side of an element the first one is: among those before it, the element itself, or among those
-    /// behind it.
+    /// Where the first one is: among the elements before this one (`Less`), this one itself (`Equal`), or among those
+    /// after it (`Greater`).
     fn first_side(left: Self::Summary, element: &Self, right: Self::Summary) -> Ordering
         ensures { (l r : List Self) → left ≡ summary l → right ≡ summary r → IsFirstSide first l element.now r result };
 
-    /// Among no elements none is the first.
+    /// An empty list has no first element.
     ghost no_first: { first [] ≡ None };
 
-    /// The order is a total one.
+    /// The order is total.
     ghost total: { IsTotalOrder cmp };
 }
 
 /// What is looked for among elements in order.
 pub trait Probe<E> {
-    /// Where an element stands beside what is looked for.
+    /// How an element compares with what is looked for.
     ghost at: { Self → E → Ordering };
 
     /// The same.

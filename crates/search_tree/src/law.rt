@@ -3,7 +3,8 @@ ghost use Rattle.search_tree.specs.Orders.{OrderLaw};
 
 use crate::element::Element;
 
-/// Elements in order are cut by what has a place in the order, and stay in order through each change.
+/// Elements in order are cut by anything that has a place in the order, and stay in order when one is put and when one
+/// or all matches are removed.
 pub fn order_law<E: Element>()
     ensures { OrderLaw E.cmp }
 {}

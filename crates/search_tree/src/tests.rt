@@ -1,5 +1,5 @@
-// Entries put in awkward orders, with what a sorted list of them answers; the heights of trees, which no clause bounds;
-// and that a node is made with ample memory.
+// Entries put in awkward orders, compared with a sorted list of them; the heights of trees, which no clause bounds;
+// and that a node is made if there is enough memory.
 ghost use Rattle.std.specs.Prelude.{None, refl};
 ghost use Rattle.std.specs.Ordering.{nat_cmp};
 ghost use Rattle.std.proofs.lemmas.Cmp.{nat_cmp_total, on_total};
@@ -119,7 +119,7 @@ impl Book {
     }
 }
 
-// A book of the keys below 300, put in steps of a stride, each with its double.
+// A book of the keys below 300, put in steps of a stride, each with its double as the value.
 fn strided(alloc: Global, stride: u64) -> Result<Book, Fail> {
     let mut book = Book::new();
     for step in 0..300u64 {
@@ -135,8 +135,8 @@ fn strided(alloc: Global, stride: u64) -> Result<Book, Fail> {
     Ok(book)
 }
 
-// How many answers are others than those of a sorted list, while every third entry is dropped and behind that; with the
-// heights before and behind.
+// How many answers differ from those of a sorted list, while every third entry is dropped and after that; with the
+// heights before and after.
 fn drop_thirds(alloc: Global, stride: u64) -> Result<(u64, u32, u32), Fail> {
     let mut book = strided(alloc, stride)?;
     let before = book.tree.height();

@@ -10,15 +10,15 @@ use std::cmp::Ordering;
 use std::marker::Model;
 use std::mem;
 
-/// Elements in a search tree, seen as their list from left to right. Whether they are in order is the caller's to
-/// know.
+/// Elements in a search tree, seen as their list from left to right. Whether they are in order is for the caller
+/// to know.
 #[cycle(tree)]
 #[derive(Drop)]
 pub struct Tree<E: Element> {
     root: Root<E>,
 }
 
-/// The top of a tree.
+/// The root of a tree.
 #[cycle(tree)]
 #[derive(Drop)]
 pub(crate) enum Root<E: Element> {
@@ -26,7 +26,7 @@ pub(crate) enum Root<E: Element> {
     Full(Box<Node<E>>),
 }
 
-/// An element, with those before it and those behind it.
+/// An element, the subtree of those before it, and the subtree of those after it.
 #[cycle(tree)]
 #[derive(Drop)]
 pub struct Node<E: Element> {
@@ -57,7 +57,7 @@ impl<E: Element> Model for Tree<E> {
 }
 
 impl<E: Element> Tree<E> {
-    /// No element; takes no memory.
+    /// An empty tree; takes no memory.
     pub fn new() -> Tree<E>
         ensures { result ≡ [] }
     {
@@ -71,7 +71,7 @@ impl<E: Element> Tree<E> {
         self.root
     }
 
-    // How many nodes stand on the longest way down. Speed alone depends on it.
+    // How many nodes are on the longest path down. Only speed depends on it.
     pub(crate) fn height(&self) -> u32 {
         match &self.root {
             Root::Empty => 0,
@@ -104,7 +104,7 @@ impl<E: Element> Tree<E> {
         }
     }
 
-    /// The first element behind what the probe looks for.
+    /// The first element after what the probe looks for.
     pub fn next<P: Probe<E>>(&self, probe: &P) -> Option<&E>
         requires { IsCut (P.at probe.now) self.now }
         ensures { option_copied result ≡ first_behind (P.at probe.now) self.now }
@@ -122,7 +122,7 @@ impl<E: Element> Tree<E> {
         }
     }
 
-    /// The first element by the summaries.
+    /// The first element as `Element::first` says, found by the summaries.
     pub fn first(&self) -> Option<&E>
         ensures { option_copied result ≡ E.first self.now }
     {
@@ -138,7 +138,7 @@ impl<E: Element> Tree<E> {
         }
     }
 
-    /// How many elements the probe looks for; the others are passed over.
+    /// How many elements match the probe; the others are skipped.
     pub fn count<P: Probe<E>>(&self, probe: &P) -> usize
         requires run { IsRun (P.at probe.now) self.now }
         requires fits { length self.now ≤ 2 ^ 62 }
@@ -155,7 +155,7 @@ impl<E: Element> Tree<E> {
     }
 }
 
-/// What stands in a place, which is then empty.
+/// Takes the tree out of its place and leaves an empty one there.
 pub(crate) fn emptied<E: Element>(tree: &mut Tree<E>) -> Tree<E>
     ensures taken { result ≡ tree.old }
     ensures left { tree.new ≡ [] }
@@ -163,7 +163,7 @@ pub(crate) fn emptied<E: Element>(tree: &mut Tree<E>) -> Tree<E>
     mem::replace(tree, Tree::new())
 }
 
-/// A tree of one node, whose height and summary are made anew.
+/// The tree of a node, whose height and summary are computed anew.
 pub(crate) fn close<E: Element>(mut node: Box<Node<E>>) -> Tree<E>
     ensures { result ≡ node_items node.value }
 {

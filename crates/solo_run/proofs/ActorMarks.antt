@@ -31,7 +31,7 @@ marks_of-other key at (m ∷ ms) e = rw e (marks_of-other key at ms e)
 
 -- ---- the cell of one actor
 
--- two texts that a third equals, or that it tells apart
+-- equal texts compare alike with a third
 same_test : (key at other : List ℕ) → bytes_eq key at ≡ true → bytes_eq key other ≡ bytes_eq at other
 same_test key at other e = ap (λ (k : List ℕ). bytes_eq k other) ((bytes_eq-Decides key at).0 e)
 
@@ -58,16 +58,16 @@ cell_at-other key at cell (a ∷ actors) e = by (bytes_eq at a.key) refl (cell_a
 -- ---- the invariant
 
 -- What an actor's marks so far say of its cell, at the depth of its type: they are the marks of turns that each
--- entered beside turns of their own chain, and tell which are open. An actor without a cell has no marks.
+-- entered beside turns of their own chain, and show which are open. An actor without a cell has no marks.
 abbrev pub CellTold : ℕ → Option CellState → List TurnMark → Type 0
 CellTold depth None marks = marks ≡ []
 CellTold depth (Some cell) marks = KeepsTurns depth [] cell marks
 
--- the same of every actor
+-- the same for every actor
 abbrev pub ActorsTold : List TypeDepth → List Actor → List ActorMark → Type 0
 ActorsTold depths actors marks = (key : List ℕ) → CellTold (depth_of (before_slash key) depths) (cell_at key actors) (marks_of key marks)
 
--- two stretches of marks, one behind the other
+-- two lists of marks, one after the other
 pub keeps_append : (depth : ℕ) (turns : List Turn) (cell after : CellState) (ms ns : List TurnMark) → KeepsTurns depth turns cell ms → KeepsTurns cell.depth cell.turns after ns
     → KeepsTurns depth turns after (ms ++ ns)
 keeps_append depth turns cell after ms ns h k =
@@ -80,7 +80,7 @@ keeps_append depth turns cell after ms ns h k =
       opens = open_after-append turns ms ns ∙ ap (λ (ts : List Turn). open_after ts ns) h.opens ∙ k.opens;
     }
 
--- the cell that an actor's call finds, made where there was none
+-- the cell that an actor's call finds, made if there was none
 pub told_for : (depths : List TypeDepth) (actors : List Actor) (marks : List ActorMark) (key : List ℕ) → ActorsTold depths actors marks
     → KeepsTurns (depth_of (before_slash key) depths) [] (cell_for depths key actors) (marks_of key marks)
 told_for depths actors marks key told = by (cell_at key actors) refl (told key)
@@ -118,7 +118,7 @@ told-put depths actors marks at cell after ns told kept step key = by (bytes_eq 
 pub told-same : (depths : List TypeDepth) (actors : List Actor) (marks : List ActorMark) → ActorsTold depths actors marks → ActorsTold depths actors (marks ++ [])
 told-same depths actors marks told = subst (λ (ms : List ActorMark). ActorsTold depths actors ms) (sym (append-nil marks)) told
 
--- where no actor is, no depth is used, and none has marks
+-- without actors no depth is used, and there are no marks
 pub told-none : (depths depths' : List TypeDepth) (actors : List Actor) (marks : List ActorMark) → actors ≡ [] → ActorsTold depths actors marks → ActorsTold depths' actors marks
 told-none depths depths' actors marks none told key =
     let at_none : cell_at key actors ≡ None = ap (λ (others : List Actor). cell_at key others) none in

@@ -1,4 +1,4 @@
--- A fact of every actor and its cell, where one cell is put.
+-- A fact about every actor and its cell, when one cell is put.
 use Rattle.std.proofs.Common.{◌≡◌, inl, inr, ℕ, Bool, true, false, List, [], ◌∷◌, Option, None, Some, refl, sym, subst}
 use Rattle.std.specs.Str.{bytes_eq}
 use Rattle.std.proofs.lemmas.Slice.Eq.{bytes_eq-Decides}
@@ -39,7 +39,7 @@ module _ (P : List ℕ → CellState → Type 0) where
           later b (inl is) = each b (inl is)
           later b (inr i) = rest b i
 
-  -- the cell that an actor's call finds, made where there was none
+  -- the cell that an actor's call finds, made if there was none
   pub each_for : (depths : List TypeDepth) (key : List ℕ) (actors : List Actor) → EachCell actors → P key (new_cell (depth_of (before_slash key) depths)) → P key (cell_for depths key actors)
   each_for depths key actors each new = by (cell_at key actors) refl
     where

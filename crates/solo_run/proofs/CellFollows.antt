@@ -1,5 +1,5 @@
--- What a run's log says of one actor's cell: each waiting call was asked of this actor, with its chain, and none waits
--- where nothing is open.
+-- What a run's log says of one actor's cell: each waiting call was made at this actor, with its chain, and none waits
+-- if nothing is open.
 use Rattle.std.proofs.Common.{◌≡◌, inl, inr, ℕ, ◌&&◌, Bool, true, false, if◌then◌else◌, List, [], ◌∷◌, ◌++◌, length, Option, None, Some, refl, sym, ap, subst, ◌∙◌, arith}
 use Rattle.std.specs.Prelude.{◌==◌, unwrap_or}
 use Rattle.std.proofs.lemmas.Bool.{and_parts, cond_both, false≢true}
@@ -16,7 +16,7 @@ use Rattle.solo_run.specs.Runs.{Said}
 use Rattle.solo_run.specs.TurnsTold.{asked_call}
 use Rattle.solo_run.proofs.LogLemmas.{asked-found}
 
--- a waiting call: it was asked of this actor, and its chain is the one that it brought, or made for it
+-- a waiting call: it was made at this actor, and its chain is the one that it brought, or one made for it
 pub record WaiterFollows (depths : List TypeDepth) (log : List Said) (key : List ℕ) (v : Waiter) : Type 0 where
   pub unmoved : v.moved ≡ false
   pub brought : Option (List ℕ)
@@ -66,14 +66,14 @@ asks_busy c n chain busy = by c.turns refl
         (λ none. absurd (cc))
         some
 
--- a queue without a call that isn't moved is empty where none is moved
+-- a queue with neither a moved call nor an unmoved one is empty
 none_left : (ws : List Waiter) → ((v : Waiter) → In v ws → v.moved ≡ false) → first_unmoved ws ≡ None → ws ≡ []
 none_left [] each e = refl
 none_left (v ∷ rest) each e =
     let here : v.moved ≡ false = each v (inl refl) in
     cond_both v.moved _ _ (λ (r : Option Waiter). r ≡ None → v ∷ rest ≡ []) (λ moved _. absurd (false≢true (sym here ∙ moved))) (λ _ found. absurd (cc)) e
 
--- the call that begins at an end was waiting
+-- the call that begins when another ends was waiting
 pub next_in : (c : CellState) (w : Waiter) → next_call true c ≡ Some w → In w c.line
 next_in c w =
     cond_both (true && is_free c) _ _ (λ (r : Option Waiter). r ≡ Some w → In w c.line) (λ _ e. In-first_unmoved c.line w e) (λ _ e. absurd (cc))
@@ -99,7 +99,7 @@ module _ (depths : List TypeDepth) (log : List Said) (key : List ℕ) where
       last : WaiterFollows depths log key (record { call = n; chain = kept_chain c (chain_for c.depth n chain); moved = false })
       last = record { unmoved = refl; brought = chain; asked = asked; chain = kept-chain_for c n chain ∙ ap (λ (d : ℕ). chain_for d n chain) f.depth }
 
-  -- the first call in the queue begins where nothing is open
+  -- the first call in the queue begins if nothing is open
   next_follows : (c : CellState) → c.depth ≡ depth_of (before_slash key) depths → ((v : Waiter) → In v c.line → WaiterFollows depths log key v)
       → CellFollows depths log key (begun_next c (next_call true c))
   next_follows c depth queue =

@@ -172,6 +172,6 @@ asked_within calls events chain c w =
 pub new_within : (calls events depth : ℕ) → IsCellWithin calls events (new_cell depth)
 new_within calls events depth = record { numbered = λ n h. refl; held = omega arith }
 
--- later counts are above earlier ones
+-- a cell within some counts is within greater ones
 pub later_within : (calls events calls' events' : ℕ) (c : CellState) → calls ≤ calls' → events ≤ events' → IsCellWithin calls events c → IsCellWithin calls' events' c
 later_within calls events calls' events' c more most w = record { numbered = λ n h. w.numbered n (omega arith); held = let h = w.held in omega arith }

@@ -13,11 +13,11 @@ use Rattle.solo_run.proofs.StepMarks.{left_open, solo_kept}
 use Rattle.solo_run.proofs.StepTurns.{solo_told}
 
 module _ (depths : List TypeDepth) (events : List SoloEvent) where
-  -- the marks of one actor are what the log tells of it
+  -- the marks of one actor are its turns in the log
   pub marks-told : (key : List ℕ) → marks_of key (solo_marks depths events) ≡ turns_at depths key (solo_log depths events)
   marks-told key = ap (marks_of key) (solo_turns depths events)
 
-  -- its cell against what the log tells
+  -- its cell against its turns in the log
   cell_told : (key : List ℕ) → CellTold (depth_of (before_slash key) depths) (cell_at key (solo_run depths events).actors) (turns_at depths key (solo_log depths events))
   cell_told key =
       let w = solo_run depths events in
@@ -31,13 +31,13 @@ module _ (depths : List TypeDepth) (events : List SoloEvent) where
   pub turns_open : (key : List ℕ) → open_after [] (turns_at depths key (solo_log depths events)) ≡ open_turns key (solo_run depths events)
   turns_open key = left_open (depth_of (before_slash key) depths) (cell_at key (solo_run depths events).actors) (turns_at depths key (solo_log depths events)) (cell_told key)
 
-  -- the same of the cells' own marks and the depths of the last state
+  -- the same for the cells' own marks and the depths of the last state
   pub marks_isolated : (key : List ℕ) → TurnsIsolated (depth_of (before_slash key) (solo_run depths events).depths) (marks_of key (solo_marks depths events))
   marks_isolated key =
       let w = solo_run depths events in
       told_isolated (depth_of (before_slash key) w.depths) (cell_at key w.actors) (marks_of key (solo_marks depths events)) (solo_kept depths events key)
 
-  -- no turn that the outcomes tell lacks its actor
+  -- every turn in the outcomes has its actor
   pub turns_each : call_turns (actor_turns depths (solo_log depths events)) ≡ turns_of_log (solo_log depths events)
   turns_each = ap call_turns (sym (solo_turns depths events)) ∙ solo_told depths events
 

@@ -1,4 +1,4 @@
--- The calls that a log asks, where one log stands behind another.
+-- The calls that a log has, when one log follows another.
 use Rattle.std.proofs.Common.{◌≡◌, ◌≢◌, ◌⊎◌, inl, inr, ◌<◌, ◌+◌, ◌-◌, eqb, ℕ, zero, suc, Bool, true, false, List, [], ◌∷◌, ◌++◌, length, slice_get, Option, None, Some, refl, sym, ap, ◌∙◌, arith, append_assoc, append-nil}
 use Rattle.std.proofs.lemmas.Bool.{ne_eqb, eq-eqb}
 use Rattle.world_events.specs.Solo.{Call}
@@ -6,7 +6,7 @@ use Rattle.solo_run.specs.World.{key_of_call}
 use Rattle.solo_run.specs.Runs.{Said}
 use Rattle.solo_run.specs.TurnsTold.{AskedCall, call_in, asked_call, number_in, numbers_of, CountsFromOne}
 
--- a call that a log asks is asked by the longer one
+-- a call that a log has is in the longer one
 pub asked-found : (n : ℕ) (asked : AskedCall) (log more : List Said) → asked_call n log ≡ Some asked → asked_call n (log ++ more) ≡ Some asked
 asked-found n asked [] more h = absurd (cc)
 asked-found n asked (s ∷ log) more h = by (call_in n s.event) refl (asked-found n asked log more)
@@ -15,7 +15,7 @@ asked-found n asked (s ∷ log) more h = by (call_in n s.event) refl (asked-foun
     by None e ih = let there : asked_call n log ≡ Some asked = rw e at h in rw e (ih there)
     by (Some x) e ih = let same : Some x ≡ Some asked = rw e at h in rw e same
 
--- one that it doesn't ask is asked by what stands behind it
+-- a call that it doesn't have is looked up in what follows
 pub asked-later : (n : ℕ) (log more : List Said) → asked_call n log ≡ None → asked_call n (log ++ more) ≡ asked_call n more
 asked-later n [] more h = refl
 asked-later n (s ∷ log) more h = by (call_in n s.event) refl (asked-later n log more)
@@ -47,7 +47,7 @@ pub counts-push : (numbers : List ℕ) (n : ℕ) → CountsFromOne numbers → n
 counts-push numbers n counts is place number h =
     elim (get-push numbers n number place h) [ inl found ↦ counts place number found | inr last ↦ omega (arith, is, last.0, last.1) ]
 
--- the actor of a call, where one call more was asked
+-- the actor of a call, after one more call was made
 pub key-push : (n : ℕ) (calls : List (Option (List ℕ))) (new : Option (List ℕ)) (key : List ℕ) → key_of_call n (calls ++ new ∷ []) ≡ Some key
     → (key_of_call n calls ≡ Some key) ⊎ ((n ≡ length calls + 1) × (new ≡ Some key))
 key-push n calls new key h = by (eqb n 0) refl (slice_get (calls ++ new ∷ []) (n - 1)) refl

@@ -1,18 +1,18 @@
--- Places of texts in an interner, and what stands at these places in a list beside it.
+-- Places of texts in an interner, and what is at these places in a list beside it.
 use Rattle.std.proofs.Common.{◌≡◌, ◌<◌, ◌+◌, ℕ, zero, suc, Bool, true, false, List, [], ◌∷◌, ◌++◌, length, get_or, Option, None, Some, is_some, refl, sym, subst, ◌∙◌, arith, add-one}
 use Rattle.std.specs.List.{slice_get}
 use Rattle.std.specs.Str.{bytes_eq}
 use Rattle.std.proofs.lemmas.Slice.Eq.{bytes_eq-Decides}
 use Rattle.solo_run.specs.Interner.{place_in, AreDistinct}
 
--- the place of a text behind another one
+-- the place of a text after another one
 pub record PlaceBehind (text : List ℕ) (t : List ℕ) (ts : List (List ℕ)) (i : ℕ) : Type 0 where
   pub other : bytes_eq text t ≡ false
   pub place : ℕ
   pub here : place_in text ts ≡ Some place
   pub shift : i ≡ suc place
 
--- the cases of a place in a list: at its head, or behind it
+-- the cases of a place in a list: at its head, or after it
 pub place_cases : (text t : List ℕ) (ts : List (List ℕ)) (i : ℕ) (P : Type 0) → place_in text (t ∷ ts) ≡ Some i
     → (bytes_eq text t ≡ true → i ≡ 0 → P) → (PlaceBehind text t ts i → P) → P
 place_cases text t ts i P h head behind = by (bytes_eq text t) refl (place_in text ts) refl
@@ -71,7 +71,7 @@ place_of ts text i h e =
     within (v ∷ us) u zero q = omega arith
     within (v ∷ us) u (suc j) q = let rest = within us u j q in omega arith
 
--- a text that wasn't there goes last
+-- a text's place stays when another text is added at the end
 pub place-push : (text : List ℕ) (ts : List (List ℕ)) (t : List ℕ) → bytes_eq text t ≡ false → place_in text (ts ++ t ∷ []) ≡ place_in text ts
 place-push text [] t e = rw e
 place-push text (u ∷ ts) t e = by (bytes_eq text u) refl (place-push text ts t e)

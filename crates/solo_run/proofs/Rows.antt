@@ -1,4 +1,4 @@
--- Worked runs: the outcomes of some events, and the turns that the log tells.
+-- Worked runs: the outcomes of some events, and the turns in the log.
 use Rattle.std.proofs.Common.{◌≡◌, ℕ, List, [], ◌∷◌, Option, None, Some, refl}
 use Rattle.std.specs.Prelude.{codes}
 use Rattle.std.specs.Fmt.{digits}
@@ -18,7 +18,7 @@ outcomes (s ∷ log) = s.outcome ∷ outcomes log
 abbrev Gives : List TypeDepth → List SoloEvent → List TurnOutcome → Type 0
 Gives depths events all = outcomes (solo_log depths events) ≡ all
 
--- and the log tells these turns of the actor
+-- and the log has these turns of the actor
 abbrev Tells : List TypeDepth → List SoloEvent → List ℕ → List TurnMark → Type 0
 Tells depths events key marks = turns_at depths key (solo_log depths events) ≡ marks
 
@@ -70,17 +70,17 @@ row_chains = refl
 row_chains_turns : Tells two_deep chains seven (Began 1 x ∷ Began 2 x ∷ Ended 1 ∷ Ended 2 ∷ Began 3 y ∷ [])
 row_chains_turns = refl
 
--- a call that brings no chain has one made of its number, which no other call has
+-- a call that brings no chain has one made from its number, which no other call has
 row_made_turns : Tells two_deep (Call 1 seven None ∷ Call 2 seven None ∷ End 1 ∷ []) seven
     (Began 1 (Some (codes "solo.1.0.1")) ∷ Ended 1 ∷ Began 2 (Some (codes "solo.1.0.2")) ∷ [])
 unfolding digits
 row_made_turns = refl
 
--- a wrong number is refused: it stands in no log, and the next call may have the right one
+-- a wrong number is refused: it is in no log, and the next call may have the right one
 row_number : Gives [] (Call 2 seven None ∷ Call 1 seven None ∷ Call 1 seven None ∷ Poll 1 ∷ []) (out.Begun 1 ∷ out.Begun 1 ∷ [])
 row_number = refl
 
--- the poll of an open call answers as its begin does, and tells no turn
+-- the poll of an open call gives the same answer as its beginning, and no turn
 row_poll_turns : Tells [] (Call 1 seven None ∷ Poll 1 ∷ End 1 ∷ End 1 ∷ []) seven (Began 1 None ∷ Ended 1 ∷ [])
 row_poll_turns = refl
 

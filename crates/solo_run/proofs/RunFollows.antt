@@ -26,7 +26,7 @@ next_number w n key chain h = by (eqb w.events (2 ^ 62)) refl (eqb n (length w.c
     by false e true p = eqb-true n (length w.calls + 1) p
     by false e false p = let refused = rw (e, p) at h in absurd (cc)
 
--- an event at the cell of a call, where there is one
+-- an event at the cell of a call, if there is one
 pub at_call_cases : (w : SoloState) (step : List ℕ → CellState → WorldStep) (call : ℕ) (P : WorldStep → Type 0) → P (unchanged w out.NotThere)
     → ((key : List ℕ) (cell : CellState) → key_of_call call w.calls ≡ Some key → cell_at key w.actors ≡ Some cell → P (step key cell)) → P (at_call w step call)
 at_call_cases w step call P none each = by_key (key_of_call call w.calls) refl
@@ -39,7 +39,7 @@ at_call_cases w step call P none each = by_key (key_of_call call w.calls) refl
     by_key None k = none
     by_key (Some key) k = by_cell key (cell_at key w.actors) k refl
 
--- the log asks this call of this actor
+-- the log has this call of this actor
 pub record AsksOf (log : List Said) (n : ℕ) (key : List ℕ) : Type 0 where
   pub chain : Option (List ℕ)
   pub asked : asked_call n log ≡ Some (record { key = key; chain = chain })
@@ -118,7 +118,7 @@ module _ (depths : List TypeDepth) (log : List Said) (w : SoloState) (f : Follow
   -- ---- a call
 
   module _ (n : ℕ) (key : List ℕ) (chain : Option (List ℕ)) (next : n ≡ length w.calls + 1) where
-    -- the log asks it behind its event
+    -- the log has the call from its event on
     pub asked_now : (outcome : TurnOutcome) (more : List Said) → asked_call n (log ++ record { event = Call n key chain; outcome = outcome } ∷ more) ≡ Some (record { key = key; chain = chain })
     asked_now outcome more =
         asked-later n log (record { event = Call n key chain; outcome = outcome } ∷ more) (f.later n (omega (arith, next))) ∙ first

@@ -1,4 +1,4 @@
--- The marks of a run are the turns that its log tells, at the actors and under the chains of the events that asked.
+-- The marks of a run are the turns in its log, at the actors and under the chains of the events that made the calls.
 use Rattle.std.proofs.Common.{◌≡◌, ℕ, Bool, true, false, List, [], ◌∷◌, ◌++◌, Option, None, Some, Result, Ok, Err, refl, sym, ap, subst, ◌∙◌, append_assoc}
 use Rattle.std.specs.Prelude.{◌==◌, option_map}
 use Rattle.std.proofs.lemmas.Bool.{cond_both}
@@ -63,7 +63,7 @@ module _ (depths : List TypeDepth) (log : List Said) (w : SoloState) (f : Follow
   not_open_told call whole None = refl
   not_open_told call whole (Some v) = refl
 
-  -- the marks of the event's step are the turns that a log tells which has the event
+  -- the marks of the event's step are the event's turns in any log that has the event
   abbrev IsTold : SoloEvent → List Said → WorldStep → Type 0
   IsTold event more step =
       step.marks ≡ turns_told depths (log ++ record { event = event; outcome = step.outcome } ∷ more) (told_turns event step.outcome)
@@ -110,7 +110,7 @@ module _ (depths : List TypeDepth) (log : List Said) (w : SoloState) (f : Follow
 
 -- ---- a list of events
 
--- the marks of these events are those that the whole log tells behind what it told before
+-- the marks of these events are those of the whole log after its earlier part
 abbrev RunTold : List TypeDepth → List Said → SoloState → List SoloEvent → Type 0
 RunTold depths log w events = marks_from w events ≡ turns_told depths (log ++ log_from w events) (turns_of_log (log_from w events))
 
@@ -134,6 +134,6 @@ pub run_turns : (depths : List TypeDepth) (log : List Said) (w : SoloState) (eve
 run_turns depths log w [] f = refl
 run_turns depths log w (event ∷ events) f = one_told depths log w event events (refusal_of w event) refl f (λ l v g. run_turns depths l v events g)
 
--- the marks of a run are the turns that its log tells
+-- the marks of a run are the turns in its log
 pub solo_turns : (depths : List TypeDepth) (events : List SoloEvent) → solo_marks depths events ≡ actor_turns depths (solo_log depths events)
 solo_turns depths events = run_turns depths [] (state_with depths) events (opening_follows depths)

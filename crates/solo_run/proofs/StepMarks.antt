@@ -1,5 +1,5 @@
--- Each event of a run keeps, of every actor, that its marks so far are those of turns that entered beside turns of their
--- own chain, below the depth of its type.
+-- Each event of a run preserves this for every actor: its marks so far are those of turns that entered beside turns of
+-- their own chain, below the depth of its type.
 use Rattle.std.proofs.Common.{◌≡◌, ℕ, ◌+◌, ◌-◌, ◌<◌, true, List, [], ◌∷◌, ◌++◌, Option, None, Some, IsSome, refl, subst, sym, arith, append_assoc}
 use Rattle.std.specs.Prelude.{◌==◌, unwrap_or}
 use Rattle.std.proofs.lemmas.Bool.{cond_both, eqb-true}
@@ -38,7 +38,7 @@ call_told w marks number key chain told =
     told-put w.depths w.actors marks key cell (ask_at cell number chain).cell (ask_marks_at cell number chain) told kept
     (ask_keeps cell number (chain_for cell.depth number chain) true kept.sound (chain_given cell.depth number chain))
 
--- an event at the cell of a call, where there is one
+-- an event at the cell of a call, if there is one
 at_call_told : (w : SoloState) (marks : List ActorMark) (step : List ℕ → CellState → WorldStep) (call : ℕ) → StateTold w marks
     → ((key : List ℕ) (cell : CellState) → cell_at key w.actors ≡ Some cell → EventTold marks (step key cell)) → EventTold marks (at_call w step call)
 at_call_told w marks step call told each = by_key (key_of_call call w.calls)

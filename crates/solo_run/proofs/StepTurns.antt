@@ -1,4 +1,4 @@
--- The marks of each event, without their actors and chains, are the turns that its outcome tells.
+-- The marks of each event, without their actors and chains, are the turns in its outcome.
 use Rattle.std.proofs.Common.{◌≡◌, ℕ, ◌+◌, Bool, true, false, if◌then◌else◌, List, [], ◌∷◌, ◌++◌, Option, None, Some, Result, Ok, Err, refl, ap, ◌∙◌}
 use Rattle.std.specs.Prelude.{◌==◌, option_map}
 use Rattle.turn_core.specs.declared.answer.Asked.{Asked}
@@ -42,7 +42,7 @@ end_told w call key cell = by (has_turn call cell.turns) refl
     by true e = rw e (next_told key call (next_call true (without_call cell call)))
     by false e = rw e (not_open_told call (waiter_of call cell.line))
 
--- an event at the cell of a call, where there is one
+-- an event at the cell of a call, if there is one
 at_call_told : (w : SoloState) (event : SoloEvent) (step : List ℕ → CellState → WorldStep) (call : ℕ) → [] ≡ told_turns event out.NotThere → ((key : List ℕ) (cell : CellState) → IsTold event (step key cell)) → IsTold event (at_call w step call)
 at_call_told w event step call quiet each = by_key (key_of_call call w.calls)
   where
@@ -92,6 +92,6 @@ run_told w [] = refl
 run_told w (event ∷ events) =
     one_told w (after_event w event (refusal_of w event)) event events (refusal_of w event) (run_told (after_event w event (refusal_of w event)) events)
 
--- the marks of a run, without their actors and chains, are the turns that its log tells
+-- the marks of a run, without their actors and chains, are the turns in its log
 pub solo_told : (depths : List TypeDepth) (events : List SoloEvent) → call_turns (solo_marks depths events) ≡ turns_of_log (solo_log depths events)
 solo_told depths events = run_told (state_with depths) events

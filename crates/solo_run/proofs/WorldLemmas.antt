@@ -1,4 +1,4 @@
--- The steps of a world of places, against the steps of the world of keys that it tells.
+-- The steps of a world of places, against the steps of the world of keys that it represents.
 use Rattle.std.proofs.Common.{◌≡◌, ◌<◌, ◌+◌, ◌-◌, ◌^◌, ℕ, zero, suc, Bool, true, false, eqb, cond, List, [], ◌∷◌, length, get_or, set, map, slice_get, Option, None, Some, All, IfSome, unwrap_or, refl, sym, ap, ◌∙◌, subst, arith, length-set}
 use Rattle.std.specs.Option.{option_and_then}
 use Rattle.std.proofs.lemmas.Bool.{eqb-true}
@@ -21,7 +21,7 @@ slice_get-map f [] i = refl
 slice_get-map f (x ∷ xs) zero = refl
 slice_get-map f (x ∷ xs) (suc i) = slice_get-map f xs i
 
--- a call's key stands at its place
+-- a call's key is at its place
 key_of_place : (call : ℕ) (keys : List (List ℕ)) (calls : List (Option ℕ)) → key_of_call call (calls_told keys calls) ≡ option_and_then (λ place. slice_get keys place) (place_of_call call calls)
 key_of_place call keys calls = by (eqb call 0) refl (slice_get calls (call - 1)) refl
   where
@@ -37,11 +37,11 @@ key_there (k ∷ ks) zero h = refl
 key_there (k ∷ ks) (suc place) h = key_there ks place (omega arith)
 
 module _ (types : List TypeDepth) (keys : List (List ℕ)) (cells : List CellState) (calls : List (Option ℕ)) (events : ℕ) where
-  -- the world that these lists tell
+  -- the world that these lists represent
   abbrev pub told : SoloState
   told = record { depths = types; actors = actors_told keys cells; calls = calls_told keys calls; events = events }
 
-  -- the world after one cell was put and one event more
+  -- the world after one cell was put, with one more event
   abbrev pub told_with : ℕ → CellState → SoloState
   told_with place cell = record { depths = types; actors = actors_told keys (set cells place cell); calls = calls_told keys calls; events = events + 1 }
 
@@ -135,7 +135,7 @@ placed_call n call place calls all h = by (eqb call 0) refl (slice_get calls (ca
         let there : IfSome (Some place) (λ q. q < n) = subst (λ (r : Option ℕ). IfSome r (λ q. q < n)) (is ∙ found) here in
         there
 
--- a world stays kept when one cell is put and one event more has come
+-- the invariant of a world holds after one cell was put and one more event has come
 pub kept_with : (keys : List (List ℕ)) (cells : List CellState) (calls : List (Option ℕ)) (events place : ℕ) (cell : CellState)
     → IsWorldKept keys cells calls events → events < 2 ^ 62 → IsCellWithin (length calls) (events + 1) cell → IsWorldKept keys (set cells place cell) calls (events + 1)
 kept_with keys cells calls events place cell kept room within =

@@ -1,5 +1,5 @@
 -- The run of a solo world: the depths of its types, which are set before its first event, then its events in order.
--- Its log says what happened: each event with its outcome. One that is refused changes nothing and stands in no log.
+-- Its log says what happened: each event with its outcome. A refused event changes nothing and is in no log.
 -- Own: docs/scripts.md.
 use Rattle.std.specs.Prelude.{List, [], ◌∷◌, ◌++◌, Option, None, Some}
 use Rattle.world_events.specs.Solo.{SoloEvent}

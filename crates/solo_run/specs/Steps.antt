@@ -10,8 +10,8 @@ pub record GivesOutcome (outcome : TurnOutcome) (old new : SoloState) (event : S
   pub world : new ≡ (solo_step old event).world
   pub gives : outcome ≡ (solo_step old event).outcome
 
--- An event that isn't refused makes its step; each refusal comes exactly by its cause, want of memory aside. There
--- are no members here, so none is declared lost that runs.
+-- An event that isn't refused makes its step; each refusal comes for exactly its cause, except out of memory. There
+-- are no members here, so no running one is declared lost.
 abbrev pub GivesStep : Result TurnOutcome WorldError → SoloState → SoloState → SoloEvent → Type 0
 GivesStep (Ok outcome) old new event = (refusal_of old event ≡ None) × GivesOutcome outcome old new event
 GivesStep (Err (Spent count)) old new event = (refusal_of old event ≡ Some (Spent count)) × (new ≡ old)

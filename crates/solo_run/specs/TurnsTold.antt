@@ -1,5 +1,5 @@
--- What the log of a run tells of turns: each one is that of the actor, and under the chain, that the event which asked
--- its call names. Own: docs/turns.md.
+-- What the log of a run says of turns: each is at the actor, and under the chain, named by the event that made its
+-- call. Own: docs/turns.md.
 use Rattle.std.specs.Prelude.{◌≡◌, ℕ, ◌+◌, ◌==◌, if◌then◌else◌, List, [], ◌∷◌, ◌++◌, slice_get, Option, None, Some}
 use Rattle.actor_names.specs.Names.{before_slash}
 use Rattle.turn_core.specs.declared.cell.Turn.{Turn}
@@ -19,7 +19,7 @@ pub data CallTurn : Type 0 where
   Begins : (call : ℕ) → CallTurn
   Ends : (call : ℕ) → CallTurn
 
--- The turns that an event's outcome tells: a call begins at once, or an end ends a turn and may begin the next.
+-- The turns in an event's outcome: a call begins at once, or an end ends a turn and may begin the next.
 abbrev pub told_turns : SoloEvent → TurnOutcome → List CallTurn
 told_turns (Call asked key chain) (out.Begun call) = Begins call ∷ []
 told_turns (End call) (out.Ended ended None) = Ends ended ∷ []
@@ -45,12 +45,12 @@ call_turns (m ∷ ms) = call_turn m.mark ∷ call_turns ms
 
 -- ---- whose they are
 
--- a call as the event that asks it names it: the actor's key, and the chain that it brings
+-- a call as its event names it: the actor's key, and the chain that the call brings
 pub record AskedCall : Type 0 where
   pub key : List ℕ
   pub chain : Option (List ℕ)
 
--- the call of this number, where the event asks it
+-- the call of this number, if the event makes it
 abbrev pub call_in : ℕ → SoloEvent → Option AskedCall
 call_in n (Call call key chain) = if n == call then Some (record { key = key; chain = chain }) else None
 call_in n (End call) = None
@@ -81,7 +81,7 @@ abbrev pub turns_told : List TypeDepth → List Said → List CallTurn → List 
 turns_told depths log [] = []
 turns_told depths log (turn ∷ turns) = turn_at depths turn (asked_call (turn_call turn) log) ++ turns_told depths log turns
 
--- the turns that a log tells, each at the actor and under the chain of the event that asked its call
+-- the turns in a log, each at the actor and under the chain of the event that made its call
 abbrev pub actor_turns : List TypeDepth → List Said → List ActorMark
 actor_turns depths log = turns_told depths log (turns_of_log log)
 
@@ -91,7 +91,7 @@ turns_at depths key log = marks_of key (actor_turns depths log)
 
 -- ---- the calls of a log
 
--- the number of the call that an event asks
+-- the number of the call that an event makes
 abbrev pub number_in : SoloEvent → List ℕ
 number_in (Call call key chain) = call ∷ []
 number_in (End call) = []
@@ -99,7 +99,7 @@ number_in (Poll call) = []
 number_in (Hold key) = []
 number_in (Release key) = []
 
--- the numbers of the calls that a log asks, in their order
+-- the numbers of the calls that a log has, in their order
 abbrev pub numbers_of : List Said → List ℕ
 numbers_of [] = []
 numbers_of (s ∷ log) = number_in s.event ++ numbers_of log
@@ -114,7 +114,7 @@ abbrev pub turns_in : Option CellState → List Turn
 turns_in None = []
 turns_in (Some cell) = cell.turns
 
--- the open turns of an actor, none where it was never called
+-- the open turns of an actor, none if it was never called
 abbrev pub open_turns : List ℕ → SoloState → List Turn
 open_turns key w = turns_in (cell_at key w.actors)
 

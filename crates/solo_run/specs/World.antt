@@ -30,13 +30,13 @@ pub record Actor : Type 0 where
 pub record SoloState : Type 0 where
   pub depths : List TypeDepth
   pub actors : List Actor  -- in the order of their first calls
-  pub calls : List (Option (List ℕ))  -- for each call so far the key of its actor, none where it was refused
+  pub calls : List (Option (List ℕ))  -- for each call so far the key of its actor, none if it was refused
   pub events : ℕ  -- the events so far
 
 abbrev pub new_state : SoloState
 new_state = record { depths = []; actors = []; calls = []; events = 0 }
 
--- the depth of a type, 0 where reentrancy is off
+-- the depth of a type, 0 if reentrancy is off
 abbrev pub depth_of : List ℕ → List TypeDepth → ℕ
 depth_of kind [] = 0
 depth_of kind (t ∷ ts) = if bytes_eq kind t.kind then t.depth else depth_of kind ts
@@ -58,7 +58,7 @@ put_cell key cell (a ∷ others) = if bytes_eq key a.key then record { key = a.k
 abbrev pub cell_for : List TypeDepth → List ℕ → List Actor → CellState
 cell_for depths key actors = unwrap_or (cell_at key actors) (new_cell (depth_of (before_slash key) depths))
 
--- the key of a call's actor, none where it was refused or never asked; calls count from 1
+-- the key of a call's actor, none if it was refused or never made; calls count from 1
 abbrev pub key_of_call : ℕ → List (Option (List ℕ)) → Option (List ℕ)
 key_of_call call calls = if call == 0 then None else option_and_then (λ key. key) (slice_get calls (call - 1))
 
@@ -66,7 +66,7 @@ key_of_call call calls = if call == 0 then None else option_and_then (λ key. ke
 abbrev pub made_chain : ℕ → List ℕ
 made_chain number = codes "solo.1.0." ++ decimal number
 
--- the chain of a call, made where it brings none; with reentrancy off there is none
+-- the chain of a call, made if it brings none; with reentrancy off there is none
 abbrev pub chain_for : ℕ → ℕ → Option (List ℕ) → Option (List ℕ)
 chain_for depth number chain = if depth == 0 then None else Some (unwrap_or chain (made_chain number))
 
@@ -102,7 +102,7 @@ abbrev pub asked_key : List ℕ → Result Asked CellError → Option (List ℕ)
 asked_key key (Ok answer) = Some key
 asked_key key (Err e) = None
 
--- a call is asked at a cell, where a new chain may always begin
+-- a call is made at a cell, where a new chain may always begin
 abbrev pub ask_at : CellState → ℕ → Option (List ℕ) → AskStep
 ask_at cell number chain = admit_call cell number (chain_for cell.depth number chain) true
 
@@ -160,7 +160,7 @@ abbrev pub at_key : SoloState → (List ℕ → CellState → WorldStep) → Opt
 at_key w step None = unchanged w out.NotThere
 at_key w step (Some key) = at_cell w step key (cell_at key w.actors)
 
--- what is done at the cell of a call; `none` where the call was refused or never asked
+-- what is done at the cell of a call; `NotThere` if the call was refused or never made
 abbrev pub at_call : SoloState → (List ℕ → CellState → WorldStep) → ℕ → WorldStep
 at_call w step call = at_key w step (key_of_call call w.calls)
 
@@ -190,6 +190,6 @@ number_refusal w (Poll call) = None
 number_refusal w (Hold key) = None
 number_refusal w (Release key) = None
 
--- Why an event is refused: the events are spent, which is tested first, or a call's number is wrong.
+-- Why an event is refused: there were 2^62 events, which is tested first, or a call's number is wrong.
 abbrev pub refusal_of : SoloState → SoloEvent → Option WorldError
 refusal_of w event = if w.events == 2 ^ 62 then Some (Spent (2 ^ 62)) else number_refusal w event

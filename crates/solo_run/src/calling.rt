@@ -1,4 +1,4 @@
-// A call asked of an actor: its cell is looked up, or made by its first call.
+// A call of an actor: its cell is looked up, or made by its first call.
 ghost use Rattle.std.specs.Prelude.{◌≡◌, ◌≤◌, ◌++◌, ◌∷◌, [], false, None, Some, length, slice_get, All, IfOk, OnOk, OnErr, is_ok, option_copied};
 ghost use Rattle.turn_core.specs.Cell.{is_in_cell, greatest_depth, new_cell};
 ghost use Rattle.solo_run.specs.Interner.{AreDistinct, place_in};
@@ -12,7 +12,7 @@ use actor_names::{OutOfMemory, key_kind};
 use std::alloc::Global;
 use turn_core::Cell;
 
-/// The call is asked at a new cell, which comes last.
+/// Makes the call at a new cell, which comes last.
 fn ask_first(
     alloc: Global,
     depth: u32,
@@ -49,7 +49,7 @@ fn new_cell(alloc: Global, depth: u32) -> Result<Cell, OutOfMemory>
     }
 }
 
-/// The call is asked of the actor, which may well be at the place `near`; the place of its cell is told.
+/// Makes the call at the actor's cell, which is likely to be at the place `near`; also gives the place of the cell.
 pub(crate) fn ask_actor(
     alloc: Global,
     types: &Types,

@@ -22,7 +22,7 @@ impl Model for Interner {
 }
 
 impl Interner {
-    /// No text.
+    /// An empty interner.
     pub(crate) fn new(alloc: Global) -> Interner
         ensures { result ≡ [] }
     {
@@ -46,7 +46,7 @@ impl Interner {
         self.texts.get_index_of(text)
     }
 
-    /// The same, where the text may well be at `near`.
+    /// The same, if the text is likely to be at `near`.
     pub(crate) fn find_near(&self, text: &[u8], near: usize) -> Option<usize>
         ensures { result ≡ place_in text.now self.now }
     {

@@ -7,12 +7,12 @@ ghost use Rattle.solo_run.specs.World.{TypeDepth, depth_of};
 ghost use Rattle.solo_run.specs.Runs.{solo_run, solo_log, solo_marks};
 ghost use Rattle.solo_run.specs.TurnsTold.{CountsFromOne, NoIdleWaiter, actor_turns, call_turns, numbers_of, open_turns, turns_at, turns_of_log};
 
-/// Whatever the depths and the events are, refused ones among them: the turns of one actor never mix, as the log tells
-/// them, each at the actor and under the chain that the event names which asked its call; those that the log leaves
-/// open are those that the actor has open. The log tells exactly the turns that begin and end in the cells, and none of
-/// them lacks the event that asked its call. No actor that has nothing open leaves a call waiting. Each event of the
-/// log counts, and the calls are numbered 1, 2, 3 and so on. A list's beginnings are lists too, so this holds at every
-/// moment of a run.
+/// Holds for all depths and events, refused events included. As the log reports them, the turns of one actor never
+/// mix; each is at the actor, and under the chain, named by the event that made its call; and the turns that the log
+/// leaves open are those that the actor has open. The log reports exactly the turns that begin and end in the cells,
+/// and for each of them it has the event that made the call. An actor with nothing open leaves no call waiting. The
+/// count of events is the log's length, and the calls are numbered 1, 2, 3 and so on. A prefix of a list is a list
+/// too, so this holds at every moment of a run.
 pub fn solo_law()
     ensures isolated { (depths : List TypeDepth) (events : List SoloEvent) (key : List ℕ) →
         TurnsIsolated (depth_of (before_slash key) depths) (turns_at depths key (solo_log depths events)) }

@@ -1,4 +1,4 @@
-// What no clause says: that there is memory for a few calls where there is ample memory.
+// What no contract says: with ample memory, a few calls don't run out of it.
 use crate::SoloWorld;
 use world_events::{SoloEvent, TurnOutcome, WorldError};
 

@@ -1,4 +1,4 @@
-// What the calls of a cell come to: a call asked with the chain that it carries, the end and the poll of a call.
+// What happens to the calls of a cell: a call with the chain that it carries, and the end and the poll of a call.
 ghost use Rattle.std.specs.Prelude.{◌≡◌, ◌==◌, if◌then◌else◌, true, false, None, Some, IfOk, OnErr, is_ok, unwrap_or, option_copied};
 ghost use Rattle.turn_core.specs.Cell.{is_in_cell, cell_end, cell_poll, without_hold};
 ghost use Rattle.solo_run.specs.World.{made_chain, ask_at, ask_outcome, end_outcome, poll_outcome};
@@ -8,7 +8,7 @@ use std::alloc::Global;
 use turn_core::{Asked, Cell, CellEnd, CellError, CellPoll};
 use world_events::TurnOutcome;
 
-/// What came of a call that was asked.
+/// What came of a call.
 #[derive(Clone, Copy)]
 pub(crate) struct Admission {
     pub(crate) outcome: TurnOutcome,
@@ -17,7 +17,7 @@ pub(crate) struct Admission {
 }
 
 impl Admission {
-    /// The place of the call's actor, none where the call was refused.
+    /// The place of the call's actor, none if the call was refused.
     pub(crate) fn actor(&self, place: u32) -> Option<u32>
         ensures { result ≡ (if self.now.admitted then Some place else None) }
     {
@@ -25,7 +25,7 @@ impl Admission {
     }
 }
 
-/// The identifier in a text. One that can't be made is want of memory: its form was tested when it was read.
+/// The identifier in a text. Any failure means out of memory: the text's form was tested when it was read.
 fn chain_in(alloc: Global, text: &[u8]) -> Result<ChainId, OutOfMemory>
     ensures { IfOk result (λ chain. chain ≡ text.now) }
 {
@@ -35,7 +35,7 @@ fn chain_in(alloc: Global, text: &[u8]) -> Result<ChainId, OutOfMemory>
     }
 }
 
-/// The chain of a call: the one that it brings, or one made of its number.
+/// The chain of a call: the one that it brings, or one made from its number.
 fn chain_of_call(alloc: Global, number: u64, chain: Option<&[u8]>) -> Result<ChainId, OutOfMemory>
     ensures { IfOk result (λ made. made ≡ unwrap_or (option_copied chain.entry) (made_chain number)) }
 {
@@ -94,7 +94,7 @@ pub(crate) fn ask_cell(
     }
 }
 
-/// Ends a call's turn; the first call in the queue begins where the actor is free then.
+/// Ends a call's turn; the first call in the queue begins if the actor is then free.
 pub(crate) fn end_call(cell: &mut Cell, call: u64) -> TurnOutcome
     ensures cell { cell.new ≡ (cell_end cell.old call true).cell }
     ensures outcome { result ≡ end_outcome call (cell_end cell.old call true).answer }
@@ -106,7 +106,7 @@ pub(crate) fn end_call(cell: &mut Cell, call: u64) -> TurnOutcome
     }
 }
 
-/// Tells where a call stands.
+/// What state a call is in.
 pub(crate) fn poll_call(cell: &mut Cell, call: u64) -> TurnOutcome
     ensures cell { cell.new ≡ (cell_poll cell.old call).cell }
     ensures outcome { result ≡ poll_outcome call (cell_poll cell.old call).answer }

@@ -28,7 +28,7 @@ impl Model for Types {
 }
 
 impl Types {
-    /// No type.
+    /// No types.
     pub(crate) fn new(alloc: Global) -> Types
         ensures { result ≡ [] }
     {
@@ -45,7 +45,7 @@ impl Types {
         self.kinds.find(kind).is_some()
     }
 
-    /// The depth of a type, 0 where it has none.
+    /// The depth of a type, 0 if it has none.
     pub(crate) fn depth_of(&self, kind: &[u8]) -> u32
         ensures depth { result ≡ depth_of kind.now self.now }
         ensures shallow { result ≤ greatest_depth }
@@ -56,7 +56,7 @@ impl Types {
         }
     }
 
-    /// Gives a type its depth, of 1 to 1,024.
+    /// Gives a new type its depth, at most 1,024.
     pub(crate) fn add(&mut self, alloc: Global, kind: &[u8], depth: u32) -> Result<(), OutOfMemory>
         requires fresh { has_depth kind.now self.old ≡ false }
         requires shallow { depth ≤ greatest_depth }

@@ -19,11 +19,11 @@ use world_events::{SoloEvent, TurnOutcome, WorldError};
 /// The greatest number of events of a world, 2^62.
 const MOST_EVENTS: u64 = 1 << 62;
 
-/// The greatest place of an actor, which takes four bytes for each call.
+/// The greatest place of an actor. Each call keeps its actor's place, in four bytes.
 const GREATEST_PLACE: usize = u32::MAX as usize;
 
 /// The cells of the actors that were called, and the depths of their types. The place of the actor that was called
-/// last is kept, since its calls often follow each other.
+/// last is kept, since calls of one actor often follow each other.
 #[derive(Drop)]
 pub struct SoloWorld {
     types: Types,
@@ -68,7 +68,7 @@ impl SoloWorld {
         self.types.has(kind)
     }
 
-    /// Turns reentrancy on for a type, with a depth of 1 to 1,024.
+    /// Gives a type a depth of at most 1,024; reentrancy is off at 0.
     pub fn set_depth(&mut self, alloc: Global, kind: &[u8], depth: u32) -> Result<(), OutOfMemory>
         requires fresh { has_depth kind.now self.old.depths ≡ false }
         requires shallow { depth ≤ greatest_depth }
@@ -78,7 +78,7 @@ impl SoloWorld {
         self.types.add(alloc, kind, depth)
     }
 
-    /// What comes of an event, or why it is refused, which changes nothing.
+    /// What comes of an event, or why it is refused; a refusal changes nothing.
     pub fn step(&mut self, alloc: Global, event: SoloEvent<'_>) -> Result<TurnOutcome, WorldError>
         ensures { GivesStep result self.old self.new (event_told event.entry) }
     {
@@ -94,7 +94,7 @@ impl SoloWorld {
         }
     }
 
-    /// A call of an actor, whose number has to be one more than the calls so far.
+    /// A call of an actor; its number has to be one more than the calls so far.
     fn call(
         &mut self,
         alloc: Global,
@@ -141,7 +141,7 @@ impl SoloWorld {
         end_call(&mut self.cells[place], call)
     }
 
-    /// Where a call stands.
+    /// What state a call is in.
     fn poll(&mut self, call: u64) -> TurnOutcome
         requires { self.old.events < 2 ^ 62 }
         ensures { GivesOutcome result self.old self.new (Poll call) }
@@ -166,7 +166,7 @@ impl SoloWorld {
         TurnOutcome::Held
     }
 
-    /// One hold of an actor less.
+    /// One hold of an actor fewer.
     fn release(&mut self, key: &[u8]) -> TurnOutcome
         requires { self.old.events < 2 ^ 62 }
         ensures { GivesOutcome result self.old self.new (Release key.now) }
@@ -179,7 +179,7 @@ impl SoloWorld {
     }
 }
 
-/// The place of a call's actor, none where the call was refused or never asked.
+/// The place of a call's actor, none if the call was refused or never made.
 fn place_of_call(calls: &[Option<u32>], call: u64) -> Option<usize>
     ensures { result ≡ place_of_call call calls.now }
 {

@@ -1,14 +1,14 @@
 // What a machine is, and whom its replies concern.
 
-/// Which waiting calls a reply may be news for. A gate wakes these; a call that is not woken polls again by itself,
+/// Which waiting calls a reply may be news for. A gate wakes these calls. A call that isn't woken polls again by itself
 /// some milliseconds later.
 #[derive(Clone, Copy, Debug, PartialEq, Eq)]
 pub enum News {
-    /// No call that waits would be answered otherwise than before.
+    /// No waiting call is ready now that wasn't ready before.
     Nobody,
     /// The calls that poll with events of this topic.
     Topic(u64),
-    /// Any call that waits.
+    /// Any waiting call.
     Everybody,
 }
 
@@ -20,20 +20,20 @@ pub trait Machine {
     /// What it answers.
     type Reply: Drop;
 
-    /// Which events it takes: those that meet the conditions of its calls. What a step needs of the value itself is
-    /// kept by the machine's type.
+    /// Which events it takes: those that meet the conditions of its calls. What a step needs of the value itself is an
+    /// invariant of the machine's type.
     ghost takes: { Self.Event → Type 0 };
 
-    /// Which replies and following values its step allows: of the value before, the event, the reply and the value
-    /// after.
+    /// Which replies and following values its step allows, as a relation of the value before, the event, the reply and
+    /// the value after.
     ghost moves: { Self → Self.Event → Self.Reply → Self → Type 0 };
 
-    /// One step. It waits for nobody.
+    /// Makes one step, without waiting.
     fn step(&mut self, event: Self::Event) -> Self::Reply
         requires { takes event }
         ensures { moves self.old event result self.new };
 
-    /// What a call waits for that polls with this event. Topics only spare wake-ups: no contract speaks of them.
+    /// What a call that polls with this event waits for. Topics only save wake-ups: no contract speaks of them.
     fn topic(_event: &Self::Event) -> u64 {
         0
     }

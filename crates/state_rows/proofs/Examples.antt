@@ -29,7 +29,7 @@ operations_apply_in_order : after_ops cart 5 (Upsert a (1 ∷ []) None ∷ Delet
 unfolding one_left cart a b
 operations_apply_in_order = refl
 
--- another actor's entry of that key stays, and comes after
+-- another actor's entry of the same key stays, and comes after
 other_actor_keeps_its_key : after_ops cart 5 (Upsert b (2 ∷ []) None ∷ []) (after_ops other 5 (Upsert b (3 ∷ []) None ∷ []) []) ≡ new_entry cart 5 b (2 ∷ []) None ∷ new_entry other 5 b (3 ∷ []) None ∷ []
 unfolding cart other b
 other_actor_keeps_its_key = refl

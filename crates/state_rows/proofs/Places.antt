@@ -1,4 +1,4 @@
--- Entries in order are cut by each actor and key, and stay in order.
+-- Each actor and key cuts entries that are in order into those before and those after it; entries stay in order.
 use Rattle.std.proofs.Common.{ℕ, List, [], None}
 use Rattle.actor_names.specs.declared.actor_key.ActorKey.{ActorKey}
 use Rattle.search_tree.specs.Cuts.{IsCut}

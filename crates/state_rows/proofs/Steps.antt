@@ -1,4 +1,4 @@
--- One step more is made after the others.
+-- One more step after the others.
 use Rattle.std.proofs.Common.{◌≡◌, List, [], ◌∷◌, ◌++◌, refl}
 use Rattle.actor_names.specs.declared.actor_key.ActorKey.{ActorKey}
 use Rattle.state_rows.specs.declared.entry.StateEntry.{StateEntry}

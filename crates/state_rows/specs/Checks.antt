@@ -5,7 +5,7 @@ use Rattle.state_rows.specs.declared.op.StateOp.TheVariants.{Upsert, Delete}
 use Rattle.state_rows.specs.declared.error.StateError.{StateError}
 use Rattle.state_rows.specs.declared.error.StateError.TheVariants.{TooManyOps, KeyTooLong, ValueTooLong, OutOfMemory}
 
--- a key of no byte, or of more than 256
+-- a key of no bytes, or of more than 256
 abbrev pub key_fault : ℕ → List ℕ → Option StateError
 key_fault op key = if (length key == 0) || nat_lt 256 (length key) then Some (KeyTooLong op (length key)) else None
 
@@ -18,12 +18,12 @@ abbrev pub first_of : Option StateError → Option StateError → Option StateEr
 first_of None later = later
 first_of (Some e) later = Some e
 
--- the key comes first
+-- the fault of the key comes before that of the value
 abbrev pub op_fault : ℕ → StateOp → Option StateError
 op_fault op (Upsert key value ttl) = first_of (key_fault op key) (value_fault op value)
 op_fault op (Delete key) = key_fault op key
 
--- the fault of the first operation at fault, where the first one is that of this number
+-- the fault of the first operation at fault, if the first operation has this number
 abbrev pub first_fault : ℕ → List StateOp → Option StateError
 first_fault op [] = None
 first_fault op (o ∷ os) = first_of (op_fault op o) (first_fault (suc op) os)
@@ -32,7 +32,7 @@ first_fault op (o ∷ os) = first_of (op_fault op o) (first_fault (suc op) os)
 abbrev pub ops_fault : List StateOp → Option StateError
 ops_fault ops = if nat_lt 1000 (length ops) then Some (TooManyOps (length ops)) else first_fault 0 ops
 
--- the error of a call that has one: that of the rules, and without one want of memory
+-- the error of a call that failed: that of the rules, or OutOfMemory if they have none
 abbrev pub or_memory : Option StateError → StateError
 or_memory None = OutOfMemory
 or_memory (Some e) = e

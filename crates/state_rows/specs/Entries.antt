@@ -1,4 +1,4 @@
--- The entries of actors in order of actor and key, and what a transaction makes of them. Own; the operations follow
+-- The entries of actors in order of actor and key, and how a transaction changes them. Own; the operations follow
 -- the state transactions of Dapr's actors.
 use Rattle.std.specs.Prelude.{ℕ, ◌+◌, ◌*◌, Bool, false, nat_le, if◌then◌else◌, List, [], ◌∷◌, Option, None, Some, option_map}
 use Rattle.std.specs.declared.cmp.Ordering.{Ordering}
@@ -22,7 +22,7 @@ place_cmp actor key other other_key = ordering_then (actor_cmp actor other) (sli
 abbrev pub row_cmp : StateEntry → StateEntry → Ordering
 row_cmp a b = place_cmp a.actor a.key b.actor b.key
 
--- where an entry stands beside an actor and a key
+-- how an entry compares with an actor and a key
 abbrev pub at_row : ActorKey → List ℕ → StateEntry → Ordering
 at_row actor key e = place_cmp e.actor e.key actor key
 
@@ -32,7 +32,7 @@ entry_at actor key rows = found (at_row actor key) rows
 
 -- ---- what is read
 
--- at or past the moment from which it is absent
+-- now is at or past the moment from which on it is absent
 abbrev pub is_over : ℕ → Option ℕ → Bool
 is_over now None = false
 is_over now (Some absent) = nat_le absent now
@@ -47,7 +47,7 @@ value_at actor key now rows = value_by now (entry_at actor key rows)
 
 -- ---- what operations leave
 
--- a moment in milliseconds, so many seconds later
+-- the moment that many seconds later, in milliseconds
 abbrev pub absent_from : ℕ → Option ℕ → Option ℕ
 absent_from now ttl = option_map (λ seconds. now + seconds * 1000) ttl
 

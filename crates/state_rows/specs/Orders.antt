@@ -1,4 +1,4 @@
--- The order of entries is a total one.
+-- The order of entries is total.
 use Rattle.std.specs.Cmp.{IsTotalOrder}
 use Rattle.std.proofs.lemmas.Cmp.{nat_list_cmp_total, on_total, then_total}
 use Rattle.actor_names.specs.contracts.actor_key.ActorKeyOrd.TheImpl.Laws as actor_laws

@@ -1,4 +1,4 @@
-// Why operations are refused, want of memory aside.
+// Why operations are refused, apart from running out of memory.
 ghost use Rattle.std.specs.Prelude.{◌≡◌, ◌≤◌, length};
 ghost use Rattle.state_rows.specs.Checks.{key_fault, value_fault, op_fault, first_fault, ops_fault};
 
@@ -65,7 +65,7 @@ fn first_fault(ops: &[StateOp]) -> Option<StateError>
     None
 }
 
-/// Why the operations are refused; None where they aren't.
+/// Why the operations are refused; `None` if they aren't.
 pub(crate) fn ops_fault(ops: &[StateOp]) -> Option<StateError>
     ensures { result ≡ ops_fault ops.now }
 {

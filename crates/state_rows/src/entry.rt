@@ -11,6 +11,6 @@ pub struct StateEntry {
     pub key: StateKey,
     /// The value.
     pub value: StateValue,
-    /// The moment from which the entry is absent, in milliseconds since 1970; without it it stays.
+    /// The moment from which on the entry is absent, in milliseconds since 1970; without it the entry stays.
     pub absent: Option<u64>,
 }

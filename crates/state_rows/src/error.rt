@@ -2,8 +2,8 @@
 use actor_names::OutOfMemory;
 use thiserror::Error;
 
-/// Why a transaction is refused: its length first, then its first operation at fault, of which the key comes first.
-/// `op` counts from 0.
+/// Why a transaction is refused. Its length is tested first, and then each operation, its key before its value; the
+/// first fault counts. `op` is the index of the operation, counted from 0.
 #[derive(Clone, Copy, Debug, PartialEq, Eq, Error)]
 pub enum StateError {
     /// There are `n` operations, more than 1,000.

@@ -9,8 +9,8 @@ ghost use Rattle.state_rows.specs.Entries.{place_cmp, row_cmp, at_row, entry_at}
 
 use crate::rows::StateRows;
 
-/// The entries are in order, each actor and key once, so they are a map. An entry that is put is found under its actor
-/// and key, one that is removed is not, and every other one is as before.
+/// The entries are in order, with each actor and key once, so they are a map. An entry that is put is found under its
+/// actor and key, one that is removed isn't found, and every other one is as before.
 pub fn state_law(rows: &StateRows)
     ensures order { Ascends row_cmp rows.now }
     ensures put { (e : StateEntry) (es : List StateEntry) → entry_at e.actor e.key (with_put row_cmp e es) ≡ Some e }

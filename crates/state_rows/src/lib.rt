@@ -1,8 +1,8 @@
 // The state of actors: values under keys, and transactions on them.
 //
-// Promise: the entries are a list in order of actor and key, each once. `prepare` takes all the memory of a
-// transaction, and `apply` then makes its operations one after another (`specs/Entries`), which can't fail. Stands on
-// `search_tree` and `actor_names`.
+// Promise: the entries are a list in order of actor and key, each once. `prepare` takes all the memory that a
+// transaction needs, and `apply` then makes its operations one after another (`specs/Entries`), which can't fail. It
+// depends on `search_tree` and `actor_names`.
 #![tactic(auto)]
 
 mod check;

@@ -4,13 +4,14 @@ use crate::text::{StateKey, StateValue};
 /// An operation on the entries of one actor.
 #[derive(Debug, Drop)]
 pub enum StateOp {
-    /// The entry of the key has this value. With `ttl` it is absent again so many seconds after the transaction.
+    /// Sets the entry of the key to this value. With a `ttl`, the entry is absent again that many seconds after the
+    /// transaction.
     Upsert {
         key: StateKey,
         value: StateValue,
         ttl: Option<u32>,
     },
-    /// There is no entry of the key.
+    /// Removes the entry of the key, if there is one.
     Delete {
         key: StateKey,
     },

@@ -1,4 +1,4 @@
-// A transaction with all its memory taken.
+// A transaction that has all the memory it needs.
 ghost use Rattle.std.specs.Prelude.{◌≡◌, ◌<◌, List, IfOk};
 ghost use Rattle.search_tree.specs.Orders.{Ascends};
 ghost use Rattle.state_rows.specs.declared.entry.StateEntry.{StateEntry};
@@ -13,23 +13,23 @@ use actor_names::{ActorKey, OutOfMemory};
 use search_tree::{Node, Tree, leaf};
 use std::alloc::Global;
 
-// One change, for which no memory is wanting any more.
+// One change, which has all the memory it needs.
 #[derive(Drop)]
 pub(crate) enum Step {
-    // The entry in this node is put in its place.
+    // Puts the entry in this node in its place.
     Put(Box<Node<StateEntry>>),
-    // The actor's entry of this key goes.
+    // Removes the actor's entry of this key.
     Remove(StateKey),
 }
 
-/// A transaction that was checked and has its memory. `after_tx` says to which entries it leads.
+/// A transaction that was checked and has its memory. `after_tx` gives the entries after it.
 #[derive(Drop)]
 pub struct PreparedTx {
     actor: ActorKey,
     steps: Vec<Step>,
 }
 
-// The moment from which an entry is absent that is set now.
+// The moment from which on an entry that is set at `now` is absent, in milliseconds.
 fn absent_from(now: u64, ttl: Option<u32>) -> Option<u64>
     requires { now < 253370764800000 }
     ensures { result ≡ absent_from now ttl }
@@ -63,7 +63,7 @@ fn step_of(alloc: Global, actor: &ActorKey, op: StateOp, now: u64) -> Result<Ste
     }
 }
 
-/// The transaction of these operations, whatever the entries are.
+/// The transaction of these operations; it holds for any entries.
 pub(crate) fn prepared(
     alloc: Global,
     actor: &ActorKey,
@@ -82,7 +82,7 @@ pub(crate) fn prepared(
     Ok(PreparedTx { actor, steps })
 }
 
-// Makes one change; takes no memory.
+// Makes one change. It takes no memory.
 fn make_step(tree: &mut Tree<StateEntry>, actor: &ActorKey, step: Step)
     requires { Ascends row_cmp tree.old }
     ensures rows { tree.new ≡ after_step actor.now step tree.old }
@@ -99,7 +99,7 @@ fn make_step(tree: &mut Tree<StateEntry>, actor: &ActorKey, step: Step)
     }
 }
 
-/// Makes the changes one after another; takes no memory.
+/// Makes the changes one after another. It takes no memory.
 pub(crate) fn make(tree: &mut Tree<StateEntry>, tx: PreparedTx)
     requires { Ascends row_cmp tree.old }
     ensures rows { tree.new ≡ after_tx tx tree.old }

@@ -38,7 +38,7 @@ impl Model for StateRows {
 }
 
 impl StateRows {
-    /// No entry; takes no memory.
+    /// An empty collection of entries. It takes no memory.
     pub fn new(alloc: Global) -> StateRows
         ensures { result ≡ [] }
     {
@@ -48,16 +48,16 @@ impl StateRows {
         }
     }
 
-    // The entries are in order, each actor and key once.
+    // The entries are in order, with each actor and key once.
     pub(crate) fn in_order(&self)
         ensures { Ascends row_cmp self.now }
     {
         let _tree = &self.tree;
     }
 
-    /// Why a transaction of these operations is refused, want of memory aside: above 1,000 operations `TooManyOps`;
-    /// then the first operation at fault, `KeyTooLong` for a key of no byte or more than 256, or `ValueTooLong` for a
-    /// value of more than 4,194,304. Takes no memory.
+    /// Why a transaction of these operations is refused, apart from running out of memory: `TooManyOps` for more than
+    /// 1,000 operations; then, for the first operation at fault, `KeyTooLong` for a key of no bytes or more than 256,
+    /// or `ValueTooLong` for a value of more than 4,194,304 bytes. It takes no memory.
     pub fn check(ops: &[StateOp]) -> Result<(), StateError>
         ensures ok { IfOk result (λ _. ops_fault ops.now ≡ None) }
         ensures refused { IfErr result (λ e. ops_fault ops.now ≡ Some e) }
@@ -68,8 +68,8 @@ impl StateRows {
         }
     }
 
-    /// Takes all the memory that a transaction at `now`, milliseconds since 1970, needs, and leaves the entries as
-    /// they are. It is refused as `check` says, and then `OutOfMemory`.
+    /// Takes all the memory that a transaction at `now`, in milliseconds since 1970, needs, and leaves the entries as
+    /// they are. It is refused as `check` says; if `check` accepts the operations, the only error is `OutOfMemory`.
     pub fn prepare(
         &mut self,
         actor: &ActorKey,
@@ -89,15 +89,15 @@ impl StateRows {
         Ok(tx)
     }
 
-    /// Makes the changes of a prepared transaction, all of them in their order. Takes no memory and can't fail.
+    /// Makes all changes of a prepared transaction, in their order. It takes no memory and can't fail.
     pub fn apply(&mut self, tx: PreparedTx)
         ensures { self.new ≡ after_tx tx self.old }
     {
         make(&mut self.tree, tx);
     }
 
-    /// The value of the actor's key at `now`, milliseconds since 1970. None exactly where there is no entry, or `now`
-    /// is at or past the moment from which it is absent. Takes no memory.
+    /// The value of the actor's key at `now`, in milliseconds since 1970. `None` exactly if there is no entry, or `now`
+    /// is at or past the moment from which on it is absent. It takes no memory.
     pub fn get(&self, actor: &ActorKey, key: &str, now: u64) -> Option<&[u8]>
         ensures { option_copied result ≡ value_at actor.now key.now now self.now }
     {

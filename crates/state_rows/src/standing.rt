@@ -1,4 +1,4 @@
-// How entries stand in a search tree: in order of actor, then key.
+// How entries are ordered in a search tree: by actor, then by key.
 ghost use Rattle.std.specs.Prelude.{◌≡◌, refl, None};
 ghost use Rattle.state_rows.specs.Entries.{row_cmp, at_row};
 ghost use Rattle.state_rows.specs.Orders.{rows_total};
@@ -8,7 +8,7 @@ use actor_names::ActorKey;
 use search_tree::{Element, Probe};
 use std::cmp::Ordering;
 
-// Where an entry stands beside this actor and key.
+// How an entry compares with this actor and key.
 fn entry_cmp(entry: &StateEntry, actor: &ActorKey, key: &str) -> Ordering
     ensures { result ≡ at_row actor.now key.now entry.now }
 {

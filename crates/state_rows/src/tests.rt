@@ -1,4 +1,4 @@
-// Worked transactions from outside, and that the calls that may want memory succeed with ample memory.
+// Worked transactions from outside. The calls that may run out of memory succeed with ample memory.
 use super::*;
 use actor_names::read_key;
 use std::alloc::Global;
@@ -22,12 +22,12 @@ fn delete(alloc: Global, text: &str) -> Result<StateOp, Fail> {
     })
 }
 
-// So many bytes.
+// `n` bytes.
 fn bytes(alloc: Global, n: usize) -> Result<Vec<u8>, Fail> {
     Ok(vec![in alloc; 97u8; n]?)
 }
 
-// An upsert of a key and a value of so many bytes.
+// An upsert whose key and value have these numbers of bytes.
 fn sized(alloc: Global, key_bytes: usize, value_bytes: usize) -> Result<StateOp, Fail> {
     let text = String::from_utf8(bytes(alloc, key_bytes)?)
         .ok()

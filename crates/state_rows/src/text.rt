@@ -20,7 +20,7 @@ impl Model for StateKey {
 }
 
 impl StateKey {
-    /// The key of a string; takes no memory.
+    /// The key that this string is. It takes no memory.
     pub fn from_string(text: String) -> StateKey
         ensures { result ≡ string_bytes text }
     {
@@ -34,7 +34,7 @@ impl StateKey {
         self.text.as_str()
     }
 
-    /// The string; takes no memory.
+    /// The string. It takes no memory.
     pub fn into_string(self) -> String
         ensures { string_bytes result ≡ self }
     {
@@ -58,7 +58,7 @@ impl Model for StateValue {
 }
 
 impl StateValue {
-    /// The value of a vector; takes no memory.
+    /// The value with the bytes of this vector. It takes no memory.
     pub fn from_vec(bytes: Vec<u8>) -> StateValue
         ensures { result ≡ bytes.items }
     {
@@ -72,7 +72,7 @@ impl StateValue {
         self.bytes.as_slice()
     }
 
-    /// The vector; takes no memory.
+    /// The vector. It takes no memory.
     pub fn into_vec(self) -> Vec<u8>
         ensures { result.items ≡ self }
     {

@@ -1,4 +1,4 @@
--- Worked examples of histories. A counter answers each event by its new count.
+-- Worked examples of histories. A counter answers each event with its new count.
 use Rattle.std.proofs.Common.{◌≡◌, ℕ, ◌+◌, List, [], ◌∷◌, refl}
 use Rattle.step_gate.specs.declared.view.HistoryEntry.{HistoryEntry}
 use Rattle.step_gate.specs.History.{HistoryLeadsTo, entry, made, made_by, longer, shorter}
@@ -6,7 +6,7 @@ use Rattle.step_gate.specs.History.{HistoryLeadsTo, entry, made, made_by, longer
 counts : ℕ → ℕ → ℕ → ℕ → Type 0
 counts old event reply new = (new ≡ old + event) × (reply ≡ new)
 
--- two seats, by turns
+-- two seats that take turns
 both : List (HistoryEntry ℕ ℕ)
 both = entry 0 5 5 ∷ entry 1 1 6 ∷ entry 0 2 8 ∷ []
 
@@ -24,7 +24,7 @@ second : made_by 1 both ≡ made 1 (entry 1 1 6) ∷ []
 unfolding both
 second = refl
 
--- of two lists the longer, and the first where they are equally long
+-- the longer of two lists, or the first if they are equally long
 longer_of_two : longer {A = ℕ} (1 ∷ []) (1 ∷ 2 ∷ []) ≡ 1 ∷ 2 ∷ []
 longer_of_two = refl
 

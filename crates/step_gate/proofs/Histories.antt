@@ -11,7 +11,7 @@ module _ {S E R : Type 0} (moves : S → E → R → S → Type 0) where
   leads_snoc a [] b e c l m = let first : moves a e.event e.reply c = subst (λ (z : S). moves z e.event e.reply c) (sym l) m in (c, first, refl)
   leads_snoc a (x ∷ xs) b e c l m = (l.0, l.1, leads_snoc l.0 xs b e c l.2 m)
 
-  -- a beginning of a legal history is legal
+  -- a prefix of a legal history is legal
   pub legal_front : (a : S) (es fs : List (HistoryEntry E R)) (b : S) → HistoryLeadsTo moves a (es ++ fs) b → LegalHistory moves a es
   legal_front a [] fs b l = (a, refl)
   legal_front a (x ∷ xs) fs b l = let r = legal_front l.0 xs fs b l.2 in (r.0, (l.0, l.1, r.1))
@@ -41,7 +41,7 @@ module _ {E R : Type 0} where
   pub made_own : (by : ℕ) (xs : List (HistoryEntry E R)) (e : HistoryEntry E R) → e.by ≡ by → made_by by (xs ++ e ∷ []) ≡ made_by by xs ++ made (length xs) e ∷ []
   made_own by xs e h = made_append by 0 xs (e ∷ []) ∙ ap (λ (z : List (Made E R)). made_by by xs ++ z) (made_hit by (0 + length xs) e [] h ∙ ap (λ (k : ℕ). made k e ∷ []) (omega arith))
 
-  -- an entry of another seat changes nothing
+  -- an entry of another seat adds nothing to them
   pub made_else : (by : ℕ) (xs : List (HistoryEntry E R)) (e : HistoryEntry E R) → e.by ≢ by → made_by by (xs ++ e ∷ []) ≡ made_by by xs
   made_else by xs e h = made_append by 0 xs (e ∷ []) ∙ (ap (λ (z : List (Made E R)). made_by by xs ++ z) (made_miss by (0 + length xs) e [] h) ∙ append-nil (made_by by xs))
 
@@ -55,7 +55,7 @@ module _ {A : Type 0} where
   front_nil (x ∷ xs) ys e = absurd (cc e)
 
 module _ {E R : Type 0} where
-  -- where a beginning has all of a seat's entries, each longer beginning has them too
+  -- if a prefix has all of a seat's entries, each longer prefix has the same ones
   pub made_between : (by : ℕ) (xs ys zs : List (HistoryEntry E R)) → IsPrefix xs ys → IsPrefix ys zs → made_by by xs ≡ made_by by zs → made_by by ys ≡ made_by by xs
   made_between by xs ys zs p q e =
       let a : List (Made E R) = made_from by (0 + length xs) p.0 in
@@ -66,6 +66,6 @@ module _ {E R : Type 0} where
       let none : a ≡ [] = front_nil a b (append_same (made_by by xs) (a ++ b) whole) in
       one ∙ (ap (λ (z : List (Made E R)). made_by by xs ++ z) none ∙ append-nil (made_by by xs))
 
-  -- a seat that has no entry in the whole has none in a beginning
+  -- a seat that has no entry in the whole has none in a prefix
   pub made_none : (by : ℕ) (xs ys : List (HistoryEntry E R)) → IsPrefix xs ys → made_by by ys ≡ [] → made_by by xs ≡ []
   made_none by xs ys p e = front_nil (made_by by xs) (made_from by (0 + length xs) p.0) (sym (made_append by 0 xs p.0) ∙ (ap (made_by by) p.1 ∙ e))

@@ -145,7 +145,7 @@ module _ {S E R : Type 0} (moves : S → E → R → S → Type 0) (opening : S)
   opened : (v : V) (z : S) → v.opening ≡ Some opening → v.opening ≡ Some z → opening ≡ z
   opened v z p q = cc (p, q)
 
-  -- what another seat knows, where an entry of this one comes to the history
+  -- what another seat knows, if an entry of this one is added to the history
   fits_more : (log : List (HistoryEntry E R)) (e : HistoryEntry E R) (by : ℕ) (v : V) → by ≢ e.by → Fits opening log by v → Fits opening (log ++ e ∷ []) by v
   fits_more log e by v other f = record {
     from = f.from;
@@ -242,7 +242,7 @@ module _ {S E R : Type 0} (moves : S → E → R → S → Type 0) (opening : S)
         ),
       )
 
-  -- a seat that has the turn keeps it for good, and the value goes home
+  -- a seat that has the turn keeps it for good, and the value goes back into its slot
   pub closes : (slots id : ℕ) (v : V) (x : S) (at : ℕ) → 0 < slots → v.live ≡ true → v.turn ≡ Has at x → at % 2 ≡ 1
       → Allows Rule slots id (v, (0, x) ∷ []) 0 (λ _. at) (λ _. closed moves (step slots 0 at 0 m.none) (v, (0, x) ∷ []) at)
   closes slots id v x at some_slot live has odd s r wide here small =
@@ -354,7 +354,7 @@ module _ {S E R : Type 0} (moves : S → E → R → S → Type 0) (opening : S)
         fresh = λ by le. let a = length-set (set s.views id (both v w)) other ended in let b = length-set s.views id (both v w) in r.fresh by (omega arith);
       }
 
-  -- what the closed table gives back is where a history leads that begins with what the last seat has seen
+  -- the closed table gives back the value to which some history leads that begins with what the last seat has seen
   pub ends : (id : ℕ) (v : V) (ws : List ℕ) (xs : List S) (x : S) → v.live ≡ true → v.turn ≡ Shut → Final (Seen Rule id v) ws xs → get_elem? xs 0 ≡ m.some x → (h : List (HistoryEntry E R)) × IsPrefix v.seen h × HistoryLeadsTo moves opening h x
   ends id v ws xs x live shut (s, (r, here), words, len, values) at =
       let mine = r.seats id v here live in

@@ -1,4 +1,4 @@
--- What the clauses of a gate say: which seats are of it, and what a call did to a seat. Own.
+-- What the contracts of a gate say: which seats belong to it, and what a call did to a seat. Own.
 use Rattle.std.specs.Prelude.{◌≡◌, ℕ, ◌^◌, ◌≤◌, true, List, [], ◌∷◌, ◌++◌, length, Some}
 use mathlib.Core.List.{IsPrefix}
 use Rattle.atomic_table.specs.Seated.{TableId}
@@ -10,7 +10,7 @@ use Rattle.step_gate.specs.declared.view.View.{View}
 use Rattle.step_gate.specs.declared.view.Turn.TheVariants.{Idle}
 use Rattle.step_gate.specs.History.{LegalHistory, entry, made, made_by}
 
--- the seats of a gate of that machine, with these events and replies
+-- the seats of a gate of machine S, with events E and replies R
 abbrev pub SeatOf : Type 0 → Type 0 → Type 0 → Type 0
 SeatOf S E R = Seat S (View S E R)
 
@@ -47,7 +47,7 @@ module _ {S E R : Type 0} where
     pub legal : LegalHistory moves (opening_of gate) (seen_of seat)
     pub own : made_by (number_of seat) (seen_of seat) ≡ mine_of seat
 
-  -- these entries came to the seat's own, in that order
+  -- these entries were added to the seat's own, in this order
   pub record Grows (es : List (Made E R)) (before after : Seat S (View S E R)) : Type 0 where
     pub mine : mine_of after ≡ mine_of before ++ es
     pub seen : IsPrefix (seen_of before) (seen_of after)
@@ -59,7 +59,7 @@ module _ {S E R : Type 0} where
     pub seen : IsPrefix (seen_of before) (seen_of after)
     pub number : number_of after ≡ number_of before
 
-  -- the seat has seen the history to its end, to which its one new entry came
+  -- the seat has seen the history to its end, where its one new entry was added
   pub record Adds (event : E) (reply : R) (before after : Seat S (View S E R)) : Type 0 where
     pub between : List (HistoryEntry E R)
     pub seen : seen_of after ≡ (seen_of before ++ between) ++ entry (number_of before) event reply ∷ []

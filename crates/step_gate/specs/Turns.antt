@@ -6,7 +6,7 @@ use Rattle.step_gate.specs.declared.view.View.{View}
 use Rattle.step_gate.specs.declared.view.Turn.TheVariants.{Has}
 use Rattle.step_gate.specs.Kept.{holding}
 
--- the seat has the turn, with the value that it found, and knows what it knew
+-- the seat has the turn, with the value that it found, and still knows what it knew
 pub record Takes {S E R : Type 0} (id : TableId) (at : ℕ) (before : View S E R) (seat : Seat S (View S E R)) : Type 0 where
   pub found : S
   pub table : seat.table_id ≡ id

@@ -1,4 +1,4 @@
-// How those rest that wait, and how they are woken. No contract speaks of it, and every rest ends by itself.
+// How waiting calls sleep, and how they are woken. No contract speaks of it, and every sleep ends by itself.
 use state_machine::News;
 use std::alloc::{AllocError, Global};
 use std::sync::Wait;
@@ -8,10 +8,10 @@ use std::time::Duration;
 /// How many bells a gate has. Topics share them.
 const BELLS: usize = 64;
 
-/// How often the longest rest of a waiting call doubles, from one millisecond.
+/// How often the longest sleep of a waiting call doubles, from one millisecond.
 const DOUBLINGS: u32 = 5;
 
-/// What calls wait at that poll for topics of one number, modulo the number of bells.
+/// What calls wait at. Calls share a bell if they poll for topics that are equal modulo the number of bells.
 #[derive(Drop)]
 struct Bell {
     /// How often it was rung.
@@ -28,7 +28,7 @@ impl Bell {
         }
     }
 
-    // Wakes those who listen. A listener that counted itself in too late to be seen here polls after the step.
+    // Wakes the calls that listen. A listener that counted itself in too late to be seen here polls after the step.
     fn ring(&self) {
         if self.listeners.load(Ordering::SeqCst) > 0 {
             self.rung.fetch_add(1, Ordering::SeqCst);
@@ -37,14 +37,14 @@ impl Bell {
     }
 }
 
-/// What a call listens to: a topic, and how often its bell had rung before the poll. It can't be let go: who listens
-/// has to leave.
+/// What a call listens to: a topic, and how often its bell had rung before the poll. It can't be dropped: a call that
+/// listens has to `leave`.
 pub(crate) struct Heard {
     topic: u64,
     rung: u64,
 }
 
-/// The bells of a gate, and those who wait for its turn.
+/// The bells of a gate, and how many calls wait for news or for the turn.
 #[derive(Drop)]
 pub(crate) struct Bells {
     bells: Vec<Bell>,
@@ -71,7 +71,7 @@ impl Bells {
         self.bells.get((topic % BELLS as u64) as usize)
     }
 
-    /// The caller is to poll, and listens from before its poll on, so no news is missed.
+    /// The caller is about to poll. It listens from before its poll on, so that it misses no news.
     pub(crate) fn listen(&self, topic: u64) -> Heard {
         self.listeners.fetch_add(1, Ordering::SeqCst);
         match self.bell(topic) {
@@ -84,7 +84,7 @@ impl Bells {
         }
     }
 
-    /// Sleeps until the bell rings, for a time that grows with the tries to 32 milliseconds at most.
+    /// Sleeps until the bell rings, for at most a time that grows with the tries, up to 32 milliseconds.
     pub(crate) fn rest<R: Wait>(&self, rt: &R, heard: &Heard, tries: u32) {
         if let Some(bell) = self.bell(heard.topic) {
             let longest = Duration::from_millis(1 << tries.min(DOUBLINGS));
@@ -102,7 +102,7 @@ impl Bells {
         }
     }
 
-    /// A step was made whose reply is this news.
+    /// A step was made, and its reply is this news.
     pub(crate) fn ring(&self, news: News) {
         if self.listeners.load(Ordering::SeqCst) == 0 {
             return;

@@ -1,4 +1,4 @@
-// Steps at a gate: one, or as many as it takes until a reply is the one that is waited for.
+// Steps at a gate: one, or as many as it takes until the awaited reply comes.
 ghost use Rattle.std.specs.Prelude.{◌≡◌, ◌^◌, [], ◌∷◌, List, length, IfOk, IfErr};
 ghost use Rattle.std.specs.Fn.{FnReturnsAt};
 ghost use Rattle.step_gate.specs.declared.view.Made.{Made};
@@ -23,7 +23,7 @@ impl<M: Machine> Gate<M> {
         seat.slot_mut(&self.table.shared, 0).step(event)
     }
 
-    // Makes one step, and wakes nobody that waits for its reply.
+    // Makes one step, but wakes none of the calls that its reply is news for.
     fn make_step<R: Wait>(
         &self,
         rt: &R,
@@ -47,7 +47,7 @@ impl<M: Machine> Gate<M> {
         Ok(reply)
     }
 
-    /// As `call`, with a seat that stays in its place.
+    /// The same as `call`, with a seat that stays in its place.
     pub fn call_in<R: Wait>(
         &self,
         rt: &R,
@@ -65,8 +65,8 @@ impl<M: Machine> Gate<M> {
         Ok(reply)
     }
 
-    /// Waits until no other seat has the turn, and makes one step. What the seat then has seen ends with this step.
-    /// `Spent` comes exactly where the history has 2^62 entries; then nothing happened.
+    /// Waits until no other seat has the turn, and makes one step. What the seat has then seen ends with this step.
+    /// `Spent` comes exactly if the history has 2^62 entries; then no step was made.
     pub fn call<R: Wait>(
         &self,
         rt: &R,
@@ -83,8 +83,9 @@ impl<M: Machine> Gate<M> {
         (seat, reply)
     }
 
-    /// Makes steps with events of `make` until a reply is `done`. Between two of them it has given up the turn and
-    /// sleeps, until a reply of another call is news for it, or some milliseconds have passed.
+    /// Makes steps with events from `make` until `done` is true of a reply, and returns that reply. Between two steps
+    /// it has given up the turn and sleeps until a reply to another call is news for it, or some milliseconds have
+    /// passed. `Spent` comes if the history has 2^62 entries before that.
     pub fn wait_until<R: Wait, E: Fn() -> M::Event, F: Fn(&M::Reply) -> bool>(
         &self,
         rt: &R,

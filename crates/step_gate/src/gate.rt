@@ -10,7 +10,7 @@ use std::alloc::Global;
 use std::snapshot::Snapshot;
 use thiserror::Error;
 
-/// No step is left: the history has 2^62 entries.
+/// No further step can be made: the history has 2^62 entries.
 #[derive(Clone, Copy, Debug, PartialEq, Eq, Error)]
 #[error("{count} steps were made, and no more can be")]
 pub struct Spent {
@@ -18,7 +18,7 @@ pub struct Spent {
     pub count: u64,
 }
 
-/// What is true of a gate whoever has the turn: there is one legal history, and each seat knows a front of it.
+/// What is true of a gate, whoever has the turn: there is one legal history, and each seat knows a prefix of it.
 pub struct OneHistory;
 
 impl<M: Machine> TableRule<M, View<M, M::Event, M::Reply>, Snapshot<M>> for OneHistory {
@@ -29,8 +29,8 @@ impl<M: Machine> TableRule<M, View<M, M::Event, M::Reply>, Snapshot<M>> for OneH
     ghost first = { λ key. newcomer key.value };
 }
 
-/// What one caller knows of a gate, and the leave to step there. It has no bytes. Threads don't share one: each has a
-/// seat of its own, from `split`.
+/// What one caller knows about a gate, and its permission to step there. It has no bytes. Threads don't share a seat:
+/// each has its own, from `split`.
 pub type Seat<M> = atomic_table::Seat<M, View<M, <M as Machine>::Event, <M as Machine>::Reply>>;
 
 /// A machine behind a lock. Threads share it by reference, and step by `call`, each with its own seat.

@@ -1,4 +1,4 @@
-// The first and the last thing that happens to a gate.
+// The first and the last thing that happen to a gate.
 ghost use Rattle.std.specs.Prelude.{◌≡◌, [], List, IfOk};
 ghost use mathlib.Core.List.{IsPrefix};
 ghost use Rattle.step_gate.specs.declared.view.HistoryEntry.{HistoryEntry};
@@ -15,8 +15,7 @@ use std::snapshot::Snapshot;
 use std::sync::Wait;
 
 impl<M: Machine> Gate<M> {
-    /// A gate round the machine, with an empty history, and its first seat. Where there is no memory the machine is
-    /// gone.
+    /// A gate round the machine, with an empty history, and its first seat. If memory runs out, the machine is dropped.
     pub fn new(alloc: Global, machine: M) -> Result<(Gate<M>, Seat<M>), OutOfMemory>
     where
         M: Drop,
@@ -34,7 +33,7 @@ impl<M: Machine> Gate<M> {
         }
     }
 
-    /// Waits for the turn, and gives the value back. The gate is gone, so no call can follow.
+    /// Waits for the turn, and returns the machine's value. The gate is consumed, so no call can follow.
     pub fn close<R: Wait>(self, rt: &R, mut seat: Seat<M>) -> M
         requires { IsSeatOf M.moves self seat }
         ensures { (h : List (HistoryEntry M.Event M.Reply)) × IsPrefix (seen_of seat) h × HistoryLeadsTo M.moves (opening_of self) h result }

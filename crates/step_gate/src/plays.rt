@@ -1,4 +1,4 @@
-// What each step on the table tells. These types are for the proofs alone.
+// What each step on the table says. These types are only for the proofs.
 ghost use Rattle.std.specs.Prelude.{Option, None};
 ghost use Rattle.step_gate.specs.Kept.{took, added, gave_up, looked, closed, told, both, ended};
 

@@ -1,4 +1,4 @@
-// A seat more, and a seat less. Neither waits for anybody.
+// Splitting a seat in two, and joining two seats. Neither waits.
 ghost use Rattle.std.specs.Prelude.{◌≡◌, ◌≢◌, [], IfOk, IsOk};
 ghost use mathlib.Core.List.{IsPrefix};
 ghost use Rattle.step_gate.specs.History.{longer};
@@ -10,7 +10,7 @@ use actor_names::OutOfMemory;
 use state_machine::Machine;
 
 impl<M: Machine> Gate<M> {
-    /// As `split`, of a seat that stays in its place.
+    /// The same as `split`, for a seat that stays in its place.
     pub fn split_in(&self, seat: &mut Seat<M>) -> Seat<M>
         requires { IsSeatOf M.moves self.now seat.old }
         ensures kept { IsSeatOf M.moves self.now seat.new × KeepsMine seat.old seat.new × (seen_of seat.new ≡ seen_of seat.old) }
@@ -21,7 +21,8 @@ impl<M: Machine> Gate<M> {
         other
     }
 
-    /// A second seat, which has seen as much and has made no entry. It takes no memory, so it is never refused.
+    /// Gives a second seat, which has seen as much as the first and has made no entry. It takes no memory, so it is
+    /// never refused.
     pub fn split(&self, mut seat: Seat<M>) -> (Seat<M>, Result<Seat<M>, OutOfMemory>)
         requires { IsSeatOf M.moves self.now seat }
         ensures kept { IsSeatOf M.moves self.now result.0 × KeepsMine seat result.0 × (seen_of result.0 ≡ seen_of seat) }
@@ -32,7 +33,7 @@ impl<M: Machine> Gate<M> {
         (seat, Ok(other))
     }
 
-    /// As `join`, into a seat that stays in its place.
+    /// The same as `join`, into a seat that stays in its place.
     pub fn join_in(&self, kept: &mut Seat<M>, given: Seat<M>)
         requires kept { IsSeatOf M.moves self.now kept.old }
         requires given { IsSeatOf M.moves self.now given }
@@ -45,7 +46,7 @@ impl<M: Machine> Gate<M> {
         self.table.shared.load::<Look>(kept, 0);
     }
 
-    /// Ends the given seat. The kept one has then seen all that either had seen; its own entries stay.
+    /// Ends the given seat. The kept seat has then seen all that either had seen; its own entries stay as they were.
     pub fn join(&self, mut kept: Seat<M>, given: Seat<M>) -> Seat<M>
         requires kept { IsSeatOf M.moves self.now kept }
         requires given { IsSeatOf M.moves self.now given }

@@ -1,4 +1,4 @@
-// Threads at a gate: what is left at the end, and that a call that waits is woken.
+// Threads at a gate: the value at the end, and that a waiting call is woken.
 ghost use Rattle.step_gate.specs.Gates.{IsSeatOf};
 
 use super::*;
@@ -12,7 +12,7 @@ mod counter;
 /// How many steps each thread makes.
 const STEPS: u32 = 1000;
 
-/// So many steps with events of `make`.
+/// Makes `STEPS` steps with events from `make`.
 fn step_often<M: Machine, R: Wait, E: Fn() -> M::Event>(
     rt: &R,
     gate: &Gate<M>,
@@ -74,8 +74,8 @@ fn one_thread_waits_for_steps_of_other(rt: HostRuntime) -> Result<(), Fail> {
     Ok(())
 }
 
-/// A gate is closed by value, so no call can run then or follow. A seat that is left is a token of no bytes, with
-/// which nothing can be done any more.
+/// Closing consumes the gate, so no call can run at that time or follow. A seat that is left over is a token without
+/// bytes, which can't be used any more.
 #[test]
 fn gate_closes_while_other_seat_is_left(rt: HostRuntime) -> Result<(), Fail> {
     let (gate, seat) = Gate::new(rt.alloc(), Counter { count: 7 })?;

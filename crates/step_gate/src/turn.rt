@@ -20,7 +20,7 @@ pub(crate) const LAST: u64 = 1 << 63;
 /// How often a call that waits for the turn looks at the word before it sleeps.
 const LOOKS: u32 = 32;
 
-/// How many hints it spins between its first two looks. Each look takes the line of memory from the holder.
+/// How many hints it spins between its first two looks. Each look takes the cache line from the holder.
 const HINTS: u32 = 16;
 
 /// How often the number of hints doubles, so that the holder makes many steps between two looks.
@@ -29,7 +29,7 @@ const HINT_DOUBLINGS: u32 = 4;
 /// How often the longest sleep doubles, from one millisecond.
 const DOUBLINGS: u32 = 4;
 
-// Leaves the word alone for a time that grows from try to try, and lets other threads run.
+// Leaves the word alone for a time that grows with each try, and lets other threads run.
 fn spin(tries: u32) {
     let hints = HINTS << tries.min(HINT_DOUBLINGS);
     for _ in 0..hints {
@@ -39,8 +39,8 @@ fn spin(tries: u32) {
 }
 
 impl<M: Machine> Gate<M> {
-    // Lets other threads run. After some tries it sleeps while the word stays, until the turn is free, for a time
-    // that grows to 16 milliseconds at most.
+    // Lets other threads run. After some tries it sleeps, if the word is still this one, until the turn is free or a
+    // time has passed that grows to at most 16 milliseconds.
     fn pause<R: Wait>(&self, rt: &R, tries: u32, word: u64) {
         if tries < LOOKS {
             spin(tries);
@@ -53,7 +53,7 @@ impl<M: Machine> Gate<M> {
         self.bells.asleep.fetch_sub(1, Ordering::SeqCst);
     }
 
-    // The turn is free: wakes one of those that sleep until then.
+    // The turn is free: wakes one of the calls that sleep until then.
     fn hand_on(&self) {
         if self.bells.asleep.load(Ordering::SeqCst) > 0 {
             self.table.shared.wake_one(0);
@@ -83,7 +83,7 @@ impl<M: Machine> Gate<M> {
         unreachable!()
     }
 
-    // The value goes home, and the step comes to the history.
+    // Puts the value back into its slot, and adds the step to the history.
     pub(crate) fn release<W: Said<M::Event, M::Reply>>(
         &self,
         seat: &mut Seat<M>,
@@ -102,7 +102,7 @@ impl<M: Machine> Gate<M> {
         self.hand_on();
     }
 
-    // The value goes home, and the history stays.
+    // Puts the value back into its slot, and leaves the history as it was.
     pub(crate) fn give_up(&self, seat: &mut Seat<M>, at: u64)
         requires seat { (seat.old.table_id ≡ gate_id self.now) × (seat.old.me.0.live ≡ true) × (seat.old.me.0.named ≡ true) }
         requires turn { (x : M) × (seat.old.me.0.turn ≡ Has at x) × (seat.old.me.1 ≡ (0, x) ∷ []) }
@@ -114,7 +114,7 @@ impl<M: Machine> Gate<M> {
         self.hand_on();
     }
 
-    // The value goes home, and the turn is kept for good.
+    // Puts the value back into its slot, and keeps the turn for good.
     pub(crate) fn shut(&self, seat: &mut Seat<M>, at: u64)
         requires seat { (seat.old.table_id ≡ gate_id self.now) × (seat.old.me.0.live ≡ true) }
         requires turn { (x : M) × (seat.old.me.0.turn ≡ Has at x) × (seat.old.me.1 ≡ (0, x) ∷ []) }

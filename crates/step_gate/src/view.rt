@@ -1,4 +1,4 @@
-// What a seat knows. No value of these types is ever made: they are for contracts alone.
+// What a seat knows. No value of these types is ever made: they are only for contracts.
 use std::collections::LinkedList;
 
 /// One step of the history, and the number of the seat that made it.
@@ -13,7 +13,7 @@ pub struct HistoryEntry<E, R> {
 
 /// An entry, and its place in the history, from 0.
 pub struct Made<E, R> {
-    /// How many entries stand before it.
+    /// How many entries are before it.
     pub place: u64,
     /// The entry.
     pub entry: HistoryEntry<E, R>,
@@ -31,17 +31,17 @@ pub enum Turn<M> {
 
 /// What a seat knows.
 pub struct View<M, E, R> {
-    /// False once the seat was joined into another; the rule then says nothing of it.
+    /// False once the seat was joined into another; the rule then says nothing about it.
     pub live: bool,
     /// The value that the machine had when the gate was made.
     pub opening: Option<M>,
-    /// A front of the history.
+    /// A prefix of the history.
     pub seen: LinkedList<HistoryEntry<E, R>>,
     /// The entries of it that the seat made, with their places.
     pub mine: LinkedList<Made<E, R>>,
-    /// What a seat that was joined into this one had seen, where that is shorter.
+    /// The shorter of what this seat and the seat last joined into it had seen.
     pub also: LinkedList<HistoryEntry<E, R>>,
-    /// Whether the number is known; a new seat learns it by its first look.
+    /// Whether the number is known; a new seat learns it at its first look.
     pub named: bool,
     /// The number by which entries name the seat.
     pub number: u64,

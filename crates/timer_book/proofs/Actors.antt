@@ -1,4 +1,4 @@
--- The timers of an actor stand together.
+-- The timers of an actor are next to each other.
 use Rattle.std.proofs.Common.{◌≡◌, ℕ, true, false, not, ◌&&◌, List, refl, sym, ap, ◌∙◌}
 use Rattle.std.specs.declared.cmp.Ordering.{Ordering}
 use Rattle.std.specs.declared.cmp.Ordering.TheVariants.{Less, Equal, Greater}
@@ -24,7 +24,7 @@ all_equal Equal Equal Greater = refl
 all_equal Equal Greater c = refl
 all_equal Greater b c = refl
 
--- a timer is the actor's exactly where it is neither before nor after it
+-- a timer is the actor's exactly if it is neither before nor after the actor
 pub is_of-order : (key : ActorKey) (e : TimerEntry) → is_of key e ≡ is_eq (order key e)
 is_of-order key e =
     rw (

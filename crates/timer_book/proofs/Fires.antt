@@ -5,7 +5,7 @@ use Rattle.timer_book.specs.declared.entry.TimerEntry.{TimerEntry}
 use Rattle.timer_book.specs.Entries.{entry_place, place_cmp, IsBelowAll, Ascends, is_earlier, is_waiting, earlier_of, due_entry}
 use Rattle.timer_book.specs.Soonest.{is_first, sooner, moment_in, first_in, idle, first_of, soonest_of, by_now}
 
--- the moment of the first is the first moment
+-- the moment of the first timer is the first moment
 moment_first : (a b : Option TimerEntry) → moment_in (first_in a b) ≡ sooner (moment_in a) (moment_in b)
 moment_first None b = refl
 moment_first (Some a) None = refl

@@ -52,7 +52,7 @@ module _ (now : ℕ) where
   none_before x f [] h n = tt
   none_before x f (y ∷ ys) h n = (λ w. not_before y x f h (n.0 w), none_before x f ys h n.1)
 
-  -- where none is due, none waits
+  -- if none is due, none waits
   pub none_waits : (xs : List TimerEntry) → due_entry now xs ≡ None → NoneWaits now xs
   none_waits [] h = tt
   none_waits (y ∷ ys) h = go (is_waiting now y) (due_entry now ys) refl refl (none_waits ys)
@@ -70,7 +70,7 @@ module _ (now : ℕ) where
   none_earlier x [] n = tt
   none_earlier x (y ∷ ys) n = (λ w. absurd (let k = n.0 in cc), none_earlier x ys n.1)
 
-  -- the one that is due waits, and none that waits is to fire earlier
+  -- the timer that is due waits, and no waiting timer is to fire earlier
   pub due-first : (xs : List TimerEntry) (e : TimerEntry) → due_entry now xs ≡ Some e → IsFirstDue now e xs
   due-first [] e h = absurd (cc)
   due-first (x ∷ xs) e h = go (is_waiting now x) (due_entry now xs) refl refl (due-first xs)

@@ -6,7 +6,7 @@ use Rattle.std.specs.Ordering.{ordering_reverse}
 use Rattle.std.proofs.lemmas.Cmp.{nat_list_cmp_total, lists_total}
 use Rattle.timer_book.specs.Entries.{place_cmp}
 
--- the order of keys and names is a total one
+-- the order of keys and names is total
 pub total : IsTotalOrder place_cmp
 total = lists_total nat_list_cmp_total
 
@@ -15,7 +15,7 @@ module _ (a b : List (List ℕ)) where
   less e = let t = total in t.antisymm b a ∙ ap ordering_reverse e
 
   module _ (p : List (List ℕ)) where
-    -- what is at or after the place is before what is after it
+    -- if a is at or after the place and b is after a, then b is after the place
     pub after_equal : place_cmp a p ≡ Equal → place_cmp a b ≡ Less → place_cmp b p ≡ Greater
     after_equal f e = let t = total in t.antisymm b p ∙ ap ordering_reverse (sym (t.congr a p b f) ∙ e)
 

@@ -45,7 +45,7 @@ due_at_its_moment : due_timer one 1000000000 ≡ Some (due_of entry_one)
 unfolding one entry_one every_five timer_of bell
 due_at_its_moment = refl
 
--- at one moment the lesser key is first
+-- at the same moment the lesser key is first
 lesser_key_is_due_first : due_timer two 1000000000 ≡ Some (due_of entry_one)
 unfolding two one entry_one every_five timer_of bell gong
 lesser_key_is_due_first = refl
@@ -67,7 +67,7 @@ no_first_moment_removes : set_timer one bell (codes "a") (timer_of (record every
 unfolding one every_five timer_of bell
 no_first_moment_removes = refl
 
--- without a period one firing is all
+-- without a period there is only one firing
 last_firing_removes : finish_timer (set_timer new_book bell (codes "a") (timer_of (record every_five { period = None }))) bell (codes "a") 1 2000000000 ≡ record { drawn = 1; timers = [] }
 unfolding every_five timer_of bell
 last_firing_removes = refl

@@ -1,4 +1,4 @@
--- What is tied with a place.
+-- Places that compare as equal.
 use Rattle.std.proofs.Common.{◌≡◌, ℕ, Bool, true, false, if◌then◌else◌, List, [], ◌∷◌, Some, None, refl, sym, ap, subst, ◌∙◌}
 use Rattle.std.specs.declared.cmp.Ordering.TheVariants.{Equal, Greater}
 use Rattle.std.specs.Ordering.{is_eq, ordering_reverse}
@@ -7,7 +7,7 @@ use Rattle.timer_book.specs.Entries.{entry_place, place_cmp, is_at, IsBelowAll, 
 use Rattle.timer_book.proofs.Places.{total, after_greater}
 use Rattle.timer_book.proofs.Maps.{eq-is}
 
--- what is tied with a place compares as it does
+-- equal places compare alike with any other
 pub tied_cmp : (x e p : List (List ℕ)) → place_cmp e p ≡ Equal → place_cmp x e ≡ place_cmp x p
 tied_cmp x e p h =
     let t = total in
@@ -21,7 +21,7 @@ tied p (x ∷ xs) e h = go (is_at p x) refl (λ k. tied p xs e k) h
     go true is ih h = let same : x ≡ e = cc in subst (λ (z : TimerEntry). place_cmp (entry_place z) p ≡ Equal) same (eq-is (place_cmp (entry_place x) p) is)
     go false is ih h = ih h
 
--- a timer is taken by its own place
+-- equal places take away the same timer
 pub without_tied : (q p : List (List ℕ)) (xs : List TimerEntry) → place_cmp q p ≡ Equal → without_entry p xs ≡ without_entry q xs
 without_tied q p [] h = refl
 without_tied q p (x ∷ xs) h = rw (tied_cmp (entry_place x) q p h, without_tied q p xs h) refl

@@ -1,4 +1,5 @@
--- Timers in order are cut by a place, and those of an actor stand together; what a tree of timers finds and leaves.
+-- A place cuts timers in order in two, and the timers of an actor are next to each other; what a tree of timers finds
+-- and leaves.
 use Rattle.std.proofs.Common.{◌≡◌, ◌⊎◌, inl, inr, ℕ, Bool, true, false, List, [], ◌∷◌, Option, Some, None, refl, sym, ap, subst, ◌∙◌}
 use Rattle.std.specs.declared.cmp.Ordering.{Ordering}
 use Rattle.std.specs.declared.cmp.Ordering.TheVariants.{Less, Equal, Greater}

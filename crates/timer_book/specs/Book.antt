@@ -18,17 +18,17 @@ pub record BookState : Type 0 where
 abbrev pub new_book : BookState
 new_book = record { drawn = 0; timers = [] }
 
--- 1,024 timers of the actor, and none of this name
+-- the actor has at least 1,024 timers, and none of this name
 abbrev pub is_full : List TimerEntry → ActorKey → List ℕ → Bool
 is_full timers key name = nat_le 1024 (count_of key timers) && not (is_some (entry_at (timer_place key name) timers))
 
--- why a registration is refused, want of memory aside
+-- why a registration is refused, apart from running out of memory
 abbrev pub set_refusal : BookState → ActorKey → List ℕ → Option TimerError
 set_refusal book key name =
     if is_full book.timers key name then Some Full else (
     if book.drawn == 2 ^ 62 then Some Spent else None)
 
--- the error of a call that has one: that of the rules, and without one want of memory
+-- the error of a call that fails: the one of the rules, or out of memory if there is none
 abbrev pub or_memory : Option TimerError → TimerError
 or_memory None = OutOfMemory
 or_memory (Some e) = e
@@ -37,7 +37,8 @@ abbrev pub set_entry : ActorKey → List ℕ → ℕ → Timer → Option ℕ �
 set_entry key name number timer None timers = without_entry (timer_place key name) timers
 set_entry key name number timer (Some first) timers = put_entry (new_entry key name number first timer) timers
 
--- The next number is drawn. A schedule without a first moment leaves no timer of this name, another one the new timer.
+-- The next number is drawn. A schedule without a first moment leaves no timer of this name; any other leaves the new
+-- timer.
 abbrev pub set_timer : BookState → ActorKey → List ℕ → Timer → BookState
 set_timer book key name timer =
     record { drawn = book.drawn + 1; timers = set_entry key name (book.drawn + 1) timer timer.schedule.first book.timers }
@@ -48,7 +49,7 @@ has_timer book key name = is_some (entry_at (timer_place key name) book.timers)
 abbrev pub delete_timer : BookState → ActorKey → List ℕ → BookState
 delete_timer book key name = record book { timers = without_entry (timer_place key name) book.timers }
 
--- the timer that is to fire first among those that are to fire by now and don't run
+-- the timer that is to fire first among those that are to fire by now and whose callback doesn't run
 abbrev pub due_timer : BookState → ℕ → Option DueTimer
 due_timer book now = option_map due_of (due_entry now book.timers)
 
@@ -56,7 +57,7 @@ abbrev pub of_number : ℕ → Option TimerEntry → Option TimerEntry
 of_number number None = None
 of_number number (Some e) = if e.number == number then Some e else None
 
--- the registration of this number, where it is still there
+-- the registration with this number, if it is still there
 abbrev pub registered : List TimerEntry → ActorKey → List ℕ → ℕ → Option TimerEntry
 registered timers key name number = of_number number (entry_at (timer_place key name) timers)
 
@@ -70,12 +71,12 @@ started_entry (Some e) timers = put_entry (record e { running = true }) timers
 abbrev pub start_timer : BookState → ActorKey → List ℕ → ℕ → BookState
 start_timer book key name number = record book { timers = started_entry (registered book.timers key name number) book.timers }
 
--- what follows the firing of a registration, and Done where it is gone
+-- what follows the firing of a registration, or Done if the registration is gone
 abbrev pub next_after : Option TimerEntry → ℕ → Next
 next_after None ended = Done
 next_after (Some e) ended = next_of e ended
 
--- a timer that fires again, or none any more
+-- the timer fires again, or is removed
 abbrev pub fired_entry : TimerEntry → Next → List TimerEntry → List TimerEntry
 fired_entry e (At moment left) timers = put_entry (record e { moment = moment; left = left; running = false }) timers
 fired_entry e Done timers = without_entry (timer_place e.key e.name) timers

@@ -19,7 +19,7 @@ timer_place key name = key.space ∷ key.kind ∷ key.id ∷ name ∷ []
 abbrev pub entry_place : TimerEntry → List (List ℕ)
 entry_place e = timer_place e.key e.name
 
--- the first that differs decides, in byte order
+-- the first part that differs decides, in byte order
 abbrev pub place_cmp : List (List ℕ) → List (List ℕ) → Ordering
 place_cmp a b = slice_cmp (slice_cmp nat_cmp) a b
 
@@ -40,24 +40,24 @@ abbrev pub new_entry : ActorKey → List ℕ → ℕ → ℕ → Timer → Timer
 new_entry key name number first timer =
     record { key = key; name = name; number = number; moment = first; left = timer.schedule.left; running = false; timer = timer }
 
--- what follows the firing whose callback ended then
+-- what follows a firing whose callback ended at the moment `ended`
 abbrev pub next_of : TimerEntry → ℕ → Next
 next_of e ended = next_firing (record e.timer.schedule { left = e.left }) ended ended
 
 abbrev pub due_of : TimerEntry → DueTimer
 due_of e = record { key = e.key; name = e.name; number = e.number; moment = e.moment; timer = e.timer }
 
--- to fire by now, and not running
+-- whether the timer is to fire by now and its callback doesn't run
 abbrev pub is_waiting : ℕ → TimerEntry → Bool
 is_waiting now e = not e.running && nat_le e.moment now
 
--- by moment, then by key and name
+-- whether a fires before b: by moment, then by key and name
 abbrev pub is_earlier : TimerEntry → TimerEntry → Bool
 is_earlier a b = nat_lt a.moment b.moment || ((a.moment == b.moment) && is_lt (place_cmp (entry_place a) (entry_place b)))
 
 -- ---- timers in order, a key and name once
 
--- before each of the timers
+-- the place is before each of the timers
 abbrev pub IsBelowAll : List (List ℕ) → List TimerEntry → Type 0
 IsBelowAll place [] = Unit {0}
 IsBelowAll place (x ∷ xs) = (place_cmp place (entry_place x) ≡ Less) × IsBelowAll place xs
@@ -66,7 +66,7 @@ abbrev pub Ascends : List TimerEntry → Type 0
 Ascends [] = Unit {0}
 Ascends (x ∷ xs) = IsBelowAll (entry_place x) xs × Ascends xs
 
--- the timer of a place
+-- the timer at a place
 abbrev pub entry_at : List (List ℕ) → List TimerEntry → Option TimerEntry
 entry_at place [] = None
 entry_at place (x ∷ xs) = if is_at place x then Some x else entry_at place xs
@@ -76,12 +76,12 @@ put_by Less e x xs later = x ∷ later
 put_by Equal e x xs later = e ∷ xs
 put_by Greater e x xs later = e ∷ x ∷ xs
 
--- a timer put in its place, in the stead of one of its key and name
+-- puts a timer in its place, and replaces one with its key and name
 abbrev pub put_entry : TimerEntry → List TimerEntry → List TimerEntry
 put_entry e [] = e ∷ []
 put_entry e (x ∷ xs) = put_by (place_cmp (entry_place x) (entry_place e)) e x xs (put_entry e xs)
 
--- without the timer of a place
+-- the timers without the one at a place
 abbrev pub without_entry : List (List ℕ) → List TimerEntry → List TimerEntry
 without_entry place [] = []
 without_entry place (x ∷ xs) = if is_at place x then xs else x ∷ without_entry place xs
@@ -91,16 +91,16 @@ abbrev pub count_of : ActorKey → List TimerEntry → ℕ
 count_of key [] = 0
 count_of key (x ∷ xs) = if is_of key x then suc (count_of key xs) else count_of key xs
 
--- without the timers of an actor
+-- the timers without those of an actor
 abbrev pub without_actor : ActorKey → List TimerEntry → List TimerEntry
 without_actor key xs = filter (λ e. not (is_of key e)) xs
 
--- the earlier of a timer and what was found behind it
+-- the earlier of a timer and what was found after it
 abbrev pub earlier_of : TimerEntry → Option TimerEntry → Option TimerEntry
 earlier_of e None = Some e
 earlier_of e (Some f) = if is_earlier e f then Some e else Some f
 
--- of those that wait the one that is to fire first
+-- the timer that is to fire first of those that wait
 abbrev pub due_entry : ℕ → List TimerEntry → Option TimerEntry
 due_entry now [] = None
 due_entry now (x ∷ xs) = if is_waiting now x then earlier_of x (due_entry now xs) else due_entry now xs
@@ -111,7 +111,7 @@ abbrev pub IsAmong : TimerEntry → List TimerEntry → Type 0
 IsAmong e [] = ⊥
 IsAmong e (x ∷ xs) = (e ≡ x) ⊎ IsAmong e xs
 
--- none of those that wait is to fire earlier
+-- no waiting timer is to fire earlier
 abbrev pub NoneEarlier : ℕ → TimerEntry → List TimerEntry → Type 0
 NoneEarlier now e [] = Unit {0}
 NoneEarlier now e (x ∷ xs) = (is_waiting now x ≡ true → is_earlier x e ≡ false) × NoneEarlier now e xs
@@ -120,6 +120,6 @@ abbrev pub NoneWaits : ℕ → List TimerEntry → Type 0
 NoneWaits now [] = Unit {0}
 NoneWaits now (x ∷ xs) = (is_waiting now x ≡ false) × NoneWaits now xs
 
--- one of the timers, it waits, and none that waits is to fire earlier
+-- it is one of the timers, it waits, and no waiting timer is to fire earlier
 abbrev pub IsFirstDue : ℕ → TimerEntry → List TimerEntry → Type 0
 IsFirstDue now e xs = IsAmong e xs × (is_waiting now e ≡ true) × NoneEarlier now e xs

@@ -20,7 +20,7 @@ abbrev pub set_after : BookState → Option TimerError → BookState → BookSta
 set_after book None set = set
 set_after book (Some e) set = book
 
--- what is answered to an event, want of memory aside
+-- what is answered to an event, if memory doesn't run out
 abbrev pub timer_reply : BookState → TimerEvent → TimerReply
 timer_reply book (events.Set key name timer) = set_reply book (set_refusal book key name)
 timer_reply book (events.Delete key name) = replies.Deleted (has_timer book key name)
@@ -38,13 +38,13 @@ timer_after book (events.Started key name number) = start_timer book key name nu
 timer_after book (events.Finished key name number ended) = finish_timer book key name number ended
 timer_after book (events.DropActor key) = drop_timers book key
 
--- a registration that is not refused, and the question which timer is due, may want memory
+-- only a Due, and a Set that is not refused, may run out of memory
 abbrev pub MayWantMemory : BookState → TimerEvent → Type 0
 MayWantMemory book (events.Set key name timer) = set_refusal book key name ≡ None
 MayWantMemory book (events.Due now) = Unit {0}
 MayWantMemory book event = ⊥
 
--- The answer and the book are those of the event; or memory was wanting, and the book is as before.
+-- The answer and the book are those of the event, or memory ran out and the book is as before.
 abbrev pub TimerMoves : BookState → TimerEvent → TimerReply → BookState → Type 0
 TimerMoves old event replies.OutOfMemory new = MayWantMemory old event × (new ≡ old)
 TimerMoves old event reply new = (reply ≡ timer_reply old event) × (new ≡ timer_after old event)

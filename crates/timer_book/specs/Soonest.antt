@@ -2,7 +2,7 @@
 use Rattle.std.specs.Prelude.{ℕ, Bool, true, false, nat_le, if◌then◌else◌, List, [], ◌∷◌, Option, None, Some, option_map}
 use Rattle.timer_book.specs.declared.entry.TimerEntry.{TimerEntry}
 
--- a moment that is not after the other one, where there is one
+-- whether there is a first moment, and it is not after the second one, if there is one
 abbrev pub is_first : Option ℕ → Option ℕ → Bool
 is_first None b = false
 is_first (Some a) None = true
@@ -15,7 +15,7 @@ sooner a b = if is_first a b then a else b
 abbrev pub moment_in : Option TimerEntry → Option ℕ
 moment_in found = option_map (λ e. e.moment) found
 
--- the timer that fires earlier, and of two with one moment the first one
+-- the timer that fires earlier, and of two with the same moment the first one
 abbrev pub first_in : Option TimerEntry → Option TimerEntry → Option TimerEntry
 first_in a b = if is_first (moment_in a) (moment_in b) then a else b
 
@@ -23,7 +23,7 @@ first_in a b = if is_first (moment_in a) (moment_in b) then a else b
 abbrev pub idle : TimerEntry → Option TimerEntry
 idle e = if e.running then None else Some e
 
--- of those that don't run the one that is to fire first
+-- the timer that is to fire first of those that don't run
 abbrev pub first_of : List TimerEntry → Option TimerEntry
 first_of [] = None
 first_of (x ∷ xs) = first_in (idle x) (first_of xs)
@@ -32,7 +32,7 @@ first_of (x ∷ xs) = first_in (idle x) (first_of xs)
 abbrev pub soonest_of : List TimerEntry → Option ℕ
 soonest_of xs = moment_in (first_of xs)
 
--- a timer, where it is to fire by now
+-- a timer, if it is to fire by now
 abbrev pub by_now : ℕ → Option TimerEntry → Option TimerEntry
 by_now now None = None
 by_now now (Some e) = if nat_le e.moment now then Some e else None

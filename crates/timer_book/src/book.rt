@@ -13,14 +13,14 @@ use schedule_text::{Moment, Next};
 use std::alloc::Global;
 use std::marker::Model;
 
-/// The most timers of one actor.
+/// The greatest number of timers of one actor.
 pub const MOST_TIMERS: usize = 1024;
 
 // The last registration number.
 pub(crate) const LAST_NUMBER: u64 = 1 << 62;
 
-/// The timers of actors. Each registration has a number of its own, from 1. A timer fires at a moment, its callback
-/// runs, and its next moment counts from the end of that callback. Own; timers follow the Actors API of Dapr.
+/// The timers of actors. Each registration has its own number, from 1. A timer fires at a moment, its callback runs,
+/// and its next moment counts from the end of that callback. Own; timers follow the Actors API of Dapr.
 #[derive(Drop)]
 pub struct TimerBook {
     drawn: u64,
@@ -51,14 +51,14 @@ impl TimerBook {
         }
     }
 
-    // The timers are in order, each key and name once.
+    // The timers are in order, and each key and name is there at most once.
     pub(crate) fn in_order(&self)
         ensures { Ascends self.now.timers }
     {
         self.timers.in_order();
     }
 
-    // Why a registration is refused, want of memory aside.
+    // Why a registration is refused, apart from running out of memory.
     fn refusal(&self, key: &ActorKey, name: &RecordName) -> Option<TimerError>
         ensures { result ≡ set_refusal self.now key.now name.now }
     {
@@ -71,10 +71,10 @@ impl TimerBook {
         None
     }
 
-    /// Registers a timer, in the stead of one of its key and name, and answers the number of the registration. A
-    /// schedule without a first moment leaves no timer of this name. It is refused `Full` where the actor has 1,024
-    /// timers and none of this name, then `Spent` where 2^62 numbers were drawn, and `OutOfMemory`; the book is
-    /// then as before. It takes the room that the calls without a Result need.
+    /// Registers a timer, replacing one with its key and name, and returns the number of the registration. A schedule
+    /// without a first moment leaves no timer of this name. The errors are `Full` if the actor has 1,024 timers and
+    /// none of this name, then `Spent` if 2^62 numbers were drawn, then `OutOfMemory`; each leaves the book as before.
+    /// The call also takes the room that the calls without a `Result` need.
     pub fn set(
         &mut self,
         key: &ActorKey,
@@ -104,7 +104,7 @@ impl TimerBook {
         Ok(number)
     }
 
-    /// Removes the timer of this key and name, and tells whether there was one; takes no memory.
+    /// Removes the timer with this key and name, and returns whether there was one; takes no memory.
     pub fn delete(&mut self, key: &ActorKey, name: &RecordName) -> bool
         ensures there { result ≡ has_timer self.old key.now name.now }
         ensures book { self.new ≡ delete_timer self.old key.now name.now }
@@ -113,7 +113,7 @@ impl TimerBook {
     }
 
     /// The timer that is to fire first, by moment, then key, then name, among those that are to fire at or before
-    /// `now` and don't run; None exactly where there is none. `OutOfMemory` is its one error.
+    /// `now` and whose callback doesn't run; `None` exactly if there is none. The only error is `OutOfMemory`.
     pub fn due(&self, now: Moment) -> Result<Option<DueTimer>, TimerError>
         ensures value { IfOk result (λ due. due ≡ due_timer self.now now) }
         ensures err { IfErr result (λ e. e ≡ OutOfMemory) }
@@ -127,8 +127,9 @@ impl TimerBook {
         }
     }
 
-    /// The callback of the registration of this number runs, and `due` doesn't give it until it has finished. True
-    /// where the registration is still there, also where it ran already; else nothing changes. Takes no memory.
+    /// The callback of the registration with this number runs now, and `due` doesn't give its timer until it has
+    /// finished. Returns true if the registration is still there, even if its callback ran already; otherwise nothing
+    /// changes. Takes no memory.
     pub fn started(&mut self, key: &ActorKey, name: &RecordName, number: u64) -> bool
         ensures there { result ≡ is_registered self.old key.now name.now number }
         ensures book { self.new ≡ start_timer self.old key.now name.now number }
@@ -136,9 +137,9 @@ impl TimerBook {
         self.timers.start(key, name, number)
     }
 
-    /// The callback of the registration of this number ended. Its next moment is `ended` plus the period, with one
-    /// firing fewer left, and it doesn't run any more. Where none follows, the timer is removed. `Done` where the
-    /// registration is gone, and then nothing changes. Takes no memory.
+    /// The callback of the registration with this number has ended. The timer's next moment is `ended` plus the period,
+    /// with one firing fewer left, and its callback no longer runs. If no firing follows, the timer is removed. `Done`
+    /// if the registration is gone, and then nothing changes. Takes no memory.
     pub fn finished(
         &mut self,
         key: &ActorKey,

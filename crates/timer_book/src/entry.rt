@@ -9,7 +9,7 @@ use actor_names::{ActorKey, OutOfMemory, RecordName};
 use schedule_text::{Moment, Next, Schedule};
 use std::alloc::Global;
 
-/// A registered timer, as a book has it.
+/// A registered timer, as a book keeps it.
 #[derive(Debug, Drop)]
 pub struct TimerEntry {
     /// The actor.
@@ -20,7 +20,7 @@ pub struct TimerEntry {
     pub number: u64,
     /// When it fires next.
     pub moment: Moment,
-    /// How many firings are allowed from that one on; without it any number is.
+    /// How many firings are still allowed, the next one included; `None` allows any number.
     pub left: Option<u32>,
     /// Whether its callback runs.
     pub running: bool,
@@ -35,7 +35,7 @@ pub struct DueTimer {
     pub key: ActorKey,
     /// The name among the actor's timers.
     pub name: RecordName,
-    /// The number of the registration, by which `started` and `finished` know it.
+    /// The number of the registration, by which `started` and `finished` identify it.
     pub number: u64,
     /// When it was to fire.
     pub moment: Moment,
@@ -44,7 +44,7 @@ pub struct DueTimer {
 }
 
 impl TimerEntry {
-    /// Another moment, firings left and mark of a running timer.
+    /// Sets the moment, the firings left and whether the callback runs.
     pub(crate) fn change(&mut self, moment: Moment, left: Option<u32>, running: bool)
         ensures { self.new ≡ changed self.old moment left running }
     {
@@ -66,7 +66,7 @@ impl TimerEntry {
         schedule.advance(ended, ended)
     }
 
-    /// What is told of it when it is due.
+    /// What is reported of it when it is due.
     pub(crate) fn due(&self, alloc: Global) -> Result<DueTimer, OutOfMemory>
         ensures { IfOk result (λ due. due ≡ due_of self.now) }
     {
@@ -83,7 +83,7 @@ impl TimerEntry {
     }
 }
 
-/// A new timer of that number, which fires first at `first`.
+/// A new timer with this number, which fires first at `first`.
 pub(crate) fn new_entry(
     alloc: Global,
     key: &ActorKey,

@@ -11,7 +11,7 @@ pub enum TimerError {
     /// 2^62 registration numbers were drawn, and there are no more.
     #[error("no registration number is left")]
     Spent,
-    /// There was no memory for the answer.
+    /// Out of memory.
     #[error("out of memory")]
     OutOfMemory,
 }

@@ -4,7 +4,7 @@ use crate::timer::Timer;
 use actor_names::{ActorKey, RecordName};
 use schedule_text::{Moment, Next};
 
-/// What happens to a book: each event is the call of its name.
+/// What happens to a book: each event is the call with the same name.
 #[derive(Debug, Drop)]
 pub enum TimerEvent {
     /// A timer is registered.
@@ -13,22 +13,22 @@ pub enum TimerEvent {
         name: RecordName,
         timer: Timer,
     },
-    /// The timer of this key and name is removed.
+    /// The timer with this key and name is removed.
     Delete {
         key: ActorKey,
         name: RecordName,
     },
-    /// Somebody asks which timer is to fire first, at or before now.
+    /// A caller asks which timer is to fire first, at or before `now`.
     Due {
         now: Moment,
     },
-    /// The callback of the registration of this number runs.
+    /// The callback of the registration with this number runs.
     Started {
         key: ActorKey,
         name: RecordName,
         number: u64,
     },
-    /// The callback of the registration of this number ended.
+    /// The callback of the registration with this number has ended.
     Finished {
         key: ActorKey,
         name: RecordName,
@@ -52,14 +52,14 @@ pub enum TimerReply {
     Spent { count: u64 },
     /// Whether there was a timer.
     Deleted { existed: bool },
-    /// The timer that is due, where there is one.
+    /// The timer that is due, if there is one.
     DueIs { timer: Option<DueTimer> },
     /// Whether the registration is still there.
     Started { there: bool },
-    /// When it fires next.
+    /// When the timer fires next, if it does.
     Finished { next: Next },
-    /// The actor has no timer any more.
+    /// The actor has no timers any more.
     Dropped,
-    /// There was no memory; the book is as before. Answered to Set and Due alone.
+    /// Out of memory; the book is as before. Only Set and Due are answered so.
     OutOfMemory,
 }

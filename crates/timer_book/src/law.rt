@@ -1,4 +1,4 @@
-// What the definitions mean: a map from keys and names to timers, and the first of those that wait.
+// What the definitions mean: a map from keys and names to timers, and the first of the timers that wait.
 ghost use Rattle.std.specs.Prelude.{◌≡◌, ℕ, List, Some, None, false};
 ghost use Rattle.std.specs.Ordering.{is_eq};
 ghost use Rattle.actor_names.specs.declared.actor_key.ActorKey.{ActorKey};
@@ -7,9 +7,9 @@ ghost use Rattle.timer_book.specs.Entries.{timer_place, entry_place, actor_place
 
 use crate::book::TimerBook;
 
-/// A book's timers are in order, each key and name once, so they are a map. A timer that is put is found under its
-/// key and name, one that is removed is not, and every other one is as before. The timer that is due is one of
-/// those that wait, and none that waits is to fire earlier; where none is due, none waits.
+/// A book's timers are in order, each key and name at most once, so they are a map. A timer that is put is found
+/// under its key and name, a timer that is removed is not, and every other timer is as before. The timer that is due
+/// is one of those that wait, and no waiting timer is to fire earlier. If no timer is due, none waits.
 pub fn timer_law(book: &TimerBook)
     ensures order { Ascends book.now.timers }
     ensures put { (e : TimerEntry) (xs : List TimerEntry) → entry_at (entry_place e) (put_entry e xs) ≡ Some e }

@@ -1,7 +1,7 @@
 // Timers of actors: which are registered, which is due next, and when each fires again.
 //
-// Promise: a book is a count of the numbers drawn and a list of timers in order of key and name, and each call
-// is the change of it that `specs/Book` says. As a machine (`specs/Machine`) it can stand behind a gate. Stands on
+// Promise: a book is seen as a count of the numbers drawn and a list of timers in order of key and name, and each
+// call changes it as `specs/Book` defines. As a machine (`specs/Machine`) it can be put behind a gate. Depends on
 // `state_machine`, `search_tree`, `actor_names` and `schedule_text`.
 #![tactic(auto)]
 

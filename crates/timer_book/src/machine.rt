@@ -1,4 +1,4 @@
-// A book of timers as a machine: each event is the call of its name.
+// A book of timers as a machine: each event is the call with the same name.
 use crate::book::{LAST_NUMBER, TimerBook};
 use crate::error::TimerError;
 use crate::event::{TimerEvent, TimerReply};
@@ -51,7 +51,7 @@ impl Machine for TimerBook {
         }
     }
 
-    // A timer may be due earlier once one was set, or waits to fire again.
+    // After a timer was set or waits to fire again, some timer may be due earlier than before.
     fn news(reply: &TimerReply) -> News {
         match reply {
             TimerReply::WasSet { .. } | TimerReply::Finished { .. } => News::Everybody,

@@ -6,7 +6,7 @@ use crate::entry::TimerEntry;
 use actor_names::{ActorKey, RecordName};
 use std::cmp::Ordering;
 
-/// The order of a timer and of this key and name: by space, then by type, then by id, then by name, each in byte order.
+/// How a timer compares with this key and name: by space, then type, then id, then name, each in byte order.
 pub(crate) fn timer_cmp(entry: &TimerEntry, key: &ActorKey, name: &RecordName) -> Ordering
     ensures { result ≡ place_cmp (entry_place entry.now) (timer_place key.now name.now) }
 {
@@ -16,7 +16,7 @@ pub(crate) fn timer_cmp(entry: &TimerEntry, key: &ActorKey, name: &RecordName) -
     }
 }
 
-/// The order of a timer's actor and of this one: by space, then by type, then by id.
+/// How a timer's actor compares with this one: by space, then type, then id.
 pub(crate) fn actor_cmp(entry: &TimerEntry, key: &ActorKey) -> Ordering
     ensures { result ≡ place_cmp (actor_place entry.now.key) (actor_place key.now) }
 {

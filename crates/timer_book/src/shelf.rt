@@ -13,14 +13,14 @@ use search_tree::Tree;
 use std::alloc::Global;
 use std::marker::Model;
 
-// How many timers may be put, in all; a book draws no more numbers.
+// How many timers may ever be put; a book draws no more numbers than that.
 const MOST_PUT: u64 = 1 << 62;
 
-/// Timers in order of type, id and name.
+/// Timers in order of space, type, id and name.
 #[derive(Drop)]
 pub(crate) struct Shelf {
     tree: Tree<TimerEntry>,
-    // How many timers were put, so no fewer than there are.
+    // How many timers were ever put, so at least as many as there are.
     was_put: u64,
     alloc: Global,
 }
@@ -38,7 +38,7 @@ impl Model for Shelf {
 }
 
 impl Shelf {
-    /// No timer; takes no memory.
+    /// An empty shelf; takes no memory.
     pub(crate) fn new(alloc: Global) -> Shelf
         ensures { result ≡ [] }
     {
@@ -49,7 +49,7 @@ impl Shelf {
         }
     }
 
-    /// The timers are in order, each key and name once.
+    /// The timers are in order, and each key and name is there at most once.
     pub(crate) fn in_order(&self)
         ensures { Ascends self.now }
     {
@@ -63,7 +63,7 @@ impl Shelf {
         count(&self.tree, key)
     }
 
-    /// Whether there is a timer of this key and name.
+    /// Whether there is a timer with this key and name.
     pub(crate) fn has(&self, key: &ActorKey, name: &RecordName) -> bool
         ensures { result ≡ is_some (entry_at (timer_place key.now name.now) self.now) }
     {
@@ -73,7 +73,7 @@ impl Shelf {
         }
     }
 
-    /// Puts a timer in its place, in the stead of one of its key and name. After 2^62 timers it refuses every other.
+    /// Puts a timer in its place, and replaces one with its key and name. After 2^62 timers it refuses any other.
     pub(crate) fn put(&mut self, entry: TimerEntry) -> Result<(), OutOfMemory>
         ensures ok { OnOk result (self.new ≡ put_entry entry self.old) }
         ensures err { OnErr result (self.new ≡ self.old) }
@@ -86,7 +86,7 @@ impl Shelf {
         Ok(())
     }
 
-    /// Removes the timer of this key and name, and tells whether there was one; takes no memory.
+    /// Removes the timer with this key and name, and returns whether there was one; takes no memory.
     pub(crate) fn remove(&mut self, key: &ActorKey, name: &RecordName) -> bool
         ensures there { result ≡ is_some (entry_at (timer_place key.now name.now) self.old) }
         ensures gone { self.new ≡ without_entry (timer_place key.now name.now) self.old }
@@ -94,7 +94,7 @@ impl Shelf {
         remove(&mut self.tree, key, name)
     }
 
-    // The timer of this key and name fires again, or goes.
+    // The timer with this key and name fires again, or is removed.
     fn refire(&mut self, key: &ActorKey, name: &RecordName, next: &Next)
         ensures { (e : TimerEntry) → entry_at (timer_place key.now name.now) self.old ≡ Some e → self.new ≡ fired_entry e next.now self.old }
     {
@@ -116,7 +116,7 @@ impl Shelf {
         }
     }
 
-    /// The timer that is to fire first among those that wait.
+    /// The timer that is to fire first among those that wait: those to fire by `now` whose callback doesn't run.
     pub(crate) fn due(&self, now: Moment) -> Option<&TimerEntry>
         ensures { option_copied result ≡ due_entry now self.now }
     {
@@ -132,7 +132,7 @@ impl Shelf {
         }
     }
 
-    /// The registration of this number runs; whether it is still there. Takes no memory.
+    /// The callback of the registration with this number runs; returns whether it is still there. Takes no memory.
     pub(crate) fn start(&mut self, key: &ActorKey, name: &RecordName, number: u64) -> bool
         ensures there { result ≡ is_some (registered self.old key.now name.now number) }
         ensures started { self.new ≡ started_entry (registered self.old key.now name.now number) self.old }
@@ -155,7 +155,7 @@ impl Shelf {
         }
     }
 
-    /// The callback of this registration ended; what follows. Takes no memory.
+    /// The callback of this registration has ended; returns what follows. Takes no memory.
     pub(crate) fn finish(
         &mut self,
         key: &ActorKey,

@@ -5,7 +5,7 @@ ghost use Rattle.timer_book.specs.Soonest.{is_first, sooner, idle, moment_in};
 use crate::entry::TimerEntry;
 use schedule_text::Moment;
 
-/// Whether there is a first moment, and it is not after the second one.
+/// Whether there is a first moment, and it is not after the second one, if there is one.
 pub(crate) fn is_first(first: &Option<Moment>, second: &Option<Moment>) -> bool
     ensures { result ≡ is_first first.now second.now }
 {
@@ -29,7 +29,7 @@ pub(crate) fn sooner(first: Option<Moment>, second: Option<Moment>) -> Option<Mo
     }
 }
 
-/// When the timer is to fire, unless it runs.
+/// When the timer is to fire, unless its callback runs.
 pub(crate) fn idle_moment(entry: &TimerEntry) -> Option<Moment>
     ensures { result ≡ moment_in (idle entry.now) }
 {
@@ -39,7 +39,7 @@ pub(crate) fn idle_moment(entry: &TimerEntry) -> Option<Moment>
     Some(entry.moment)
 }
 
-/// The earlier of the moment of a timer and that of those behind it.
+/// The earlier of the moment of a timer, unless its callback runs, and that of those after it.
 pub(crate) fn soonest_from(entry: &TimerEntry, behind: Option<Moment>) -> Option<Moment>
     ensures { result ≡ sooner (moment_in (idle entry.now)) behind }
 {

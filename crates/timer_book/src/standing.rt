@@ -1,4 +1,4 @@
-// How timers stand in a search tree: in order of space, type, id and name, with the first moment below each node.
+// How timers are kept in a search tree: in order of space, type, id and name, with the first moment below each node.
 ghost use Rattle.std.specs.Prelude.{◌≡◌, refl};
 ghost use Rattle.std.proofs.lemmas.Cmp.{nat_list_cmp_total, lists_total, on_total};
 ghost use Rattle.timer_book.specs.Entries.{entry_place, timer_place, actor_place, place_cmp};
@@ -54,7 +54,7 @@ impl Element for TimerEntry {
     ghost total = { on_total entry_place (lists_total nat_list_cmp_total) };
 }
 
-/// The timer of a key and name.
+/// The place of the timer with this key and name.
 #[derive(Drop)]
 pub(crate) struct TimerPlace<'a> {
     pub(crate) key: &'a ActorKey,
@@ -69,7 +69,7 @@ impl<'a> Probe<TimerEntry> for TimerPlace<'a> {
     }
 }
 
-/// The timers of an actor.
+/// The place of the timers of this actor.
 #[derive(Drop)]
 pub(crate) struct ActorPlace<'a> {
     pub(crate) key: &'a ActorKey,
@@ -83,7 +83,7 @@ impl<'a> Probe<TimerEntry> for ActorPlace<'a> {
     }
 }
 
-/// Another moment, firings left and mark of a running timer.
+/// A new moment, new firings left, and whether the callback runs.
 #[derive(Drop)]
 pub(crate) struct NextFiring {
     pub(crate) moment: Moment,

@@ -1,11 +1,11 @@
-// Worked timers from outside, and that the calls that may want memory succeed with ample memory.
+// Worked runs through the public interface; the calls that may run out of memory succeed if there is enough.
 use super::*;
 use actor_names::{read_key, read_record_name};
 use schedule_text::{Moment, Next, read_schedule};
 use std::alloc::Global;
 use std::test::Fail;
 
-// The moment of so many milliseconds.
+// The moment at this many milliseconds.
 fn at(milliseconds: u64) -> Result<Moment, Fail> {
     let nanos = u128::from(milliseconds) * 1_000_000;
     Ok(Moment::from_nanos(nanos).ok_or("no moment")?)
@@ -15,7 +15,7 @@ fn text(alloc: Global, text: &str) -> Result<TimerText, Fail> {
     Ok(TimerText::from_string(String::from_str(alloc, text)?))
 }
 
-// A timer that is registered at the first moment of all.
+// A timer that is registered at moment 0.
 fn timer(alloc: Global, due: &str, period: &str, ttl: &str) -> Result<Timer, Fail> {
     let schedule = read_schedule(due, period, ttl, at(0)?)?;
     Ok(Timer {

@@ -6,7 +6,7 @@ use actor_names::OutOfMemory;
 use std::alloc::Global;
 use std::marker::Model;
 
-/// A text that a timer carries as it was given; contracts see its bytes.
+/// A text that a timer carries, kept as it was given; contracts see its bytes.
 #[derive(Debug, Drop)]
 pub struct TimerText {
     text: String,
@@ -44,7 +44,7 @@ impl TimerText {
         text
     }
 
-    /// An equal text.
+    /// A copy of the text.
     pub fn copy(&self, alloc: Global) -> Result<TimerText, OutOfMemory>
         ensures { IfOk result (λ copy. copy ≡ self.now) }
     {
@@ -53,7 +53,7 @@ impl TimerText {
     }
 }
 
-/// An equal text, where there is one.
+/// A copy of the text, if there is one.
 pub(crate) fn copy_of(
     alloc: Global,
     text: &Option<TimerText>,

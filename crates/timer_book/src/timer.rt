@@ -6,10 +6,10 @@ use actor_names::OutOfMemory;
 use schedule_text::Schedule;
 use std::alloc::Global;
 
-/// A timer: when it fires, and what its callback is told. The texts are kept as they were given, and may be empty.
+/// A timer: when it fires, and what its callback is given. The texts are kept as they were given, and may be empty.
 #[derive(Debug, Drop)]
 pub struct Timer {
-    /// When it fires, as it was read from the texts.
+    /// When it fires, as read from the texts.
     pub schedule: Schedule,
     /// The method that the callback names.
     pub callback: TimerText,
@@ -17,12 +17,12 @@ pub struct Timer {
     pub payload: Option<TimerText>,
     /// The text that says when it is due.
     pub due: TimerText,
-    /// The text of its period.
+    /// The text that gives its period.
     pub period: TimerText,
 }
 
 impl Timer {
-    /// An equal timer.
+    /// A copy of the timer.
     pub fn copy(&self, alloc: Global) -> Result<Timer, OutOfMemory>
         ensures { IfOk result (λ copy. copy ≡ self.now) }
     {

@@ -1,4 +1,4 @@
-// Timers in order, in a search tree: what is found there, and what each change leaves.
+// Timers in order, in a search tree: what is found there, and what each change leaves behind.
 ghost use Rattle.std.specs.Prelude.{◌≡◌, ◌≤◌, ◌^◌, length, is_some, option_copied, OnOk, OnErr};
 ghost use Rattle.timer_book.specs.Entries.{timer_place, entry_at, count_of, put_entry, without_entry, without_actor, Ascends};
 ghost use Rattle.timer_book.specs.Soonest.{first_of};
@@ -10,7 +10,7 @@ use actor_names::{ActorKey, OutOfMemory, RecordName};
 use search_tree::{Tree, leaf};
 use std::alloc::Global;
 
-/// The timer of this key and name.
+/// The timer with this key and name.
 pub(crate) fn get<'t>(
     tree: &'t Tree<TimerEntry>,
     key: &ActorKey,
@@ -22,14 +22,14 @@ pub(crate) fn get<'t>(
     tree.get(&TimerPlace { key, name })
 }
 
-/// The timer that is to fire first among those that don't run.
+/// The timer that is to fire first among those whose callback doesn't run.
 pub(crate) fn first(tree: &Tree<TimerEntry>) -> Option<&TimerEntry>
     ensures { option_copied result ≡ first_of tree.now }
 {
     tree.first()
 }
 
-/// How many timers the actor has; the others are passed over.
+/// How many timers the actor has; timers of other actors are skipped.
 pub(crate) fn count(tree: &Tree<TimerEntry>, key: &ActorKey) -> usize
     requires order { Ascends tree.now }
     requires fits { length tree.now ≤ 2 ^ 62 }
@@ -38,7 +38,7 @@ pub(crate) fn count(tree: &Tree<TimerEntry>, key: &ActorKey) -> usize
     tree.count(&ActorPlace { key })
 }
 
-/// Puts a timer in its place, in the stead of one of its key and name.
+/// Puts a timer in its place, and replaces one with its key and name.
 pub(crate) fn put(
     tree: &mut Tree<TimerEntry>,
     alloc: Global,
@@ -53,7 +53,7 @@ pub(crate) fn put(
     Ok(())
 }
 
-/// Another moment, firings left and mark of a running timer for the timer of this key and name, where there is one.
+/// Changes the moment, the firings left and the running mark of the timer with this key and name, if there is one.
 pub(crate) fn change(
     tree: &mut Tree<TimerEntry>,
     key: &ActorKey,
@@ -66,7 +66,7 @@ pub(crate) fn change(
     tree.change(&TimerPlace { key, name }, next);
 }
 
-/// Removes the timer of this key and name, and tells whether there was one.
+/// Removes the timer with this key and name, and returns whether there was one.
 pub(crate) fn remove(tree: &mut Tree<TimerEntry>, key: &ActorKey, name: &RecordName) -> bool
     requires { Ascends tree.old }
     ensures there { result ≡ is_some (entry_at (timer_place key.now name.now) tree.old) }

@@ -1,4 +1,4 @@
--- What the bodies of a cell's calls leave, against the rule: the cell after each, and that it keeps its ranges.
+-- The bodies of a cell's calls agree with the rule: the cell that each leaves, and that it keeps its ranges.
 use Rattle.std.proofs.Common.{◌≡◌, ℕ, Bool, true, false, ◌&&◌, ◌+◌, ◌<◌, ◌≤◌, List, [], ◌∷◌, ◌++◌, length, get_or, Option, None, Some, IsSome, refl, sym, ap, subst, ◌∙◌, arith, position, length-append}
 use Rattle.std.specs.Prelude.{◌==◌, remove, option_map}
 use Rattle.std.proofs.lemmas.Bool.{cond_both, cond-true, cond-false, or_parts}
@@ -93,7 +93,7 @@ asked_kept c call chain kept turns k absent given same o l p =
     subst (λ (ts : List Turn). IsCellKept (record c { turns = ts })) (sym p)
     (record { sound = begun.sound; once = begun_once c call kept k.once absent; depth_fits = k.depth_fits; line_fits = k.line_fits; holds_fit = k.holds_fit })
 
--- the same of a call that begins in a free cell
+-- the same for a call that begins in a free cell
 pub freed_kept : (c : CellState) (call : ℕ) (chain kept : Option (List ℕ)) (turns : List Turn) → IsCellKept c → is_in_cell call c ≡ false → (0 < c.depth → IsSome chain) → kept ≡ kept_chain c chain
     → c.turns ≡ [] → turns ≡ c.turns ++ record { call = call; chain = kept } ∷ [] → IsCellKept (record c { turns = turns })
 freed_kept c call chain kept turns k absent given same free p =

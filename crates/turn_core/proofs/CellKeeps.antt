@@ -65,14 +65,14 @@ turn_begins c call chain s fits e =
       opens = refl;
     }
 
--- any turn may begin where none is open
+-- any turn may begin if none is open
 pub enters_free : (depth : ℕ) (turns : List Turn) (chain : Option (List ℕ)) → turns ≡ [] → Enters depth turns chain
 enters_free depth turns chain free =
     subst (λ (ts : List Turn). Enters depth ts chain) (sym free) (record { same = λ t i. absurd i; few = omega arith })
 
 -- ---- the calls
 
--- a call enters beside the turns of its own chain, where the depth allows it
+-- a call enters beside the turns of its own chain, if the depth allows it
 pub enters_beside : (c : CellState) (chain : Option (List ℕ)) → IsCellSound c → FitsDepth c.depth chain → is_open_chain c chain ≡ true → length c.turns < c.depth → Enters c.depth c.turns chain
 enters_beside c chain s fits o l =
     let h = and_parts (nat_lt 0 c.depth) (is_first_chain c.turns chain) o in

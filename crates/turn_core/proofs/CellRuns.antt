@@ -1,4 +1,4 @@
--- Over every list of calls the turns of a cell are isolated.
+-- For every list of calls the turns of a cell are isolated.
 use Rattle.std.proofs.Common.{◌≡◌, ℕ, ◌+◌, ◌-◌, List, [], ◌∷◌, refl, sym, ap, subst, ◌∙◌}
 use Rattle.turn_core.specs.declared.cell.Turn.{Turn}
 use Rattle.turn_core.specs.Cell.{CellState, new_cell}
@@ -27,7 +27,7 @@ run_enters c (e ∷ es) s h =
     (subst (λ (ts : List Turn). EntersAll c.depth ts (run_marks (cell_step c e) es)) (sym k.opens)
     (subst (λ (d : ℕ). EntersAll d (cell_step c e).turns (run_marks (cell_step c e) es)) k.same_depth more))
 
--- the marks tell which turns are open
+-- the marks say which turns are open
 pub run_opens : (c : CellState) (es : List CellEvent) → IsCellSound c → AllMayHappen c es → open_after c.turns (run_marks c es) ≡ (state_after c es).turns
 run_opens c [] s h = refl
 run_opens c (e ∷ es) s h =

@@ -1,4 +1,4 @@
--- How the cell rule goes, case by case.
+-- The cell rule, case by case.
 use Rattle.std.proofs.Common.{◌≡◌, ℕ, Bool, true, ◌&&◌, ◌+◌, ◌<◌, List, [], ◌∷◌, length, Option, None, Some, IsSome, refl, ap, inl, inr, arith}
 use Rattle.std.specs.Prelude.{nat_lt, ◌==◌}
 use Rattle.std.specs.declared.result.Result.TheVariants.{Ok, Err}
@@ -24,12 +24,12 @@ same_chain-true None (Some b) e = absurd (false≢true e)
 same_chain-true (Some a) None e = absurd (false≢true e)
 same_chain-true (Some a) (Some b) e = ap (λ (z : List ℕ). Some z) ((bytes_eq-Decides a b).0 e)
 
--- the first turn is one that carries the chain
+-- if the first turn carries the chain, some turn does
 pub first_chain : (ts : List Turn) (chain : Option (List ℕ)) → is_first_chain ts chain ≡ true → (t : Turn) × In t ts × (t.chain ≡ chain)
 first_chain [] chain e = absurd (false≢true e)
 first_chain (t ∷ ts) chain e = (t, inl refl, same_chain-true t.chain chain e)
 
--- a call keeps a chain exactly where it needs one
+-- a call keeps a chain exactly if reentrancy is on
 pub kept_chain-fits : (c : CellState) (chain : Option (List ℕ)) → (0 < c.depth → IsSome chain) → FitsDepth c.depth (kept_chain c chain)
 kept_chain-fits c chain given =
     cond_both (c.depth == 0) _ _ (λ r. FitsDepth c.depth r)

@@ -1,10 +1,10 @@
--- A line whose first calls are marked as moved, one after another.
+-- A queue whose first calls are marked as moved, one after another.
 use Rattle.std.proofs.Common.{◌≡◌, ℕ, zero, suc, Bool, true, false, if◌then◌else◌, ◌+◌, ◌<◌, List, [], ◌∷◌, ◌++◌, length, get_or, set, take, drop, refl, ap, ◌∙◌, arith, add-one}
 use Rattle.std.proofs.lemmas.List.{at_drop_more}
 use Rattle.turn_core.specs.declared.cell.Waiter.{Waiter}
 use Rattle.turn_core.specs.Cell.{all_moved, unmoved}
 
--- the line where the first i calls are marked
+-- the queue with its first i calls marked
 abbrev pub moved_to : ℕ → List Waiter → List Waiter
 moved_to i ws = all_moved (take i ws) ++ drop i ws
 

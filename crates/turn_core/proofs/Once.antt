@@ -1,4 +1,4 @@
--- How often a call stands in a cell, after each change of its turns and its line.
+-- How often a call is in a cell, after each change of its turns and its queue.
 use Rattle.std.proofs.Common.{◌≡◌, ℕ, Bool, true, false, if◌then◌else◌, ◌+◌, ◌≤◌, List, [], ◌∷◌, ◌++◌, Option, None, Some, is_some, refl, sym, ap, ◌∙◌, arith}
 use Rattle.std.specs.Prelude.{◌==◌}
 use Rattle.std.proofs.lemmas.Bool.{cond_both, cond-true, cond-false, or_parts, eqb-true}
@@ -7,7 +7,7 @@ use Rattle.turn_core.specs.declared.cell.Waiter.{Waiter}
 use Rattle.turn_core.specs.Cell.{CellState, has_turn, without_turn, waiter_of, without_waiter, first_unmoved, without_first_unmoved, all_moved, with_turn, with_waiter, begun_next, is_in_cell}
 use Rattle.turn_core.specs.CellSound.{turns_of, waiters_of, times_in, HasCallsOnce}
 
--- one where the two are the same call
+-- one if the two are the same call
 abbrev one_of : ℕ → ℕ → ℕ
 one_of n call = if n == call then 1 else 0
 
@@ -35,7 +35,7 @@ no_waiter n (w ∷ ws) e =
     (λ _ q. absurd (cc))
     (λ off q. let first : one_of n w.call ≡ 0 = cond-false (n == w.call) 1 0 off in let rest = more q in omega arith) e
 
--- a call that isn't in the cell stands nowhere in it
+-- a call that isn't in the cell is there zero times
 pub absent_times : (n : ℕ) (c : CellState) → is_in_cell n c ≡ false → times_in n c ≡ 0
 absent_times n c e =
     let h = or_parts (has_turn n c.turns) (is_some (waiter_of n c.line)) e in
@@ -55,7 +55,7 @@ waiters_of-without n call (w ∷ ws) =
     let more = waiters_of-without n call ws in
     cond_both (call == w.call) _ _ (λ r. waiters_of n r ≤ one_of n w.call + waiters_of n ws) (λ _. omega arith) (λ _. omega arith)
 
--- the first call that isn't moved leaves the line
+-- the first call that isn't moved leaves the queue
 waiters_of-first : (n : ℕ) (ws : List Waiter) (w : Waiter) → first_unmoved ws ≡ Some w → waiters_of n ws ≡ waiters_of n (without_first_unmoved ws) + one_of n w.call
 waiters_of-first n [] w e = absurd (cc)
 waiters_of-first n (v ∷ ws) w e =

@@ -47,7 +47,7 @@ open_within depth turns (Ended call ∷ marks) (suc n) p few =
 
 -- ---- two turns that overlap
 
--- a turn is still open at a later place, where no end of its call stands between
+-- a turn is still open at a later place, if no mark in between ends its call
 met_open : (depth : ℕ) (turns : List Turn) (marks : List TurnMark) (j : ℕ) (t : Turn) (b : ℕ) (y : Option (List ℕ))
     → In t turns → EntersAll depth turns marks → slice_get marks j ≡ Some (Began b y)
     → ((p : ℕ) → p < j → slice_get marks p ≡ Some (Ended t.call) → ⊥)

@@ -1,4 +1,4 @@
--- What a search for the first element that passes a test says of the functions of the cell rule.
+-- What a search for the first element that passes a test says about the functions of the cell rule.
 use Rattle.std.proofs.Common.{◌≡◌, ℕ, zero, suc, Bool, true, false, not, cond, ◌+◌, ◌<◌, ◌≤◌, List, [], ◌∷◌, length, get_or, Some, None, refl, ap, ◌∙◌, arith, position}
 use Rattle.std.specs.Prelude.{◌==◌, remove}
 use Rattle.std.specs.List.{position_or_len}
@@ -11,7 +11,7 @@ use Rattle.turn_core.specs.declared.cell.Turn.{Turn}
 use Rattle.turn_core.specs.declared.cell.Waiter.{Waiter}
 use Rattle.turn_core.specs.Cell.{has_turn, without_turn, waiter_of, place_of, without_waiter, first_unmoved, without_first_unmoved}
 
--- nothing passes where nothing is found
+-- if nothing is found, no element passes
 pub fails_past : {X : Type 0} (p : X → Bool) (xs : List X) → position p xs ≡ None → (k : ℕ) (d : X) → k < length xs → p (get_or xs k d) ≡ false
 fails_past p xs e k d l =
     let past = cond_both (nat_lt (position_or_len p xs) (length xs)) _ _ (λ r. r ≡ None → length xs ≤ position_or_len p xs) (λ _ q. absurd (cc)) (λ g _. ltb-false _ _ g) e in

@@ -1,6 +1,6 @@
--- Turn admission: one actor's open turns, the line of calls that wait, and its holds.
--- From the description of turns and reentrancy in Dapr's "Actor runtime features"; the line's length, the
--- depth's range, polls, holds and moved calls are own.
+-- Turn admission: one actor's open turns, its queue of waiting calls, and its holds.
+-- From the description of turns and reentrancy in Dapr's "Actor runtime features"; the queue's length, the
+-- depth's range, polls, holds and moved calls are own additions.
 use Rattle.std.specs.Prelude.{◌≡◌, ℕ, ◌+◌, ◌-◌, Bool, true, false, ◌&&◌, ◌||◌, ◌==◌, nat_lt, if◌then◌else◌, List, [], ◌∷◌, ◌++◌, length, bytes_eq, Option, None, Some, is_some, option_map}
 use Rattle.std.specs.declared.result.Result.{Result}
 use Rattle.std.specs.declared.result.Result.TheVariants.{Ok, Err}
@@ -25,7 +25,7 @@ pub record CellState : Type 0 where
 abbrev pub longest_line : ℕ
 longest_line = 1024
 
--- the depth's own range ends here
+-- the upper end of the depth's range
 abbrev pub greatest_depth : ℕ
 greatest_depth = 1024
 
@@ -41,12 +41,12 @@ same_chain (Some a) (Some b) = bytes_eq a b
 abbrev pub is_free : CellState → Bool
 is_free c = length c.turns == 0
 
--- whether the open turns, if there are any, carry this chain
+-- whether a turn is open and the first one carries this chain
 abbrev pub is_first_chain : List Turn → Option (List ℕ) → Bool
 is_first_chain [] chain = false
 is_first_chain (t ∷ ts) chain = same_chain t.chain chain
 
--- whether a call of this chain may enter beside the open turns, as far as the depth allows
+-- whether reentrancy is on and the open turns carry this chain, however many they are
 abbrev pub is_open_chain : CellState → Option (List ℕ) → Bool
 is_open_chain c chain = nat_lt 0 c.depth && is_first_chain c.turns chain
 
@@ -66,7 +66,7 @@ abbrev pub waiter_of : ℕ → List Waiter → Option Waiter
 waiter_of call [] = None
 waiter_of call (w ∷ ws) = if call == w.call then Some w else waiter_of call ws
 
--- its place in the whole line, from 1
+-- the call's place in the whole queue, from 1
 abbrev pub place_of : ℕ → List Waiter → ℕ
 place_of call [] = 1
 place_of call (w ∷ ws) = if call == w.call then 1 else 1 + place_of call ws
@@ -75,7 +75,7 @@ abbrev pub without_waiter : ℕ → List Waiter → List Waiter
 without_waiter call [] = []
 without_waiter call (w ∷ ws) = if call == w.call then ws else w ∷ without_waiter call ws
 
--- the first call that isn't moved, and the line without it
+-- the first call that isn't moved, and the queue without it
 abbrev pub first_unmoved : List Waiter → Option Waiter
 first_unmoved [] = None
 first_unmoved (w ∷ ws) = if w.moved then first_unmoved ws else Some w
@@ -98,13 +98,13 @@ with_turn c call chain = record c { turns = c.turns ++ record { call = call; cha
 abbrev pub with_waiter : CellState → ℕ → Option (List ℕ) → CellState
 with_waiter c call chain = record c { line = c.line ++ record { call = call; chain = chain; moved = false } ∷ [] }
 
--- a cell after a call of it, and what the call answers
+-- the cell after a call on it, and what the call answers
 pub record AskStep : Type 0 where
   pub cell : CellState
   pub answer : Result Asked CellError
 
--- Begins at once where the chain is the open one and the depth allows it, or where nothing is open and a new
--- chain may begin. Else it is refused for its depth or for the line's length, or it joins the line.
+-- The call begins at once if its chain is the open one and the depth allows it, or if no turn is open and a new
+-- chain may begin. Otherwise it is refused for its depth or for the queue's length, or it joins the queue.
 abbrev pub admit_call : CellState → ℕ → Option (List ℕ) → Bool → AskStep
 admit_call c call chain may_begin =
     let kept = kept_chain c chain in
@@ -127,11 +127,11 @@ abbrev pub begun_next : CellState → Option Waiter → CellState
 begun_next c None = c
 begun_next c (Some w) = record c { turns = c.turns ++ record { call = w.call; chain = w.chain } ∷ []; line = without_first_unmoved c.line }
 
--- the first call in the line that isn't moved begins
+-- the first call in the queue that isn't moved begins
 abbrev pub cell_begin_next : CellState → CellState
 cell_begin_next c = begun_next c (first_unmoved c.line)
 
--- the call that begins where the cell is free and a new chain may begin
+-- the call that begins if the cell is free and a new chain may begin
 abbrev pub next_call : Bool → CellState → Option Waiter
 next_call may_begin c = if may_begin && is_free c then first_unmoved c.line else None
 
@@ -146,12 +146,13 @@ pub record EndStep : Type 0 where
 abbrev pub without_call : CellState → ℕ → CellState
 without_call c call = record c { turns = without_turn call c.turns }
 
--- whether the call is in the line
+-- the answer for a call that isn't open, by whether it is in the queue
 abbrev pub not_open : Option Waiter → CellEnd
 not_open None = ending.AlreadyEnded
 not_open (Some w) = ending.StillWaiting
 
--- An open turn ends, and the next call begins where the cell is free then; any other end changes nothing.
+-- An open turn ends, and the next call begins if the cell is then free and a new chain may begin. The end of a
+-- call that isn't open changes nothing.
 abbrev pub cell_end : CellState → ℕ → Bool → EndStep
 cell_end c call may_begin =
     if has_turn call c.turns then
@@ -162,7 +163,7 @@ pub record PollStep : Type 0 where
   pub cell : CellState
   pub answer : CellPoll
 
--- A moved call is taken off the line; any other poll changes nothing.
+-- A moved call is removed from the queue; any other poll changes nothing.
 abbrev pub poll_waiter : CellState → ℕ → Option Waiter → PollStep
 poll_waiter c call None = record { cell = c; answer = polled.Gone }
 poll_waiter c call (Some w) =
@@ -172,14 +173,14 @@ poll_waiter c call (Some w) =
 abbrev pub cell_poll : CellState → ℕ → PollStep
 cell_poll c call = if has_turn call c.turns then record { cell = c; answer = polled.Begun } else poll_waiter c call (waiter_of call c.line)
 
--- one hold more, and one less where there is one
+-- one hold more, and one less if there is one
 abbrev pub with_hold : CellState → CellState
 with_hold c = record c { holds = c.holds + 1 }
 
 abbrev pub without_hold : CellState → CellState
 without_hold c = record c { holds = c.holds - 1 }
 
--- every call in the line is moved
+-- every call in the queue is marked as moved
 abbrev pub with_line_moved : CellState → CellState
 with_line_moved c = record c { line = all_moved c.line }
 
@@ -192,16 +193,16 @@ abbrev pub chain_of : List Turn → Option (List ℕ)
 chain_of [] = None
 chain_of (t ∷ ts) = t.chain
 
--- the calls of the open turns, the one that began first before the others
+-- the calls of the open turns, in the order in which the turns began
 abbrev pub turn_calls : List Turn → List ℕ
 turn_calls [] = []
 turn_calls (t ∷ ts) = t.call ∷ turn_calls ts
 
--- whether the call is open or in the line
+-- whether the call is open or in the queue
 abbrev pub is_in_cell : ℕ → CellState → Bool
 is_in_cell call c = has_turn call c.turns || is_some (waiter_of call c.line)
 
--- what an ask gives: at want of memory the cell is as before, else it is the rule's step
+-- what an ask gives: the step of the rule, or out of memory with the cell as before
 abbrev pub GivesStep : Result Asked CellError → CellState → CellState → AskStep → Type 0
 GivesStep (Ok a) old new step = (Ok a ≡ step.answer) × (new ≡ step.cell)
 GivesStep (Err (refused.Depth n)) old new step = (Err (refused.Depth n) ≡ step.answer) × (new ≡ step.cell)

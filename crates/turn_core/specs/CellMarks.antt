@@ -1,5 +1,5 @@
--- Overlapping turns: what the whole list of began and ended marks of one actor says, apart from the rule by
--- which a cell admits calls; and the marks that each call of a cell adds. Own.
+-- Overlapping turns, defined on the whole list of began and ended marks of one actor, apart from the rule by which
+-- a cell admits calls; and the marks that each call of a cell adds. Own.
 use Rattle.std.specs.Prelude.{◌≡◌, ◌<◌, ◌≤◌, ◌^◌, max, ℕ, Bool, false, if◌then◌else◌, List, [], ◌∷◌, ◌++◌, length, take, slice_get, Option, None, Some, IsSome}
 use Rattle.std.specs.declared.result.Result.{Result}
 use Rattle.std.specs.declared.result.Result.TheVariants.{Ok, Err}
@@ -10,12 +10,12 @@ use Rattle.turn_core.specs.declared.answer.Asked.TheVariants as asked
 use Rattle.turn_core.specs.declared.answer.CellError.{CellError}
 use Rattle.turn_core.specs.Cell.{CellState, kept_chain, has_turn, without_turn, first_unmoved, is_in_cell, next_call, without_call, admit_call, cell_end, cell_poll, cell_begin_next, with_hold, without_hold, with_line_moved, without_turns}
 
--- a call's turn began under this chain, or ended
+-- a call's turn began with this chain, or ended
 pub data TurnMark : Type 0 where
   Began : (call : ℕ) → (chain : Option (List ℕ)) → TurnMark
   Ended : (call : ℕ) → TurnMark
 
--- Two turns overlap where each began before the other ended; a turn that has no end mark never ended.
+-- Two turns overlap if each began before the other ended; a turn that has no end mark never ended.
 -- Here the turn of call `a` begins at place i and that of call `b` at the later place j.
 pub record TurnsOverlap (marks : List TurnMark) (i j a b : ℕ) (x y : Option (List ℕ)) : Type 0 where
   pub first : slice_get marks i ≡ Some (Began a x)
@@ -23,18 +23,18 @@ pub record TurnsOverlap (marks : List TurnMark) (i j a b : ℕ) (x y : Option (L
   pub in_order : i < j
   pub not_over : (p : ℕ) → i < p → p < j → slice_get marks p ≡ Some (Ended a) → ⊥
 
--- the turns that are open after these marks, where `turns` are open before them
+-- the turns that are open after these marks, if `turns` are open before them
 abbrev pub open_after : List Turn → List TurnMark → List Turn
 open_after turns [] = turns
 open_after turns (Began call chain ∷ marks) = open_after (turns ++ record { call = call; chain = chain } ∷ []) marks
 open_after turns (Ended call ∷ marks) = open_after (without_turn call turns) marks
 
--- With a depth of 1 or more at most that many turns are open at once, with reentrancy off one.
+-- The greatest number of turns that are open at once: the depth, or one if reentrancy is off.
 abbrev pub most_turns : ℕ → ℕ
 most_turns depth = max depth 1
 
--- Turns never mix: two that overlap carry one chain, and then reentrancy is on; and at no moment are more
--- turns open than the depth allows.
+-- Turns never mix: two that overlap carry the same chain, and reentrancy is on; and there are never more turns
+-- open at once than the depth allows.
 pub record TurnsIsolated (depth : ℕ) (marks : List TurnMark) : Type 0 where
   pub one_chain : (i j a b : ℕ) (x y : Option (List ℕ)) → TurnsOverlap marks i j a b x y → (x ≡ y) × IsSome x × (0 < depth)
   pub within_depth : (n : ℕ) → length (open_after [] (take n marks)) ≤ most_turns depth
@@ -46,7 +46,7 @@ asked_marks call chain (Ok asked.Begun) = Began call chain ∷ []
 asked_marks call chain (Ok (asked.Waits place)) = []
 asked_marks call chain (Err e) = []
 
--- a call that is asked begins, or adds nothing
+-- the turn of a call that is asked begins, or no mark is added
 abbrev pub ask_marks : CellState → ℕ → Option (List ℕ) → Bool → List TurnMark
 ask_marks c call chain may_begin = asked_marks call (kept_chain c chain) (admit_call c call chain may_begin).answer
 
@@ -66,13 +66,13 @@ abbrev pub ended_marks : List Turn → List TurnMark
 ended_marks [] = []
 ended_marks (t ∷ ts) = Ended t.call ∷ ended_marks ts
 
--- each open turn ends, the one that began first before the others
+-- each open turn ends, in the order in which the turns began
 abbrev pub end_all_marks : CellState → List TurnMark
 end_all_marks c = ended_marks c.turns
 
 -- ---- lists of calls
 
--- a call of a cell that changes it; one that had no memory changes nothing, and stands in no list
+-- a call that may change the cell; a call that ran out of memory changes nothing, and is in no list
 pub data CellEvent : Type 0 where
   Asks : (call : ℕ) → (chain : Option (List ℕ)) → (may_begin : Bool) → CellEvent
   Ends : (call : ℕ) → (may_begin : Bool) → CellEvent

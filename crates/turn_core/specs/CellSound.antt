@@ -10,18 +10,18 @@ abbrev pub In : {A : Type 0} → A → List A → Type 0
 In x [] = ⊥
 In x (y ∷ ys) = (x ≡ y) ⊎ In x ys
 
--- there is a chain exactly where reentrancy is on
+-- there is a chain exactly if reentrancy is on
 abbrev pub FitsDepth : ℕ → Option (List ℕ) → Type 0
 FitsDepth depth chain = is_some chain ≡ nat_lt 0 depth
 
--- the open turns carry one chain and are within the depth, and each call has a chain where it needs one
+-- the open turns carry one chain and are within the depth, and each call has a chain exactly if reentrancy is on
 pub record IsCellSound (c : CellState) : Type 0 where
   pub one_chain : (t u : Turn) → In t c.turns → In u c.turns → t.chain ≡ u.chain
   pub within : length c.turns ≤ most_turns c.depth
   pub turns_fit : (t : Turn) → In t c.turns → FitsDepth c.depth t.chain
   pub line_fit : (w : Waiter) → In w c.line → FitsDepth c.depth w.chain
 
--- how often a call stands among open turns, in a line, and in a cell
+-- how often a call is among open turns, in a queue, and in a cell
 abbrev pub turns_of : ℕ → List Turn → ℕ
 turns_of call [] = 0
 turns_of call (t ∷ ts) = (if call == t.call then 1 else 0) + turns_of call ts
@@ -33,11 +33,11 @@ waiters_of call (w ∷ ws) = (if call == w.call then 1 else 0) + waiters_of call
 abbrev pub times_in : ℕ → CellState → ℕ
 times_in call c = turns_of call c.turns + waiters_of call c.line
 
--- a call stands at most once in the cell: its turn is open, or it is in the line, or neither
+-- a call is in the cell at most once: its turn is open, or it is in the queue, or neither
 abbrev pub HasCallsOnce : CellState → Type 0
 HasCallsOnce c = (call : ℕ) → times_in call c ≤ 1
 
--- and besides no call stands twice, and the depth, the line and the holds are in their ranges
+-- also, no call is in the cell twice, and the depth, the queue and the holds are in their ranges
 pub record IsCellKept (c : CellState) : Type 0 where
   pub sound : IsCellSound c
   pub once : HasCallsOnce c

@@ -1,50 +1,50 @@
 // What the calls of a cell answer.
 use thiserror::Error;
 
-/// What became of a call that was asked.
+/// What happened to a call that asked for a turn.
 #[derive(Clone, Copy, Debug, PartialEq, Eq)]
 pub enum Asked {
     /// Its turn is open.
     Begun,
-    /// It is in the line, at this place from 1, moved calls among those before it.
+    /// It is in the queue, at this place counted from 1. Moved calls before it count too.
     Waits { place: u64 },
 }
 
 /// Why a call was refused; the cell is as before.
 #[derive(Clone, Copy, Debug, PartialEq, Eq, Error)]
 pub enum CellError {
-    /// The call's chain has all the open turns that the depth allows.
+    /// The call's chain already has as many open turns as the depth allows.
     #[error("{turns} turns of the chain are open")]
     Depth { turns: u64 },
-    /// The call would join the line, which has `n` calls, its greatest length of 1,024.
+    /// The call would have to wait, and the queue is full: it has `n` calls, the maximum of 1,024.
     #[error("{n} calls wait")]
     QueueFull { n: u64 },
-    /// There was no memory for the call.
+    /// Out of memory for the call, or for a new cell.
     #[error("out of memory")]
     OutOfMemory,
 }
 
-/// What became of a turn that was to end.
+/// The outcome of ending a turn.
 #[derive(Clone, Copy, Debug, PartialEq, Eq)]
 pub enum CellEnd {
-    /// It has ended, and the turn of the call `next` has begun.
+    /// It has ended. If `next` is a call, the turn of that call has begun.
     Ended { next: Option<u64> },
-    /// The call is neither open nor in the line.
+    /// The call is neither open nor in the queue.
     AlreadyEnded,
-    /// The call is in the line.
+    /// The call is in the queue.
     StillWaiting,
 }
 
-/// Where a call stands.
+/// The state of a call.
 #[derive(Clone, Copy, Debug, PartialEq, Eq)]
 pub enum CellPoll {
     /// Its turn is open.
     Begun,
-    /// It is in the line, at this place from 1.
+    /// It is in the queue, at this place counted from 1.
     Waits { place: u64 },
-    /// It was moved, and is now off the line.
+    /// It was moved. `poll` has removed it from the queue; `look` leaves it there.
     Moved,
-    /// It is neither open nor in the line.
+    /// It is neither open nor in the queue.
     Gone,
 }
 

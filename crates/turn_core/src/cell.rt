@@ -15,14 +15,14 @@ use std::alloc::Global;
 use std::collections::VecDeque;
 use std::marker::Model;
 
-/// A call whose turn is open, and its chain where reentrancy is on.
+/// A call whose turn is open, with its chain if reentrancy is on.
 #[derive(Drop)]
 pub(crate) struct Turn {
     pub(crate) call: u64,
     pub(crate) chain: Option<ChainId>,
 }
 
-/// A call in the line.
+/// A call in the queue.
 #[derive(Drop)]
 pub(crate) struct Waiter {
     pub(crate) call: u64,
@@ -30,7 +30,7 @@ pub(crate) struct Waiter {
     pub(crate) moved: bool,
 }
 
-/// One actor's open turns, its line of calls and its holds.
+/// One actor's open turns, its queue of waiting calls and its holds.
 #[derive(Drop)]
 pub struct Cell {
     depth: u32,
@@ -39,7 +39,7 @@ pub struct Cell {
     holds: u64,
 }
 
-/// The greatest number of calls in a line.
+/// The greatest length of a queue.
 const LONGEST_LINE: usize = 1024;
 
 impl Model for Cell {
@@ -55,8 +55,8 @@ impl Model for Cell {
 }
 
 impl Cell {
-    /// A cell with no turn, no call in the line and no hold. A `depth` of 0 is reentrancy off, else it is the
-    /// greatest number of turns of one chain that are open at once, from 1 to 1,024.
+    /// A cell with no open turn, an empty queue and no hold. A `depth` of 0 turns reentrancy off; a `depth` from 1 to
+    /// 1,024 is the greatest number of turns of one chain that may be open at once. The only error is `OutOfMemory`.
     pub fn new(alloc: Global, depth: u32) -> Result<Cell, CellError>
         requires { depth ≤ greatest_depth }
         ensures ok { IfOk result (λ cell. cell ≡ new_cell depth) }
@@ -73,9 +73,9 @@ impl Cell {
         }
     }
 
-    /// Begins the call, puts it at the end of the line or refuses it. A chain that is open enters again up to the
-    /// depth, whatever `may_begin` says; any other call begins only where no turn is open and `may_begin` holds.
-    /// At depth 0 the chain is ignored.
+    /// Begins the call, puts it at the end of the queue or refuses it. A call whose chain has open turns begins at
+    /// once, up to the depth, whatever `may_begin` says. Any other call begins only if no turn is open and
+    /// `may_begin` is true. At depth 0 the chain is ignored.
     pub fn ask(
         &mut self,
         alloc: Global,
@@ -112,7 +112,7 @@ impl Cell {
         })
     }
 
-    /// Ends the call's turn; where no turn is open afterwards and `may_begin` holds, the first call in the line
+    /// Ends the call's turn. If no turn is open afterwards and `may_begin` is true, the first call in the queue
     /// that isn't moved begins.
     pub fn end(&mut self, call: u64, may_begin: bool) -> CellEnd
         ensures answer { result ≡ (cell_end self.old call may_begin).answer }
@@ -129,7 +129,7 @@ impl Cell {
         }
     }
 
-    /// Where the call stands; a moved one is taken off the line.
+    /// The state of the call. A moved call is removed from the queue.
     pub fn poll(&mut self, call: u64) -> CellPoll
         ensures answer { result ≡ (cell_poll self.old call).answer }
         ensures cell { self.new ≡ (cell_poll self.old call).cell }
@@ -151,7 +151,7 @@ impl Cell {
         }
     }
 
-    /// Where the call stands; a moved one stays in the line.
+    /// The state of the call. A moved call stays in the queue.
     pub fn look(&self, call: u64) -> CellPoll
         ensures { result ≡ (cell_poll self.now call).answer }
     {
@@ -171,14 +171,14 @@ impl Cell {
         }
     }
 
-    /// Whether the call is open or in the line.
+    /// Whether the call is open or in the queue.
     pub fn has(&self, call: u64) -> bool
         ensures { result ≡ is_in_cell call self.now }
     {
         is_open(&self.turns, call) || is_waiting(&self.line, call)
     }
 
-    /// Begins the first call in the line that isn't moved, and gives its number.
+    /// Begins the first call in the queue that isn't moved and returns its number, or `None` if there is none.
     pub fn begin_next(&mut self) -> Option<u64>
         requires { self.old.turns ≡ [] }
         ensures answer { result ≡ option_map call_of (first_unmoved self.old.line) }
@@ -187,7 +187,7 @@ impl Cell {
         begin_first(&mut self.turns, &mut self.line)
     }
 
-    /// Holds the actor once more.
+    /// Adds one hold of the actor.
     pub fn hold(&mut self)
         requires { self.old.holds < 2 ^ 62 }
         ensures { self.new ≡ with_hold self.old }
@@ -195,7 +195,7 @@ impl Cell {
         self.holds += 1;
     }
 
-    /// Takes one hold off.
+    /// Removes one hold; `NotHeld` if there is none.
     pub fn release(&mut self) -> Result<(), NotHeld>
         ensures answer { OnErr result (self.old.holds ≡ 0) }
         ensures held { OnOk result (0 < self.old.holds) }
@@ -208,7 +208,7 @@ impl Cell {
         Ok(())
     }
 
-    /// Marks every call in the line as moved, and gives how many weren't.
+    /// Marks every call in the queue as moved, and returns how many weren't moved before.
     pub fn move_waiting(&mut self) -> u32
         ensures answer { result ≡ unmoved self.old.line }
         ensures cell { self.new ≡ with_line_moved self.old }
@@ -216,7 +216,7 @@ impl Cell {
         move_line(&mut self.line)
     }
 
-    /// Ends the open turns, and gives how many there were; no call begins.
+    /// Ends every open turn, and returns how many there were. No call begins.
     pub fn end_all(&mut self) -> u32
         ensures answer { result ≡ length self.old.turns }
         ensures cell { self.new ≡ without_turns self.old }
@@ -226,14 +226,14 @@ impl Cell {
         count
     }
 
-    /// The depth that the cell was made with; 0 is reentrancy off.
+    /// The depth that the cell was made with; 0 means that reentrancy is off.
     pub fn depth(&self) -> u32
         ensures { result ≡ self.now.depth }
     {
         self.depth
     }
 
-    /// The chain of the open turns, where reentrancy is on.
+    /// The chain of the open turns: `None` if no turn is open or reentrancy is off.
     pub fn chain(&self) -> Option<&ChainId>
         ensures { option_copied result ≡ chain_of self.now.turns }
     {
@@ -254,8 +254,8 @@ impl Cell {
         self.turns.len() as u32
     }
 
-    /// Puts the calls of the open turns at the end of a list with room for them, the one that began first before
-    /// the others.
+    /// Appends the calls of the open turns to `calls`, in the order in which the turns began. `calls` must have room
+    /// for them.
     pub fn list_turns(&self, calls: &mut Vec<u64>)
         requires { vec_len calls.old + length self.now.turns ≤ vec_capacity calls.old }
         ensures items { calls.new.items ≡ calls.old.items ++ turn_calls self.now.turns }
@@ -264,7 +264,7 @@ impl Cell {
         list_calls(&self.turns, calls);
     }
 
-    /// How many calls are in the line, moved ones among them: at most 1,024.
+    /// How many calls are in the queue, moved ones included: at most 1,024.
     pub fn waiting(&self) -> u32
         ensures count { result ≡ length self.now.line }
         ensures within { result ≤ longest_line }
@@ -272,7 +272,7 @@ impl Cell {
         self.line.len() as u32
     }
 
-    /// How many calls in the line aren't moved: at most 1,024.
+    /// How many calls in the queue aren't moved: at most 1,024.
     pub fn unmoved(&self) -> u32
         ensures { result ≡ unmoved self.now.line }
     {

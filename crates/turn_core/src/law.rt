@@ -1,11 +1,12 @@
-// What holds over every list of calls.
+// What holds for every list of calls.
 ghost use Rattle.std.specs.Prelude.{◌≡◌, ◌≤◌, ℕ, List, []};
 ghost use Rattle.turn_core.specs.Cell.{new_cell, greatest_depth};
 ghost use Rattle.turn_core.specs.CellMarks.{CellEvent, AllMayHappen, TurnsIsolated, open_after, run_marks, state_after};
 ghost use Rattle.turn_core.specs.CellSound.{IsCellSound};
 
-/// Over every list of calls on one cell, each made as it requires: turns that overlap carry one chain and at
-/// most the depth of them are open, the marks tell the open turns, and the cell stays sound.
+/// For every list of calls on one cell, each made with its requirements met: turns that overlap carry the same
+/// chain, no more turns are open at once than the depth allows, the marks say which turns are open, and the cell
+/// stays sound.
 pub fn turns_isolated_law()
     ensures isolated { (depth : ℕ) (events : List CellEvent) → depth ≤ greatest_depth → AllMayHappen (new_cell depth) events →
         TurnsIsolated depth (run_marks (new_cell depth) events) }

@@ -1,7 +1,7 @@
 // One actor's turns: which call begins, which waits and which is refused.
 //
-// Promise: each call of a `Cell` is the cell rule (`specs/Cell`); so turns that overlap carry one chain and
-// at most the depth of them are open (`specs/CellMarks`). Stands on actor_names.
+// Promise: each call of a `Cell` follows the cell rule (`specs/Cell`). So turns that overlap carry the same chain,
+// and no more of them are open at once than the depth allows (`specs/CellMarks`). Depends on actor_names.
 #![tactic(auto)]
 
 mod answer;

@@ -1,4 +1,4 @@
-// The calls that wait in a cell, first come first.
+// The queue of calls that wait in a cell, in the order of arrival.
 ghost use Rattle.std.specs.Prelude.{◌≡◌, ◌<◌, ◌≤◌, ◌^◌, ◌==◌, ◌∷◌, ◌++◌, [], not, true, false, if◌then◌else◌, length, is_some, position, remove, OnOk, IfErr, option_map, vec_len, vec_capacity};
 ghost use Rattle.std.specs.List.{slice_index_or};
 ghost use Rattle.std.specs.Option.{option_copied};
@@ -11,14 +11,14 @@ use actor_names::ChainId;
 use std::alloc::Global;
 use std::collections::VecDeque;
 
-/// The place of the call, from 0.
+/// The place of the call in the queue, from 0.
 pub(crate) fn waiter_place(line: &VecDeque<Waiter>, call: u64) -> Option<usize>
     ensures { result ≡ position (λ w. call == w.call) line.now.items }
 {
     line.iter().position(|waiter| call == waiter.call)
 }
 
-/// Whether the call is in the line.
+/// Whether the call is in the queue.
 pub(crate) fn is_waiting(line: &VecDeque<Waiter>, call: u64) -> bool
     ensures { result ≡ is_some (waiter_of call line.now.items) }
 {
@@ -35,7 +35,7 @@ pub(crate) fn unmoved_place(line: &VecDeque<Waiter>) -> Option<usize>
     line.iter().position(|waiter| !waiter.moved)
 }
 
-/// Puts the call at the end of the line, under a copy of the chain.
+/// Puts the call at the end of the queue, with a copy of the chain.
 pub(crate) fn join_line(
     alloc: Global,
     line: &mut VecDeque<Waiter>,
@@ -57,7 +57,7 @@ pub(crate) fn join_line(
     }
 }
 
-/// Takes the call at this place off the line: the front in constant time, any other by moving the shorter side.
+/// Removes the call at this place: the first in constant time, any other by moving the shorter side of the queue.
 pub(crate) fn take_at(line: &mut VecDeque<Waiter>, at: usize) -> Waiter
     requires { at < length line.old.items }
     ensures value { result ≡ slice_index_or line.old.items at result }
@@ -74,7 +74,7 @@ pub(crate) fn take_at(line: &mut VecDeque<Waiter>, at: usize) -> Waiter
     }
 }
 
-/// Takes the first call that isn't moved off the line.
+/// Removes and returns the first call in the queue that isn't moved.
 pub(crate) fn take_first(line: &mut VecDeque<Waiter>) -> Option<Waiter>
     ensures first { result ≡ first_unmoved line.old.items }
     ensures rest { line.new.items ≡ without_first_unmoved line.old.items }
@@ -85,7 +85,7 @@ pub(crate) fn take_first(line: &mut VecDeque<Waiter>) -> Option<Waiter>
     }
 }
 
-/// What an end answers of a call that isn't open.
+/// What `Cell::end` answers for a call that isn't open.
 pub(crate) fn end_in_line(line: &VecDeque<Waiter>, call: u64) -> CellEnd
     ensures { result ≡ not_open (waiter_of call line.now.items) }
 {
@@ -95,7 +95,7 @@ pub(crate) fn end_in_line(line: &VecDeque<Waiter>, call: u64) -> CellEnd
     }
 }
 
-/// Begins the first call in the line that isn't moved, and gives its number.
+/// Begins the first call in the queue that isn't moved, and returns its number.
 pub(crate) fn begin_first(turns: &mut Vec<Turn>, line: &mut VecDeque<Waiter>) -> Option<u64>
     requires { vec_len turns.old < vec_capacity turns.old }
     ensures answer { result ≡ option_map call_of (first_unmoved line.old.items) }
@@ -126,7 +126,7 @@ pub(crate) fn count_unmoved(line: &VecDeque<Waiter>) -> u32
     count
 }
 
-/// Marks the call as moved, and counts it where it wasn't.
+/// Marks the call as moved, and returns 1 if it wasn't moved before, else 0.
 fn move_waiter(waiter: &mut Waiter) -> u32
     ensures moved { waiter.new ≡ record waiter.old { moved = true } }
     ensures count { result ≡ (if waiter.old.moved then 0 else 1) }
@@ -136,7 +136,7 @@ fn move_waiter(waiter: &mut Waiter) -> u32
     count
 }
 
-/// Marks every call as moved, and counts those that weren't.
+/// Marks every call as moved, and returns how many weren't moved before.
 pub(crate) fn move_line(line: &mut VecDeque<Waiter>) -> u32
     requires { length line.old.items < 2 ^ 32 }
     ensures moved { line.new.items ≡ all_moved line.old.items }

@@ -1,4 +1,4 @@
-// What no clause says: that the calls that may want memory succeed with ample memory.
+// What no contract says: the calls that may run out of memory succeed if there is enough.
 use crate::{Asked, Cell, CellEnd, CellError, CellPoll};
 
 #[test]

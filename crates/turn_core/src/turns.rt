@@ -8,14 +8,14 @@ use crate::cell::Turn;
 use actor_names::ChainId;
 use std::alloc::Global;
 
-/// The chain that a cell of this depth keeps.
+/// The chain that a cell of this depth keeps: none at depth 0.
 pub(crate) fn chain_at(depth: u32, chain: Option<&ChainId>) -> Option<&ChainId>
     ensures { option_copied result ≡ (if depth == 0 then None else option_copied chain.entry) }
 {
     if depth == 0 { None } else { chain }
 }
 
-/// Whether the two are one chain, or neither is there.
+/// Whether the two chains are equal, or both are absent.
 pub(crate) fn is_same_chain(a: Option<&ChainId>, b: Option<&ChainId>) -> bool
     ensures { result ≡ same_chain (option_copied a.entry) (option_copied b.entry) }
 {
@@ -26,7 +26,7 @@ pub(crate) fn is_same_chain(a: Option<&ChainId>, b: Option<&ChainId>) -> bool
     }
 }
 
-/// Whether the open turns, if there are any, carry this chain.
+/// Whether a turn is open and the first one carries this chain.
 pub(crate) fn carry_chain(turns: &[Turn], chain: Option<&ChainId>) -> bool
     ensures { result ≡ is_first_chain turns.now (option_copied chain.entry) }
 {
@@ -36,7 +36,7 @@ pub(crate) fn carry_chain(turns: &[Turn], chain: Option<&ChainId>) -> bool
     }
 }
 
-/// An equal chain, or none for none.
+/// A copy of the chain, or `None` if there is no chain.
 pub(crate) fn copy_chain(
     alloc: Global,
     chain: Option<&ChainId>,
@@ -70,7 +70,7 @@ pub(crate) fn is_open(turns: &[Turn], call: u64) -> bool
     }
 }
 
-/// Opens a turn of the call under a copy of the chain.
+/// Opens a turn of the call, with a copy of the chain.
 pub(crate) fn open_turn(
     alloc: Global,
     turns: &mut Vec<Turn>,
@@ -88,7 +88,7 @@ pub(crate) fn open_turn(
     }
 }
 
-/// Opens a turn for which there is room.
+/// Opens a turn of the call; the list must have room for it.
 pub(crate) fn open_in_room(turns: &mut Vec<Turn>, call: u64, chain: Option<ChainId>)
     requires { vec_len turns.old < vec_capacity turns.old }
     ensures items { turns.new.items ≡ turns.old.items ++ record { call = call; chain = chain } ∷ [] }
@@ -100,7 +100,7 @@ pub(crate) fn open_in_room(turns: &mut Vec<Turn>, call: u64, chain: Option<Chain
     }
 }
 
-/// Ends the call's turn where it is open, and says whether it was.
+/// Ends the call's turn if it is open, and returns whether it was.
 pub(crate) fn end_turn(turns: &mut Vec<Turn>, call: u64) -> bool
     ensures open_turn { result ≡ has_turn call turns.old.items }
     ensures items { turns.new.items ≡ without_turn call turns.old.items }
@@ -115,7 +115,7 @@ pub(crate) fn end_turn(turns: &mut Vec<Turn>, call: u64) -> bool
     }
 }
 
-/// Puts the calls of the turns at the end of a list with room for them.
+/// Appends the calls of the turns to a list that has room for them.
 pub(crate) fn list_calls(turns: &[Turn], calls: &mut Vec<u64>)
     requires { vec_len calls.old + length turns.now ≤ vec_capacity calls.old }
     ensures items { calls.new.items ≡ calls.old.items ++ turn_calls turns.now }

@@ -50,13 +50,13 @@ or_true : (b : Bool) → (b || true) ≡ true
 or_true true = refl
 or_true false = refl
 
--- a closed gate is no Generation
+-- a closed gate isn't the start of a Generation
 shut_none : (gate : ℕ) (rest : List ℕ) → gate ≢ 1 → generation_at (gate ∷ rest) ≡ None
 shut_none gate rest shut =
     ap (λ (b : Bool). cond (length (gate ∷ rest) == 22 && (b && same_bytes (take 13 rest) (0 ∷ 0 ∷ 0 ∷ 17 ∷ generation_kind))) (Some (from_be_bytes w64 (drop 14 (gate ∷ rest)))) None) (nat_other gate 1 shut)
     ∙ ap (λ (b : Bool). cond b (Some (from_be_bytes w64 (drop 14 (gate ∷ rest)))) None) (and_false (length (gate ∷ rest) == 22))
 
--- what the two tests of a record say
+-- the test of a record from its gate on, against the test of its payload
 abbrev front_test : List ℕ → Bool
 front_test front = length front == 22 && same_bytes (take 14 front) (1 ∷ 0 ∷ 0 ∷ 0 ∷ 17 ∷ generation_kind)
 
@@ -114,12 +114,12 @@ rest_generation payloads end bytes at_rest =
 pub rest_made : {newest format : Format} (payloads : List (List ℕ)) (end : ℕ) (bytes : List ℕ) → IsAtRest newest format payloads end bytes → is_made bytes ≡ true
 rest_made payloads end bytes at_rest = ap is_made at_rest.file
 
--- the payloads of the live file, where it is known which one that is
+-- the payloads of the live file, if it is known which one that is
 abbrev pub live_in : Bool → List ℕ → List ℕ → Result (List (List ℕ)) ℕ
 live_in true live other = live_payloads other live
 live_in false live other = live_payloads live other
 
--- a file that yields doesn't count
+-- beside a file that yields, the other is live
 pub picks : (is_second_live : Bool) (live other : List ℕ) → is_made live ≡ true → Yields is_second_live (number (file_generation live)) other → live_in is_second_live live other ≡ file_payloads Two live
 picks false live other made (inl unmade) =
     ap (λ (b : Bool). file_payloads Two (cond (b && (not (is_made live) || nat_lt (number (file_generation live)) (number (file_generation other)))) other live)) unmade

@@ -22,7 +22,7 @@ use Rattle.tx_journal.proofs.Fronts.{leaves_unmade}
 use Rattle.tx_journal.proofs.Records.{rest_within}
 use Rattle.tx_journal.proofs.Lifts.{files_in, OtherTells, lift, opens_both, waits_reads, same_since, live_counts, holds_two, holds_once, turned, files_turned}
 
--- where a compaction may start
+-- a compaction may start on the file that waits
 pub may_start : (s : Bool) (generation : Option ℕ) (is_shut : Bool) (staged : Option ℕ) (d : DiskState) → Waits s generation is_shut staged d → MayStart is_shut d
 may_start s generation true staged d waits = waits.0
 may_start s generation false staged d waits = (waits.0, waits.2)
@@ -31,7 +31,7 @@ pub number_or : (generation : Option ℕ) → unwrap_or generation 0 ≡ number 
 number_or None = refl
 number_or (Some n) = refl
 
--- what a start or a row leaves of the other file yields
+-- what a crash leaves of the other file during a start or a row yields to the live one
 made_yields : (s : Bool) (n : ℕ) (bytes file : List ℕ) → Yields s n bytes → IsMadeOrNot bytes file → Yields s n file
 made_yields s n bytes file yields (inl not_made) = inl not_made
 made_yields s n bytes file yields (inr same) = subst (Yields s n) (sym same) yields
@@ -192,7 +192,7 @@ module _ (j : JournalState) (cursor : Cursor) (is_shut : Bool) (room : ℕ) (sou
       live_turned true f g = refl
       live_turned false f g = refl
 
-      -- the file as it is made counts beside the old one
+      -- the file that is made is live beside the old one
       new_counts : (format : Format) (payloads rows : List (List ℕ)) (f : List ℕ) (made : List ℕ) → IsSpelled Two format payloads f → first_generation payloads ≡ j.generation → IsAtRest Two Two (generation_row (next_number j.generation) ∷ rows) at made → live_in j.is_second_live f made ≡ Ok (generation_row (next_number j.generation) ∷ rows)
       new_counts format payloads rows f made spells is rests =
           sym (live_turned j.is_second_live f made)
@@ -214,7 +214,7 @@ module _ (j : JournalState) (cursor : Cursor) (is_shut : Bool) (room : ℕ) (sou
           (finishes front.0)
           (λ f g spells made. turn_either live.payloads front.1.0 f g (opened e.bytes) j.format spells (live.numbered refl) front.1.1 made)))
 
-      -- what stands after the turn
+      -- what holds after the turn
       turned_live : (e e_new : DiskState) → Waits j.is_second_live j.generation is_shut j.staged e → IsFinished e e_new → IsLive Two Two later at at_first e_new
       turned_live e e_new waits finished =
           let front = shut_front is_shut e waits in

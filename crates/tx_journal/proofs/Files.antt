@@ -46,7 +46,7 @@ abbrev pub with_fronts : List (List ℕ) → Result (List (List ℕ)) ℕ → Re
 with_fronts [] read = read
 with_fronts (payload ∷ payloads) read = with_front payload (with_fronts payloads read)
 
--- so many more
+-- this number, raised by one for each payload
 abbrev pub up : List (List ℕ) → ℕ → ℕ
 up [] more = more
 up (payload ∷ payloads) more = suc (up payloads more)
@@ -55,7 +55,7 @@ up_is : (payloads : List (List ℕ)) (more : ℕ) → up payloads more ≡ lengt
 up_is [] more = omega arith
 up_is (payload ∷ payloads) more = omega (arith, up_is payloads more)
 
--- whole records, and what stands behind them
+-- whole records, and what follows them
 pub all_records : (payloads : List (List ℕ)) (more at : ℕ) (rest : List ℕ) → AllByRecursion IsShort payloads → payloads_from (up payloads more) at (records payloads ++ rest) ≡ with_fronts payloads (payloads_from more (at + length (records payloads)) rest)
 all_records [] more at rest short = let e : at ≡ at + 0 = omega arith in ap (λ (k : ℕ). payloads_from more k rest) e
 all_records (payload ∷ payloads) more at rest short =
@@ -70,7 +70,7 @@ pub count_records : (payloads : List (List ℕ)) → length payloads ≤ length 
 count_records [] = omega arith
 count_records (payload ∷ payloads) = omega (arith, count_records payloads, length-append (framed payload) (records payloads))
 
--- a made file of a known name is its records and what stands behind them
+-- a made file with a known name stands for its records and what follows them
 pub image_split : (newest format : Format) (payloads : List (List ℕ)) (rest : List ℕ) → is_known newest (name format) ≡ true → AllByRecursion IsShort payloads
     → (more : ℕ) × (1 ≤ more) × (file_payloads newest (spelled format payloads ++ rest) ≡ with_fronts payloads (payloads_from more (length (spelled format payloads)) rest))
 image_split newest format payloads rest known short =
@@ -96,7 +96,7 @@ pub shut_end : (more at gate : ℕ) (rest : List ℕ) → 1 ≤ more → gate �
 shut_end zero at gate rest some shut = absurd (omega arith)
 shut_end (suc more) at gate rest some shut = grind (arith, nat_tests)
 
--- a closed gate ends them, whatever stands behind it
+-- a closed gate ends them, whatever follows it
 pub image_closed : (newest format : Format) (payloads : List (List ℕ)) (gate : ℕ) (rest : List ℕ) → is_known newest (name format) ≡ true → AllByRecursion IsShort payloads → gate ≢ 1 → file_payloads newest (spelled format payloads ++ gate ∷ rest) ≡ Ok payloads
 image_closed newest format payloads gate rest known short shut =
     let split = image_split newest format payloads (gate ∷ rest) known short in

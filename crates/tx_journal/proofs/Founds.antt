@@ -35,7 +35,7 @@ synced_any (Ok x) d e syncs = ((stage_synced (IsSame d.bytes) d e x syncs refl).
 synced_any (Err Failed) d e same = subst (Synced d) (sym same) (later_here (IsSame d.bytes) d, refl)
 synced_any (Err port_memory) d e same = subst (Synced d) (sym same) (later_here (IsSame d.bytes) d, refl)
 
--- a claim of what is told after
+-- a step, with a claim about the state reported after it
 pub tells_with : {S : Type 0} (R : S → S → Type 0) (P : S → Type 0) (a b : Option S) → Tells R a b → ((e : S) → b ≡ Some e → P e) → Tells (λ d e. R d e × P e) a b
 tells_with R P None b tells f = tells
 tells_with R P (Some d) b tells f = (tells.0, tells.1, (tells.2, f tells.0 tells.1))
@@ -49,7 +49,7 @@ pub record Ready (seen : Seen) (d e : DiskState) : Type 0 where
 abbrev pair : DiskState → DiskState → Files
 pair d e = record { first = d; second = Some e }
 
--- while nothing is written a crash leaves the files as they are
+-- as long as nothing is written, a crash leaves the files as they are
 same_left : (making : Bool) (d e : DiskState) (f g : List ℕ) → (making ≡ true → is_made d.bytes ≡ false) → f ≡ d.bytes → g ≡ e.bytes → MayBeLeftIn making d (Some e) f (Some g)
 same_left true d e f g unmade one two = (inl (ap is_made one ∙ unmade refl), two)
 same_left false d e f g unmade one two = (one, two)
@@ -70,7 +70,7 @@ keeps_same create d d_new e e_new one two =
 pub synced_keeps_both : (create : Bool) (a a_new b b_new : Option DiskState) → Tells Synced a a_new → Tells Synced b b_new → Tells (KeepsFiles create) (tell_both a b) (tell_both a_new b_new)
 synced_keeps_both create a a_new b b_new one two = both_tell false (KeepsFiles create) Synced Synced a a_new b b_new one two (λ d d_new e e_new is1 is2 x y. keeps_same create d d_new e e_new x.0 y.0)
 
--- what is seen of files
+-- what is seen of the files is true of them
 made_seen : (d : DiskState) (kind : FileKind) → LooksLike Two d kind → is_made d.bytes ≡ is_made_kind kind
 made_seen d Unmade looks = looks
 made_seen d Other looks = looks.0
@@ -90,7 +90,7 @@ and_left false b both = absurd (let e : false ≡ true = both in cc)
 second_made : (a b : Seen) → is_second_seen a b ≡ true → is_made_kind b.kind ≡ true
 second_made a b is = and_left (is_made_kind b.kind) _ is
 
--- where the second isn't live and the first isn't made, neither is
+-- if the second isn't live and the first isn't made, neither is made
 both_unmade : (a b c : Bool) → (a && (not b || c)) ≡ false → b ≡ false → a ≡ false
 both_unmade true b c is unmade = absurd (let e : true ≡ false = ap (λ (x : Bool). not x || c) (sym unmade) ∙ is in cc)
 both_unmade false b c is unmade = refl
@@ -313,7 +313,7 @@ module _ (a b : Seen) (create : Bool) (older : is_second_seen a b ≡ false) (d 
     holds_two found.1 a.generation found.0 at_first d_new false (is_closed_seen b) None e_new (seen_live a create found d_one d_new one.sees opens) (first_waits a b e_new older two.sees two.durable),
   )
 
--- the same of what disks tell
+-- the same for disks that may or may not report their states
 module _ (a b : Seen) (create : Bool) (t t_new u u_new : Option DiskState) where
   pub told_second_keeps : is_second_seen a b ≡ true → Tells (Ready a) t t_new → Tells (Then (Ready b) (KeepsFile Two create)) u u_new → Tells (KeepsFiles create) (tell_both t u) (tell_both t_new u_new)
   told_second_keeps newer one two = both_tell false (KeepsFiles create) (Ready a) (Then (Ready b) (KeepsFile Two create)) t t_new u u_new one two
@@ -368,7 +368,7 @@ readies seen t t_new synced durable sees =
     tells_map (λ d e. Both Synced IsSynced d e × Sees e seen) (Ready seen) t t_new (λ d e x. record { synced = x.0.0; durable = x.0.1; sees = x.1 })
     (tells_with (Both Synced IsSynced) (λ e. Sees e seen) t t_new (tells_both Synced IsSynced t t_new synced durable) sees)
 
--- what a ready disk is, after
+-- what a ready disk is after the sync and the look
 pub ready_after : (seen : Seen) (t t_new : Option DiskState) (e : DiskState) → Tells (Ready seen) t t_new → t_new ≡ Some e → Sees e seen × IsDurable e
 ready_after seen t t_new e tells is = let before = told_before (Ready seen) t t_new e tells is in (before.2.sees, before.2.durable)
 

@@ -1,4 +1,4 @@
--- However many changes wait behind a closed first byte, a crash leaves it closed.
+-- However many changes behind a closed first byte are pending, a crash leaves that byte closed.
 use Rattle.std.proofs.Common.{◌≡◌, ◌⊎◌, inl, inr, ℕ, zero, suc, ◌+◌, ◌-◌, ◌≤◌, true, false, List, [], ◌∷◌, ◌++◌, length, take, drop, append_assoc, length-append, Result, Ok, Err, refl, sym, ◌∙◌, ap, subst, arith}
 use Rattle.std.proofs.lemmas.Bool.{cases_eq}
 use Rattle.std.specs.List.{AllByRecursion}
@@ -193,7 +193,7 @@ module _ (d : DiskState) (durable : IsDurable d) (may : MayBeShut d.bytes) where
         behind = subst (λ (i : Instant). AllByRecursion IsBehind i.pending) (sym whole) tt;
       }
 
--- the front of a compaction
+-- the name and the first row of a compaction
 drop_nil : (n : ℕ) → drop {A = ℕ} n [] ≡ []
 drop_nil zero = refl
 drop_nil (suc n) = refl
@@ -231,7 +231,7 @@ begins_shut d e stays front = record { start = λ file image. inl (leaves_unmade
 pub begun_shut : (number : ℕ) (text : List ℕ) (d e : DiskState) → text ≡ name Two ++ 1 ∷ framed (generation_row number) ++ 0 ∷ [] → Both StaysUnmade (WritesFront text) d e → HasBegunFile true number d e
 begun_shut number text d e is both front = ((both.0 front).0, first_row number text e is (both.1 front))
 
--- a start on another
+-- a start on a file whose gate has to be closed first
 pub begins_closed : (d e : DiskState) → Closes d e → Begins false d e
 begins_closed d e closes may = record { start = leaves_durable (IsMadeOrNot d.bytes) d may.0 (inr refl); later = closes }
 
@@ -244,7 +244,7 @@ begins_open d f calls may = record {
 pub begun_open : (number : ℕ) (text : List ℕ) (d f : DiskState) → text ≡ name Two ++ 1 ∷ framed (generation_row number) ++ 0 ∷ [] → Then IsClosed (Both StaysUnmade (WritesFront text)) d f → HasBegunFile false number d f
 begun_open number text d f is calls may = begun_shut number text calls.0 f is calls.2 calls.1
 
--- a row more
+-- one more row
 drop_behind : (gate n : ℕ) (rest : List ℕ) → 1 ≤ n → drop n (gate ∷ rest) ≡ drop n (1 ∷ rest)
 drop_behind gate zero rest some = absurd (omega arith)
 drop_behind gate (suc n) rest some = refl

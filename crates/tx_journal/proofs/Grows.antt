@@ -27,7 +27,7 @@ grown format (first ∷ payloads) payload end (Some n) end_is is = is
 grown format (first ∷ payloads) payload end None end_is is =
     is ∙ ap (λ (b : Bool). cond b (generation_in payload) None) (sym (nine_test end (λ nine. omega (arith, nine, end_is, length-append (framed first) (records payloads)))))
 
--- numbers only grow by an append
+-- an append never lowers the number
 more : (end : ℕ) (generation : Option ℕ) (payload : List ℕ) → number generation ≤ number (generation_with end generation payload)
 more end None payload = omega arith
 more end (Some n) payload = omega arith

@@ -23,7 +23,7 @@ files_in true live None = record { first = live; second = None }
 files_in true live (Some other) = record { first = other; second = Some live }
 files_in false live other = record { first = live; second = other }
 
--- what happens to the disk that isn't live, where there is one
+-- what happens to the disk that isn't live, if there is one
 abbrev pub OtherTells : (DiskState → DiskState → Type 0) → Option Side → Option Side → Type 0
 OtherTells Q None new = new ≡ None
 OtherTells Q (Some old) new = (side : Side) × (new ≡ Some side) × Tells Q old.told side.told
@@ -31,7 +31,7 @@ OtherTells Q (Some old) new = (side : Side) × (new ≡ Some side) × Tells Q ol
 abbrev pub Steps : Type 1
 Steps = DiskState → DiskState → Type 0
 
--- what both tell, in their order
+-- what both report, in their order
 abbrev pub tell_in : Bool → Option DiskState → Option DiskState → Option Files
 tell_in true live other = tell_both other live
 tell_in false live other = tell_both live other
@@ -99,7 +99,7 @@ read_in : (s : Bool) (d e : DiskState) → read_payloads (files_in s d (Some e))
 read_in false d e = refl
 read_in true d e = refl
 
--- the other file, whatever a crash leaves of it, doesn't count
+-- whatever a crash leaves of the other file yields to the live one
 pub waits_leaves : (s : Bool) (generation : Option ℕ) (is_shut : Bool) (staged : Option ℕ) (d : DiskState) → Waits s generation is_shut staged d → LeavesOnly (Yields s (number generation)) d.instant
 waits_leaves s generation true staged d waits = λ file image. inl (leaves_unmade d waits.0 file image)
 waits_leaves s generation false staged d waits = leaves_durable (Yields s (number generation)) d waits.0 waits.1
@@ -111,7 +111,7 @@ waits_reads s generation false staged d waits = waits.1
 pub same_since : (P : Facts) (d e : DiskState) → e ≡ d → LeavesOnly P d.instant → Since P d e
 same_since P d e same leaves = subst (Since P d) (sym same) (record { start = leaves; later = later_here P d })
 
--- the live file as a crash leaves it counts, beside one that yields to it
+-- whatever a crash leaves of the live file is live beside one that yields to it
 pub live_counts : (s : Bool) (format : Format) (payloads : List (List ℕ)) (n : ℕ) (f g : List ℕ) → IsSpelled Two format payloads f → n ≤ number (first_generation payloads) → Yields s n g → live_in s f g ≡ Ok payloads
 live_counts s format payloads n f g spells less yields =
     picks s f g (rest_made payloads spells.0 f spells.1) (yields_again (number (file_generation f)) (ap number (rest_generation payloads spells.0 f spells.1)) yields) ∙ spelled_image payloads f spells
@@ -139,7 +139,7 @@ module _ (format : Format) (generation : Option ℕ) (end : ℕ) (cursor : Curso
             (λ f g spells yields. live_counts s format is.payloads (number generation) f g spells numbered yields);
       }
 
--- the payloads that files hold are one list
+-- files hold only one list of payloads
 pub holds_once : (payloads others : List (List ℕ)) (files : Files) → Holds payloads files → Holds others files → payloads ≡ others
 holds_once payloads others files one two = same_payloads payloads others (sym one.reads ∙ two.reads)
 

@@ -25,7 +25,7 @@ short_unmade (gate ∷ next ∷ rest) short = absurd (omega arith)
 abbrev P : Format → List ℕ → Type 0
 P format = IsEmptyOrUnmade format
 
--- a journal that goes up to a format knows it
+-- a journal that knows the formats up to this one knows it
 pub knows : (format : Format) → is_known format (name format) ≡ true
 knows One = refl
 knows Two = refl
@@ -110,7 +110,7 @@ module _ (format : Format) {T : Type 0} where
   pub makes_all : (x y z w : T) (d f : DiskState) → Then (Then (Then (Writes 1 (body format) (Ok x)) (Syncs (Ok y))) (Writes 0 (1 ∷ []) (Ok z))) (Syncs (Ok w)) d f → IsNew format d f
   makes_all x y z w d f calls durable shut = new format d durable shut x y z w calls.1.1.0 calls.1.0 calls.0 f calls.1.1.1 calls.1.1.2 calls.1.2 calls.2
 
--- the gate of a file that isn't made, where there is one
+-- a file that isn't made has a closed gate, if it has two bytes or more
 pub shut_of : (bytes : List ℕ) → is_made bytes ≡ false → 2 ≤ length bytes → IsShut bytes
 shut_of [] unmade_ long = absurd (omega arith)
 shut_of (gate ∷ []) unmade_ long = absurd (omega arith)

@@ -53,7 +53,7 @@ module _ (newest format : Format) (payloads : List (List ℕ)) (payload : List �
   pub since : (e : DiskState) → Stage P d e → Since P d e
   since e stage = since_stage P d e durable here stage
 
--- The same for whatever payloads the disk holds, and whatever one the bytes are a record of.
+-- The same for any payloads that the disk holds, and for any payload whose record the bytes are.
 module _ (end : ℕ) (text : List ℕ) where
   pub puts_1 : {T : Type 0} (r : Result T PortError) (d a : DiskState) → Writes end text r d a → PutsRecord end text d a
   puts_1 r d a write newest format payloads payload at_rest durable short is =

@@ -1,4 +1,4 @@
--- What the bytes of a journal at rest become while a record is put behind them.
+-- What the bytes of a journal at rest become while a record is written behind them.
 use Rattle.std.proofs.Common.{◌≡◌, ◌≢◌, inl, inr, ℕ, suc, ◌+◌, ◌≤◌, true, List, [], ◌∷◌, ◌++◌, length, get_or, take, drop, refl, sym, ◌∙◌, ap, subst, arith, append_assoc, length-append, take-append-drop}
 use Rattle.std.proofs.lemmas.Bool.{cases_eq}
 use Rattle.std.proofs.lemmas.List.{take_at, drop_at, drop_more, append-nil}
@@ -38,7 +38,7 @@ pub at_rest_of : (newest format : Format) (payloads : List (List ℕ)) (gate : �
 at_rest_of newest format payloads gate rest known short shut =
     (length (spelled format payloads) + 1, record { known = known; gate = gate; rest = rest; shut = shut; short = short; file = refl; end_is = refl })
 
--- the closed gate stands in whatever the first write may leave
+-- whatever the first write may leave still has the closed gate
 pub torn_behind : {newest format : Format} (payloads : List (List ℕ)) (end n : ℕ) (bytes c : List ℕ) → IsAtRest newest format payloads end bytes → Torn end n bytes c → IsSpelled newest format payloads c
 torn_behind {newest} {format} payloads end n bytes c at_rest torn =
     let whole : c ≡ spelled format payloads ++ at_rest.gate ∷ drop end c =
@@ -60,14 +60,14 @@ written_behind {newest} {format} payloads end bytes payload at_rest =
     )
 
 module _ (newest format : Format) (known : is_known newest (name format) ≡ true) (payloads : List (List ℕ)) (gate : ℕ) (payload rest : List ℕ) (short : AllByRecursion IsShort payloads) (fits : IsShort payload) where
-  -- a whole record behind any gate counts or it doesn't
+  -- with a whole record behind any gate, the file has the new payload or it doesn't
   either : (g : ℕ) → RestsBeforeOrAfter newest format payloads payload (staged format payloads g payload rest)
   either g = elim (cases_eq g 1) [
     | inl open_ ↦ inr (subst (IsSpelled newest format (payloads ++ payload ∷ [])) (spelled-push format payloads payload (0 ∷ rest) ∙ ap (λ (k : ℕ). staged format payloads k payload rest) (sym open_)) (at_rest_of newest format (payloads ++ payload ∷ []) 0 rest known (short-push payloads payload short fits) (omega arith)))
     | inr shut ↦ inl (at_rest_of newest format payloads g (framed payload ++ 0 ∷ rest) known short shut)
   ]
 
-  -- the record stands whole in whatever the second write may leave
+  -- whatever the second write may leave still has the whole record
   pub torn_gate : (at : ℕ) (c : List ℕ) → at ≡ length (spelled format payloads) → Torn at 1 (staged format payloads gate payload rest) c → RestsBeforeOrAfter newest format payloads payload c
   torn_gate at c at_is torn =
       let file = staged format payloads gate payload rest in

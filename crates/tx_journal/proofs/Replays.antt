@@ -12,7 +12,7 @@ use Rattle.tx_journal.specs.Journal.{IsAtRest, IsGateOf, StandsAt, Finds, Replay
 use Rattle.tx_journal.proofs.Records.{rest_within}
 use Rattle.tx_journal.proofs.Files.{length-framed, length_is, with_fronts, up, all_records, shut_end, fronts_end}
 
--- a record is read one way
+-- a record can be read in only one way
 pub framed_once : (p q x y : List ℕ) → IsShort p → IsShort q → framed p ++ x ≡ framed q ++ y → (p ≡ q) × (x ≡ y)
 framed_once p q x y short other same =
     let len : length p ≡ length q = sym (length_is p x short) ∙ ap length_of same ∙ length_is q y other in
@@ -21,7 +21,7 @@ framed_once p q x y short other same =
       sym (drop_at p x (length p) refl) ∙ ap (drop (length p)) both ∙ drop_at q y (length p) (sym len),
     )
 
--- from this gate on stand the records from this index on, and then a closed gate
+-- from this gate on there are the records from this index on, and then a closed gate
 pub record StandsFor (payloads : List (List ℕ)) (index gate : ℕ) (bytes : List ℕ) : Type 0 where
   pub shut : ℕ
   pub rest : List ℕ
@@ -149,7 +149,7 @@ records_take (suc index) [] = omega arith
 records_take (suc index) (payload ∷ payloads) =
     omega (arith, records_take index payloads, length-append (framed payload) (records payloads), length-append (framed payload) (records (take index payloads)))
 
--- the gate of an index stands in the file
+-- the gate of an index is within the file
 pub gate_within : {newest format : Format} (payloads : List (List ℕ)) (end index gate : ℕ) (bytes : List ℕ) → IsAtRest newest format payloads end bytes → IsGateOf payloads index gate → gate + 1 ≤ length bytes
 gate_within payloads end index gate bytes at_rest is =
     omega (arith, (rest_within payloads end bytes at_rest).1, at_rest.end_is, is.place, records_take index payloads)

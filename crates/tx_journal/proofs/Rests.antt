@@ -18,7 +18,7 @@ same_payloads xs ys same = cc
 pub spelled_image : {newest format : Format} (payloads : List (List ℕ)) (file : List ℕ) → IsSpelled newest format payloads file → file_payloads newest file ≡ Ok payloads
 spelled_image payloads file spells = rest_image payloads spells.0 file spells.1
 
--- the gate of an index stays the gate of it
+-- the gate of an index stays its gate when a payload is appended
 pub gate_push : (payloads : List (List ℕ)) (payload : List ℕ) (index gate : ℕ) → IsGateOf payloads index gate → IsGateOf (payloads ++ payload ∷ []) index gate
 gate_push payloads payload index gate is = record {
   within = omega (arith, is.within, length-append payloads (payload ∷ []));

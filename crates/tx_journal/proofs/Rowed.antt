@@ -1,4 +1,4 @@
--- What a replay finds of one file or of two.
+-- What a replay finds in one file or in two.
 use Rattle.std.proofs.Common.{◌≡◌, ℕ, suc, ◌+◌, ◌≤◌, Bool, true, false, cond, List, [], ◌∷◌, length, drop, Option, Some, None, Ok, Vec, refl, sym, ◌∙◌, ap, subst, arith}
 use Rattle.std.specs.Prelude.{slice_get, option_map, is_some}
 use Rattle.std.specs.Int.{w64, from_be_bytes}
@@ -13,7 +13,7 @@ use Rattle.tx_journal.specs.Sound.{IsLive, IsSound, newest_of}
 use Rattle.tx_journal.proofs.Files.{count_records}
 use Rattle.tx_journal.proofs.Lifts.{files_in, holds_one, holds_two, holds_once}
 
--- what told files are
+-- what reported files say about the disks
 pub told_one : (s : Bool) (live : Side) (files : Files) → tell_sides (first_of s live None) (second_of s live None) ≡ Some files → (d : DiskState) × (live.told ≡ Some d) × (files ≡ record { first = d; second = None })
 told_one true live files is = from live.told is
   where
@@ -118,7 +118,7 @@ rows_short (Some side) (payload ∷ payloads) = go (is_generation payload)
     go true = omega arith
     go false = omega arith
 
--- there is no row so far behind
+-- there are at most as many rows as bytes up to the end
 pub rows_few : {newest format : Format} (other : Option Side) (payloads : List (List ℕ)) (end : ℕ) (bytes : List ℕ) → IsAtRest newest format payloads end bytes → length (rows_in other payloads) ≤ end
 rows_few other payloads end bytes rests = omega (arith, rows_short other payloads, count_records payloads, rests.end_is)
 

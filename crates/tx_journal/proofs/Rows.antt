@@ -33,11 +33,11 @@ first_write = refl
 second_write : overwritten (overwritten new 9 (framed hi ++ 0 ∷ [])) 8 (1 ∷ []) ≡ one
 second_write = refl
 
--- behind a closed gate anything may stand; a gate of another byte is closed
+-- anything may follow a closed gate; every gate other than 1 is closed
 closed_gate_ends : journal_payloads (1 ∷ 65 ∷ 67 ∷ 84 ∷ 74 ∷ 82 ∷ 78 ∷ 49 ∷ 7 ∷ 1 ∷ 2 ∷ 3 ∷ []) ≡ Ok []
 closed_gate_ends = refl
 
--- damaged: not made, another name, a gate that is missing, a length that is cut, that passes the end
+-- damaged: not made, another name, a gate that is missing, a length that is cut or that passes the end
 not_made : journal_payloads (0 ∷ 65 ∷ []) ≡ Err 0
 not_made = refl
 

@@ -47,7 +47,7 @@ stands_settled held rows j works holds staged begun = record {
   begun = λ same at is. begun at is;
 }
 
--- one that met a fault
+-- a journal that met a fault
 stands_broken : (held maybe : List (List ℕ)) (j : JournalState) → j.is_broken ≡ true → ((files : Files) → told j ≡ Some files → LeavesOpened (IsEither held maybe) files) → Stands (record { held = held; maybe = maybe; rows = None }) j
 stands_broken held maybe j broken leaves = record {
   leaves = leaves;
@@ -59,7 +59,7 @@ stands_broken held maybe j broken leaves = record {
 no_rows : (j : JournalState) (staged : j.staged ≡ None) (at : ℕ) → j.staged ≡ Some at → (more : List (List ℕ)) × (None ≡ Some more)
 no_rows j staged at is = absurd (let e : None ≡ Some at = sym staged ∙ is in cc)
 
--- what was told before, for a claim on what is told after
+-- a claim about what is reported after, from what was reported before
 from_before : (step : Files → Files → Type 0) (Q : Files → Type 0) (old new : JournalState) → Tells step (told old) (told new) → ((f g : Files) → told old ≡ Some f → step f g → Q g) → (files : Files) → told new ≡ Some files → Q files
 from_before step Q old new tells f files is = let before = told_before step (told old) (told new) files tells is in f before.0 files before.1 before.2
 
@@ -68,7 +68,7 @@ broken_first : (b : Bool) (rest : Option JournalError) → b ≡ true → cond b
 broken_first true rest is = refl
 broken_first false rest is = absurd (let e : false ≡ true = is in cc)
 
--- a call that is refused as one on a journal that met a fault
+-- a call on a journal that met a fault is refused
 stands_refused : (l : Ledger) (number : ℕ) (call : JournalCall) (answer : Answer) (old new : JournalState) → Stands l old → (answer ≡ Err Reopen) × (new ≡ old) → Stands (ledger_after number call (outcome_of answer) l) new
 stands_refused l number call answer old new stands is =
     subst (λ (a : Answer). Stands (ledger_after number call (outcome_of a) l) new) (sym is.0) (subst (Stands l) (sym is.1) stands)
@@ -288,7 +288,7 @@ module _ (l : Ledger) (n : ℕ) (old new : JournalState) (stands : Stands l old)
           subst (λ (a : Answer). Stands (ledger_after n Turn (outcome_of a) l) new) (sym refused.0)
           (subst (λ (m : Ledger). Stands m new) (sym (same_after l n Turn e refl other)) (subst (Stands l) (sym refused.1) stands))
 
--- what disks tell is not what they count
+-- a count of faults doesn't change what the disks report
 told_looked : (j : JournalState) (faults : ℕ) (broken : Bool) → told (record j { live = record { told = j.live.told; faults = faults }; is_broken = broken }) ≡ told j
 told_looked j faults broken = go j.is_second_live j.other
   where

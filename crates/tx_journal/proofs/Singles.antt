@@ -1,4 +1,4 @@
--- An opening of one file, as a journal's.
+-- An opening of one file, seen as an opening of a journal.
 use Rattle.std.proofs.Common.{◌≡◌, ℕ, Bool, true, false, List, Option, Some, None, Ok, refl, ap, subst, arith}
 use Rattle.disk_model.specs.Disk.{DiskState, Tells}
 use Rattle.disk_model.proofs.Moments.{later_weaker, leaves_durable}
@@ -37,7 +37,7 @@ left_one false d f left = left
 keeps_one : (create : Bool) (d e : DiskState) → KeepsFile One create d e → KeepsFiles create (alone d) (alone e)
 keeps_one create d e keeps = later_weaker (MayBeLeft One (is_to_make create d.bytes) d.bytes) (λ f. MayBeLeftIn (is_to_make create d.bytes) d None f None) d e (λ f. left_one (is_to_make create d.bytes) d f) keeps
 
--- from what one disk tells to what a journal of it tells
+-- from what one disk reports to what a journal on it reports
 tells_alone : (step : Files → Files → Type 0) (R : DiskState → DiskState → Type 0) (a b : Option DiskState) → ((d e : DiskState) → R d e → step (alone d) (alone e)) → Tells R a b → Tells step (tell_one a) (tell_one b)
 tells_alone step R None b f tells = ap tell_one tells
 tells_alone step R (Some d) b f tells = (alone tells.0, ap tell_one tells.1, f d tells.0 tells.2)

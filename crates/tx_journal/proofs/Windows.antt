@@ -6,11 +6,11 @@ use Rattle.disk_model.specs.Disk.{DiskState}
 use Rattle.tx_journal.specs.declared.error.JournalError.{JournalError}
 use Rattle.tx_journal.specs.Window.{IsWindow, ShowsFront}
 
--- an empty window is one of any disk
+-- an empty window is right for any disk
 pub shows_nothing : (at : ℕ) (bytes : List ℕ) (d : DiskState) → bytes ≡ [] → IsWindow at bytes d
 shows_nothing at bytes d none = record { n = 0; reads = none }
 
--- what stands within a window are the disk's bytes
+-- the bytes within a window are the disk's
 pub shows_within : (at from n k : ℕ) (xs : List ℕ) → from ≤ at → at - from + k ≤ n → take k (drop (at - from) (take n (drop from xs))) ≡ take k (drop at xs)
 shows_within at from n k xs behind room =
     let j = at - from in
@@ -30,7 +30,7 @@ pub shows_moved : (at width : ℕ) (bytes : List ℕ) (d : DiskState) → 5 ≤ 
 shows_moved at width bytes d wide read =
     ap (λ (i : ℕ). take 5 (drop i bytes)) (let e : at - at ≡ 0 = omega arith in e) ∙ ap (take 5) read ∙ take-take 5 width (drop at d.bytes) wide
 
--- the same of a read that may have failed, after which nothing is shown
+-- the same for a read that may have failed, after which the window is empty
 pub shown_read : {T : Type 0} (r : Result T JournalError) (at width : ℕ) (bytes : List ℕ) (d : DiskState) → OnOk r (bytes ≡ take width (drop at d.bytes)) → IfErr r (λ e. bytes ≡ []) → IsWindow at bytes d
 shown_read (Ok x) at width bytes d read failed = record { n = width; reads = read }
 shown_read (Err e) at width bytes d read failed = shows_nothing at bytes d failed

@@ -10,13 +10,14 @@ use Rattle.tx_journal.specs.File.{longest, most_bytes, is_made, opened, file_pay
 use Rattle.tx_journal.specs.Journal.{Rises}
 use Rattle.tx_journal.specs.Pair.{Files, generation_row, generation_in, without_generation, file_generation, number, live_file, read_payloads, SinceOpened, Holds, IsJust, IsEither}
 
--- a disk of a journal: its state, where it tells it, and how often it failed
+-- a disk of a journal: its state, if it reports it, and how often it failed
 pub record Side : Type 0 where
   pub told : Option DiskState
   pub faults : ℕ
 
--- The live file and the other one of a pair, which of the two is live, format and Generation of the live file, the offset behind
--- its last gate, the offset where the next row of a compaction under way goes, and whether a call met a fault.
+-- The live file and the other one of a pair, which of the two is live, format and Generation of the live file, the
+-- offset behind its last gate, the offset where the next row of a compaction under way goes, and whether a call has met
+-- a fault.
 pub record JournalState : Type 0 where
   pub live : Side
   pub other : Option Side
@@ -33,7 +34,7 @@ first_of true live (Some other) = other
 first_of true live None = live
 first_of false live other = live
 
--- the second one, where there is one
+-- the second one, if there is one
 abbrev pub second_of : Bool → Side → Option Side → Option Side
 second_of true live (Some other) = Some live
 second_of true live None = None
@@ -47,27 +48,27 @@ first_side j = first_of j.is_second_live j.live j.other
 abbrev pub second_side : JournalState → Option Side
 second_side j = second_of j.is_second_live j.live j.other
 
--- what one disk tells
+-- what one disk reports
 abbrev pub tell_one : Option DiskState → Option Files
 tell_one None = None
 tell_one (Some d) = Some record { first = d; second = None }
 
--- what two disks tell, where both do
+-- what two disks report, if both do
 abbrev pub tell_both : Option DiskState → Option DiskState → Option Files
 tell_both None second = None
 tell_both (Some d) None = None
 tell_both (Some d) (Some e) = Some record { first = d; second = Some e }
 
--- what the disks in their order tell
+-- what the disks report, in their order
 abbrev pub tell_sides : Side → Option Side → Option Files
 tell_sides first None = tell_one first.told
 tell_sides first (Some second) = tell_both first.told second.told
 
--- what the disks of a journal tell
+-- what the disks of a journal report
 abbrev pub told : JournalState → Option Files
 told j = tell_sides (first_side j) (second_side j)
 
--- the count of the disk that isn't live rose, or stands at its end
+-- the count of faults of the disk that isn't live rose, or is at its maximum
 abbrev pub OtherRises : Option Side → Option Side → Type 0
 OtherRises None new = ⊥
 OtherRises (Some old) None = ⊥
@@ -87,7 +88,7 @@ is_none (Some at) = false
 abbrev pub is_last : ℕ → Bool
 is_last count = nat_lt 4611686018427387903 count
 
--- The refusals of an append that change nothing, in their order.
+-- The refusals of an append, in the order in which they are tested; they change nothing.
 abbrev pub append_refusal : JournalState → List ℕ → Option JournalError
 append_refusal j payload =
     if j.is_broken then Some Reopen
@@ -95,12 +96,13 @@ append_refusal j payload =
     else if nat_lt most_bytes (j.end + 5 + length payload) then Some (Full j.end)
     else None
 
--- the Generation of the live file after an append: the payload, where it is the first one and such a row
+-- the Generation of the live file after an append: the payload's, if it is the file's first record and a Generation
 abbrev pub generation_with : ℕ → Option ℕ → List ℕ → Option ℕ
 generation_with end None payload = if end == 9 then generation_in payload else None
 generation_with end (Some n) payload = Some n
 
--- an append that isn't refused: it is done, or the disk failed in it and the journal must be opened again; a compaction is given up
+-- an append that isn't refused: it is done, or the disk failed in it and the journal must be opened again; a
+-- compaction is given up
 abbrev pub Appends : {T : Type 0} → List ℕ → Result T JournalError → JournalState → JournalState → Type 0
 Appends payload (Ok x) old new = (new ≡ record old { live = new.live; end = old.end + 5 + length payload; generation = generation_with old.end old.generation payload; staged = None }) × (old.live.faults ≤ new.live.faults)
 Appends payload (Err DiskFault) old new = (new ≡ record old { live = new.live; staged = None; is_broken = true }) × Rises old.live.faults new.live.faults
@@ -113,25 +115,26 @@ Appends payload (Err OneDisk) old new = ⊥
 Appends payload (Err (Spent count)) old new = ⊥
 Appends payload (Err OutOfMemory) old new = ⊥
 
--- Whatever a crash leaves at any moment of an append stands for the payloads that the journal held, with the new one or without.
+-- Whatever a crash leaves at any moment of an append stands for the payloads that the journal held, with the new one or
+-- without it.
 abbrev pub Commits : List ℕ → Files → Files → Type 0
 Commits payload old new = (payloads : List (List ℕ)) → Holds payloads old → SinceOpened (IsEither payloads (payloads ++ payload ∷ [])) old new
 
--- After it was answered Ok the journal holds the new one too.
+-- Once it is answered Ok, the journal holds the new one too.
 abbrev pub Committed : List ℕ → Files → Files → Type 0
 Committed payload old new = (payloads : List (List ℕ)) → Holds payloads old → Holds (payloads ++ payload ∷ []) new
 
--- the payloads that a replay counts: of a pair those behind the Generation
+-- the payloads that a replay counts: in a pair, those after the Generation
 abbrev pub rows_in : Option Side → List (List ℕ) → List (List ℕ)
 rows_in None payloads = payloads
 rows_in (Some other) payloads = without_generation payloads
 
--- where a row stands among the payloads
+-- where a row is among the payloads
 abbrev pub place_in : Bool → Option ℕ → ℕ → ℕ
 place_in is_pair None index = index
 place_in is_pair (Some n) index = if is_pair then index + 1 else index
 
--- the refusals of the start of a compaction, in their order; they change nothing
+-- the refusals of the start of a compaction, in the order in which they are tested; they change nothing
 abbrev pub start_refusal : JournalState → Option JournalError
 start_refusal j =
     if j.is_broken then Some Reopen
@@ -152,7 +155,7 @@ Starts (Err OneDisk) old new = ⊥
 Starts (Err (Spent count)) old new = ⊥
 Starts (Err OutOfMemory) old new = ⊥
 
--- the refusals of a row, in their order
+-- the refusals of a row, in the order in which they are tested
 abbrev pub row_refusal : List ℕ → Option ℕ → Option JournalError
 row_refusal payload None = Some NotStarted
 row_refusal payload (Some at) =
@@ -160,11 +163,11 @@ row_refusal payload (Some at) =
     else if nat_lt most_bytes (at + 5 + length payload) then Some (Full at)
     else None
 
--- the refusals of a row of a journal
+-- the refusals of a row by a journal
 abbrev pub add_refusal : JournalState → List ℕ → Option JournalError
 add_refusal j payload = if j.is_broken then Some Reopen else row_refusal payload j.staged
 
--- a row that is too long or has no room gives the compaction up; the others change nothing
+-- a row that is too long or has no room makes the journal give the compaction up; the other refusals change nothing
 abbrev pub given_up : JournalError → JournalState → JournalState
 given_up (TooLong n) j = record j { staged = None }
 given_up (Full len) j = record j { staged = None }
@@ -181,7 +184,7 @@ abbrev pub next_row : Option ℕ → List ℕ → Option ℕ
 next_row None payload = None
 next_row (Some at) payload = Some (at + 5 + length payload)
 
--- a row that isn't refused: it stands in the other file, or the disk failed
+-- a row that isn't refused: it is in the other file, or the disk failed
 abbrev pub Adds : {T : Type 0} → List ℕ → Result T JournalError → JournalState → JournalState → Type 0
 Adds payload (Ok x) old new = new ≡ record old { other = new.other; staged = next_row old.staged payload }
 Adds payload (Err DiskFault) old new = (new ≡ record old { other = new.other; staged = None; is_broken = true }) × OtherRises old.other new.other
@@ -194,7 +197,7 @@ Adds payload (Err OneDisk) old new = ⊥
 Adds payload (Err (Spent count)) old new = ⊥
 Adds payload (Err OutOfMemory) old new = ⊥
 
--- whatever a crash leaves at any moment of a start or of a row stands for the payloads that the journal held
+-- whatever a crash leaves at any moment of a start or a row stands for the payloads that the journal held
 abbrev pub Keeps : Files → Files → Type 0
 Keeps old new = (payloads : List (List ℕ)) → Holds payloads old → SinceOpened (IsJust payloads) old new
 
@@ -202,7 +205,7 @@ Keeps old new = (payloads : List (List ℕ)) → Holds payloads old → SinceOpe
 abbrev pub Kept : Files → Files → Type 0
 Kept old new = (payloads : List (List ℕ)) → Holds payloads old → Holds payloads new
 
--- what the file that isn't live would stand for if its gate was open
+-- what the file that isn't live would stand for if its gate were open
 abbrev pub staged_in : Bool → DiskState → Option DiskState → Result (List (List ℕ)) ℕ
 staged_in is_second_live first None = Err 0
 staged_in true first (Some second) = file_payloads Two (opened first.bytes)
@@ -216,11 +219,11 @@ staged_payloads is_second_live files = staged_in is_second_live files.first file
 abbrev pub HasBegun : Bool → ℕ → Files → Files → Type 0
 HasBegun is_second_live number old new = staged_payloads is_second_live new ≡ Ok (generation_row number ∷ [])
 
--- it has one row more
+-- it has one more row
 abbrev pub HasRow : Bool → List ℕ → Files → Files → Type 0
 HasRow is_second_live payload old new = (rows : List (List ℕ)) → staged_payloads is_second_live old ≡ Ok rows → staged_payloads is_second_live new ≡ Ok (rows ++ payload ∷ [])
 
--- the refusals of the end of a compaction, in their order; they change nothing
+-- the refusals of the end of a compaction, in the order in which they are tested; they change nothing
 abbrev pub end_refusal : JournalState → Option JournalError
 end_refusal j =
     if j.is_broken then Some Reopen
@@ -245,20 +248,21 @@ Turns (Err OneDisk) old new = ⊥
 Turns (Err (Spent count)) old new = ⊥
 Turns (Err OutOfMemory) old new = ⊥
 
--- whatever a crash leaves at any moment of the end stands for the payloads that the journal held, or for the rows
+-- whatever a crash leaves at any moment of the end of a compaction stands for the payloads that the journal held, or
+-- for the rows
 abbrev pub Replaces : Bool → Files → Files → Type 0
 Replaces is_second_live old new = (payloads rows : List (List ℕ)) → Holds payloads old → staged_payloads is_second_live old ≡ Ok rows → SinceOpened (IsEither payloads rows) old new
 
--- after it was answered Ok the journal holds the rows
+-- once it is answered Ok, the journal holds the rows
 abbrev pub Replaced : Bool → Files → Files → Type 0
 Replaced is_second_live old new = (rows : List (List ℕ)) → staged_payloads is_second_live old ≡ Ok rows → Holds rows new
 
--- an opening makes a file where it is bidden to and none is made
+-- an opening makes a file if that is asked for and none is made
 abbrev pub is_making : Bool → DiskState → Option DiskState → Bool
 is_making create first None = create && not (is_made first.bytes)
 is_making create first (Some second) = create && not (is_made first.bytes) && not (is_made second.bytes)
 
--- what an opening finds: nothing where it makes the first file, else the payloads of the live one
+-- what an opening finds: no payloads if it makes the first file, else the payloads of the live one
 abbrev pub FindsIn : Bool → Files → List (List ℕ) → Type 0
 FindsIn true files payloads = payloads ≡ []
 FindsIn false files payloads = read_payloads files ≡ Ok payloads
@@ -267,7 +271,8 @@ FindsIn false files payloads = read_payloads files ≡ Ok payloads
 abbrev pub OpensFiles : Bool → Files → Files → Type 0
 OpensFiles create old new = (payloads : List (List ℕ)) × FindsIn (is_making create old.first old.second) old payloads × Holds payloads new
 
--- what a crash in an opening leaves: while the first file is made, one that isn't or one without records; else the files as they were read
+-- what a crash in an opening leaves: if the first file is being made, one that isn't made or has no records; else the
+-- files as they were read
 abbrev pub MayBeLeftIn : Bool → DiskState → Option DiskState → List ℕ → Option (List ℕ) → Type 0
 MayBeLeftIn true first None f None = IsEmptyOrUnmade One f
 MayBeLeftIn true first (Some second) f (Some g) = IsEmptyOrUnmade Two f × (g ≡ second.bytes)
@@ -276,18 +281,18 @@ MayBeLeftIn false first (Some second) f (Some g) = (f ≡ first.bytes) × (g ≡
 MayBeLeftIn making first None f (Some g) = ⊥
 MayBeLeftIn making first (Some second) f None = ⊥
 
--- at any moments later, each of the one disk with each of the other
+-- P holds at all later moments: of one disk, or of two, each moment of the first with each of the second
 abbrev pub LaterBoth : (List ℕ → Option (List ℕ) → Type 0) → DiskState → Option DiskState → DiskState → Option DiskState → Type 0
 LaterBoth P first None first_new None = Later (λ f. P f None) first first_new
 LaterBoth P first (Some second) first_new (Some second_new) = Later (λ f. Later (λ g. P f (Some g)) second second_new) first first_new
 LaterBoth P first None first_new (Some second_new) = ⊥
 LaterBoth P first (Some second) first_new None = ⊥
 
--- whatever a crash leaves once the first syncs of an opening are done
+-- what a crash may leave once the first syncs of an opening are done
 abbrev pub KeepsFiles : Bool → Files → Files → Type 0
 KeepsFiles create old new = LaterBoth (MayBeLeftIn (is_making create old.first old.second) old.first old.second) old.first old.second new.first new.second
 
--- the bytes of the file that counts
+-- the bytes of the live file
 abbrev pub live_bytes : DiskState → Option DiskState → List ℕ
 live_bytes first None = first.bytes
 live_bytes first (Some second) = live_file first.bytes second.bytes
@@ -304,14 +309,14 @@ RefusesFiles create OneDisk files = ⊥
 RefusesFiles create (Spent count) files = ⊥
 RefusesFiles create OutOfMemory files = Unit {0}
 
--- the Generation of a pair's journal is the one that stands in its live file
+-- the Generation that a pair's journal has is the one in its live file
 abbrev pub IsNumbered : JournalState → Type 0
 IsNumbered j = j.is_broken ≡ false → is_alone j.other ≡ false → (d : DiskState) → j.live.told ≡ Some d → j.generation ≡ file_generation d.bytes
 
--- an opening that makes a file makes it in this format
+-- if an opening makes a file, it makes it in this format
 abbrev pub MakesFormat : Format → Bool → Option Files → JournalState → Type 0
 MakesFormat format create before j = (files : Files) → before ≡ Some files → is_making create files.first files.second ≡ true → j.format ≡ format
 
--- a journal as it is opened
+-- a journal that was just opened
 abbrev pub IsOpened : JournalState → Type 0
 IsOpened j = (j.is_broken ≡ false) × (j.staged ≡ None)

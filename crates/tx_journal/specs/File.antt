@@ -9,11 +9,11 @@ abbrev pub digit : Format → ℕ
 digit One = 49
 digit Two = 50
 
--- the seven letters ACTJRN1 or ACTJRN2
+-- the seven characters ACTJRN1 or ACTJRN2
 abbrev pub name : Format → List ℕ
 name format = 65 ∷ 67 ∷ 84 ∷ 74 ∷ 82 ∷ 78 ∷ digit format ∷ []
 
--- the file's own gate, open, and the name
+-- the file's own gate, open, and then the name
 abbrev pub head : Format → List ℕ
 head format = 1 ∷ name format
 
@@ -26,7 +26,7 @@ abbrev pub records : List (List ℕ) → List ℕ
 records [] = []
 records (payload ∷ payloads) = 1 ∷ framed payload ++ records payloads
 
--- a file of these payloads up to the gate behind the last one
+-- a file of these payloads, up to but without the gate behind the last one
 abbrev pub spelled : Format → List (List ℕ) → List ℕ
 spelled format payloads = head format ++ records payloads
 
@@ -38,23 +38,23 @@ longest = 5242880
 abbrev pub most_bytes : ℕ
 most_bytes = 1073741824
 
--- a payload that a record may have
+-- the payload isn't too long for a record
 abbrev pub IsShort : List ℕ → Type 0
 IsShort payload = length payload ≤ longest
 
--- these are the same bytes
+-- whether these are the same bytes
 abbrev pub same_bytes : List ℕ → List ℕ → Bool
 same_bytes [] [] = true
 same_bytes [] (y ∷ ys) = false
 same_bytes (x ∷ xs) [] = false
 same_bytes (x ∷ xs) (y ∷ ys) = x == y && same_bytes xs ys
 
--- the payloads read so far, and one before them
+-- this payload in front of those that were read
 abbrev pub with_front : List ℕ → Result (List (List ℕ)) ℕ → Result (List (List ℕ)) ℕ
 with_front payload (Ok payloads) = Ok (payload ∷ payloads)
 with_front payload (Err offset) = Err offset
 
--- the length that stands behind a gate
+-- the length that is written behind a gate
 abbrev pub length_of : List ℕ → ℕ
 length_of rest = from_be_bytes w32 (take 4 rest)
 
@@ -62,8 +62,8 @@ length_of rest = from_be_bytes w32 (take 4 rest)
 abbrev pub is_cut : List ℕ → Bool
 is_cut rest = nat_lt (length rest) 4 || nat_lt longest (length_of rest) || nat_lt (length rest) (4 + length_of rest)
 
--- The payloads from a gate on, which stands at this offset, up to the first gate that isn't 1; or the offset of
--- the gate that is missing, or of the length that is too great or passes the end. The first number is the most records.
+-- The payloads from the gate at this offset on, up to the first gate that isn't 1; or the offset of a gate that is
+-- missing, or of a length that is cut, too great or past the end. The first number is the most gates to look at.
 abbrev pub payloads_from : ℕ → ℕ → List ℕ → Result (List (List ℕ)) ℕ
 payloads_from zero at bytes = Err at
 payloads_from (suc most) at [] = Err at
@@ -73,13 +73,13 @@ payloads_from (suc most) at (gate ∷ rest) =
     else
     Ok []
 
--- a file is made where it has at least two bytes and the first is 1
+-- a file is made if it has at least two bytes and the first is 1
 abbrev pub is_made : List ℕ → Bool
 is_made [] = false
 is_made (gate ∷ []) = false
 is_made (gate ∷ next ∷ rest) = gate == 1
 
--- the fact of it
+-- the same as a proposition
 abbrev pub FileMade : List ℕ → Type 0
 FileMade file = is_made file ≡ true
 
@@ -88,13 +88,13 @@ abbrev pub opened : List ℕ → List ℕ
 opened [] = []
 opened (gate ∷ rest) = 1 ∷ rest
 
--- a journal that goes up to a format knows this name; the second format comes with the first
+-- whether a journal that knows the formats up to this one knows this name; one that knows the second knows the first
 abbrev pub is_known : Format → List ℕ → Bool
 is_known One text = same_bytes text (name One)
 is_known Two text = same_bytes text (name One) || same_bytes text (name Two)
 
--- The payloads that a file stands for to a journal that goes up to a format, or the offset at which it is damaged:
--- 0 where it isn't made, 1 where its name is another.
+-- The payloads that a file stands for to a journal that knows the formats up to this one, or the offset at which it is
+-- damaged: 0 if it isn't made, 1 if it has another name.
 abbrev pub file_payloads : Format → List ℕ → Result (List (List ℕ)) ℕ
 file_payloads newest file =
     if is_made file then

@@ -12,7 +12,7 @@ use Rattle.tx_journal.specs.Journal.{Rises, IsSame}
 use Rattle.tx_journal.specs.Seen.{is_made_kind}
 use Rattle.tx_journal.specs.Sound.{IsLive, Waits}
 
--- a sync, done or failed: a crash later leaves what a read gave
+-- a sync, done or failed: reads give what they gave before, and a later crash leaves just that
 abbrev pub Synced : DiskState → DiskState → Type 0
 Synced d e = Later (IsSame d.bytes) d e × (e.bytes ≡ d.bytes)
 
@@ -20,7 +20,7 @@ Synced d e = Later (IsSame d.bytes) d e × (e.bytes ≡ d.bytes)
 abbrev pub IsSynced : DiskState → DiskState → Type 0
 IsSynced d e = IsDurable e
 
--- neither count of faults falls, and one of them rises where the call answers DiskFault
+-- after Ok neither count of faults has fallen; after DiskFault one of them rose or is at its maximum
 abbrev pub CostsBoth : {T : Type 0} → ℕ → ℕ → ℕ → ℕ → Result T JournalError → Type 0
 CostsBoth first first_new second second_new (Ok x) = (first ≤ first_new) × (second ≤ second_new)
 CostsBoth first first_new second second_new (Err DiskFault) = Rises first first_new ⊎ Rises second second_new
@@ -33,7 +33,7 @@ CostsBoth first first_new second second_new (Err OneDisk) = Unit {0}
 CostsBoth first first_new second second_new (Err (Spent count)) = Unit {0}
 CostsBoth first first_new second second_new (Err OutOfMemory) = Unit {0}
 
--- the first byte stands and is closed
+-- by what was seen, the file isn't made and has at least two bytes, so that its gate is closed
 abbrev pub is_closed_seen : Seen → Bool
 is_closed_seen seen = not (is_made_kind seen.kind) && nat_lt 1 seen.len
 

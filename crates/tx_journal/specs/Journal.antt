@@ -1,4 +1,4 @@
--- A journal as its callers see it: own.
+-- A file at rest, and what the steps of a journal do to one disk: own.
 use Rattle.std.specs.Prelude.{◌≡◌, ◌≢◌, ◌<◌, ◌≤◌, ◌⊎◌, ℕ, suc, ◌+◌, Bool, true, false, not, ◌&&◌, List, [], ◌∷◌, ◌++◌, length, take, drop, Vec, slice_get, Option, Some, None, Result, Ok, Err}
 use Rattle.std.specs.List.{AllByRecursion}
 use Rattle.actor_ports.specs.declared.port.PortError.{PortError}
@@ -13,7 +13,8 @@ use Rattle.tx_journal.specs.declared.kind.FileKind.{FileKind}
 use Rattle.tx_journal.specs.declared.kind.FileKind.TheVariants.{Unmade, Other, Journal as Journal_}
 use Rattle.tx_journal.specs.File.{name, head, framed, records, spelled, IsShort, most_bytes, payloads_from, file_payloads, is_made, FileMade, is_known, JournalImage, IsEmptyOrUnmade}
 
--- the bytes are a file of this known format and these payloads, a closed gate just before this offset, and any bytes behind it
+-- the bytes are a file of this known format and these payloads, with a closed gate just before the offset `end` and any
+-- bytes behind it
 pub record IsAtRest (newest format : Format) (payloads : List (List ℕ)) (end : ℕ) (bytes : List ℕ) : Type 0 where
   pub known : is_known newest (name format) ≡ true
   pub gate : ℕ
@@ -28,7 +29,7 @@ pub record IsGateOf (payloads : List (List ℕ)) (index gate : ℕ) : Type 0 whe
   pub within : index ≤ length payloads
   pub place : gate ≡ 8 + length (records (take index payloads))
 
--- a disk whose file is at rest and all on it, with the gate of an index
+-- a disk whose file is at rest and durable, with the gate of an index
 pub record IsSettled (newest format : Format) (payloads : List (List ℕ)) (end : ℕ) (cursor : Cursor) (d : DiskState) : Type 0 where
   pub file : IsAtRest newest format payloads end d.bytes
   pub durable : IsDurable d
@@ -42,15 +43,15 @@ IsSpelled newest format payloads file = (end : ℕ) × IsAtRest newest format pa
 abbrev pub RestsBeforeOrAfter : Format → Format → List (List ℕ) → List ℕ → List ℕ → Type 0
 RestsBeforeOrAfter newest format payloads payload file = IsSpelled newest format payloads file ⊎ IsSpelled newest format (payloads ++ payload ∷ []) file
 
--- the count of faults rose, or stands at its end
+-- the count of faults rose, or is at its maximum
 abbrev pub Rises : ℕ → ℕ → Type 0
 Rises before after = (before < after) ⊎ IsSpent after
 
--- What the four calls of an append leave of a durable disk at rest, for the record of a payload.
+-- What a crash may leave in the four calls of an append, on a durable disk at rest: the payloads before or after it.
 abbrev pub PutsRecord : ℕ → List ℕ → DiskState → DiskState → Type 0
 PutsRecord end bytes d e = (newest format : Format) (payloads : List (List ℕ)) (payload : List ℕ) → IsAtRest newest format payloads end d.bytes → IsDurable d → IsShort payload → bytes ≡ framed payload ++ 0 ∷ [] → Since (RestsBeforeOrAfter newest format payloads payload) d e
 
--- what they leave where each is done
+-- what they leave if each is done
 abbrev pub HasRecord : ℕ → List ℕ → DiskState → DiskState → Type 0
 HasRecord end bytes d e = (newest format : Format) (payloads : List (List ℕ)) (payload : List ℕ) → IsAtRest newest format payloads end d.bytes → IsDurable d → IsShort payload → bytes ≡ framed payload ++ 0 ∷ [] → IsAtRest newest format (payloads ++ payload ∷ []) (end + length bytes) e.bytes × IsDurable e
 
@@ -59,7 +60,7 @@ abbrev pub as_journal : PortError → JournalError
 as_journal ports.Failed = DiskFault
 as_journal ports.OutOfMemory = OutOfMemory
 
--- the count of faults never falls, and rises where the call answers DiskFault
+-- the count of faults doesn't fall; if the call answers DiskFault, it rises or is at its maximum
 abbrev pub Costs : {T : Type 0} → ℕ → ℕ → Result T JournalError → Type 0
 Costs before after (Ok x) = before ≤ after
 Costs before after (Err DiskFault) = Rises before after
@@ -76,16 +77,17 @@ Costs before after (Err OutOfMemory) = before ≤ after
 abbrev pub IsSame : List ℕ → List ℕ → Type 0
 IsSame bytes file = file ≡ bytes
 
--- opening makes a file that isn't made, where it is bidden to
+-- an opening makes a file that isn't made, if that is asked for
 abbrev pub is_to_make : Bool → List ℕ → Bool
 is_to_make create bytes = create && not (is_made bytes)
 
--- what a crash in the opening leaves: while a file is made, one that isn't or one without records; else the file as it was read
+-- what a crash in the opening leaves: if a file is being made, one that isn't made or has no records; else the file as
+-- it was read
 abbrev pub MayBeLeft : Format → Bool → List ℕ → List ℕ → Type 0
 MayBeLeft newest true bytes file = IsEmptyOrUnmade newest file
 MayBeLeft newest false bytes file = IsSame bytes file
 
--- whatever a crash leaves once the first sync of an opening is done
+-- what a crash may leave once the first sync of an opening is done
 abbrev pub KeepsFile : Format → Bool → DiskState → DiskState → Type 0
 KeepsFile newest create d e = Later (MayBeLeft newest (is_to_make create d.bytes) d.bytes) d e
 
@@ -110,7 +112,7 @@ Refuses newest create OneDisk d = ⊥
 Refuses newest create (Spent count) d = ⊥
 Refuses newest create OutOfMemory d = Unit {0}
 
--- what stands at a gate: nothing, a closed gate, no whole record, or a record up to the next gate
+-- what is at a gate: a closed gate, a record up to the next gate, or damage: no gate, or no whole record behind it
 abbrev pub StandsAt : ℕ → Result (Option ℕ) JournalError → DiskState → Type 0
 StandsAt at (Ok None) d = (gate : ℕ) × (rest : List ℕ) × (gate ≢ 1) × (drop at d.bytes ≡ gate ∷ rest)
 StandsAt at (Ok (Some next)) d = (payload : List ℕ) × IsShort payload × (drop at d.bytes ≡ 1 ∷ framed payload ++ drop next d.bytes) × (next ≡ at + 5 + length payload)
@@ -124,7 +126,7 @@ StandsAt at (Err (Spent count)) d = ⊥
 StandsAt at (Err DiskFault) d = Unit {0}
 StandsAt at (Err OutOfMemory) d = Unit {0}
 
--- an error that only the disk or want of memory brings
+-- an error that only the disk brings, or running out of memory
 abbrev pub IsPortFault : JournalError → Type 0
 IsPortFault e = (e ≡ DiskFault) ⊎ (e ≡ OutOfMemory)
 
@@ -145,7 +147,7 @@ Scans newest format (Err OutOfMemory) d = Unit {0}
 abbrev pub IsShut : List ℕ → Type 0
 IsShut bytes = (gate : ℕ) × (rest : List ℕ) × (gate ≢ 1) × (bytes ≡ gate ∷ rest)
 
--- a file whose first byte is not 1 is made over it
+-- what a crash may leave while a file whose first byte isn't 1 is made
 abbrev pub Makes : Format → DiskState → DiskState → Type 0
 Makes format d e = IsDurable d → IsShut d.bytes → Later (IsEmptyOrUnmade format) d e
 
@@ -153,15 +155,15 @@ Makes format d e = IsDurable d → IsShut d.bytes → Later (IsEmptyOrUnmade for
 abbrev pub IsNew : Format → DiskState → DiskState → Type 0
 IsNew format d e = IsDurable d → IsShut d.bytes → IsAtRest format format [] 9 e.bytes × IsDurable e
 
--- a file of at most one byte gets the byte 0
+-- what a crash may leave while a file of at most one byte gets the first byte 0
 abbrev pub Shuts : Format → DiskState → DiskState → Type 0
 Shuts format d e = IsDurable d → length d.bytes ≤ 1 → Later (IsEmptyOrUnmade format) d e
 
--- it has got it
+-- it has a closed first byte, on the disk
 abbrev pub WasShut : DiskState → DiskState → Type 0
 WasShut d e = IsDurable d → length d.bytes ≤ 1 → IsShut e.bytes × IsDurable e × (1 ≤ length e.bytes)
 
--- a file that isn't made is made
+-- what a crash may leave while a file that isn't made is made
 abbrev pub Creates : Format → DiskState → DiskState → Type 0
 Creates format d e = IsDurable d → is_made d.bytes ≡ false → Later (IsEmptyOrUnmade format) d e
 
@@ -169,7 +171,7 @@ Creates format d e = IsDurable d → is_made d.bytes ≡ false → Later (IsEmpt
 abbrev pub IsCreated : Format → DiskState → DiskState → Type 0
 IsCreated format d e = IsDurable d → is_made d.bytes ≡ false → IsAtRest format format [] 9 e.bytes × IsDurable e
 
--- the errors of an opening, whatever the disk tells
+-- the errors of an opening, whether or not the disk reports its state
 abbrev pub IsOpenError : JournalError → Type 0
 IsOpenError DiskFault = Unit {0}
 IsOpenError (Damaged offset) = Unit {0}
@@ -181,7 +183,7 @@ IsOpenError OneDisk = ⊥
 IsOpenError (Spent count) = ⊥
 IsOpenError OutOfMemory = Unit {0}
 
--- what the first bytes of a file say of it to a journal that goes up to a format
+-- what the first bytes of a file say about it, to a journal that knows the formats up to this one
 abbrev pub IsKind : Format → List ℕ → FileKind → Type 0
 IsKind newest front Unmade = is_made front ≡ false
 IsKind newest front Other = FileMade front × (is_known newest (drop 1 front) ≡ false)
@@ -193,13 +195,13 @@ IsKnownKind newest Unmade = Unit {0}
 IsKnownKind newest Other = Unit {0}
 IsKnownKind newest (Journal_ format) = is_known newest (name format) ≡ true
 
--- the same of a disk whose first bytes were read
+-- the same for a disk whose first bytes were read
 abbrev pub LooksLike : Format → DiskState → FileKind → Type 0
 LooksLike newest d Unmade = is_made d.bytes ≡ false
 LooksLike newest d Other = FileMade d.bytes × (is_known newest (take 7 (drop 1 d.bytes)) ≡ false)
 LooksLike newest d (Journal_ format) = (take 8 d.bytes ≡ head format) × (is_known newest (name format) ≡ true)
 
--- what a replay answers of payloads: the one at the index, or none past the last
+-- what a replay answers: the payload at the index, or none past the last
 abbrev pub Replays : {Z : Type 0} → List (List ℕ) → ℕ → Result (Option (Vec ℕ Z)) JournalError → Type 0
 Replays payloads index (Ok None) = length payloads ≤ index
 Replays payloads index (Ok (Some payload)) = slice_get payloads index ≡ Some payload.items
@@ -213,7 +215,7 @@ Replays payloads index (Err NotStarted) = ⊥
 Replays payloads index (Err OneDisk) = ⊥
 Replays payloads index (Err (Spent count)) = ⊥
 
--- what a search among payloads finds: the one at the index with the gate behind it, or none past the last
+-- what a search finds: the payload at the index and the gate behind it, or none past the last
 abbrev pub Finds : {Z : Type 0} → List (List ℕ) → ℕ → Result (Option (Vec ℕ Z × ℕ)) JournalError → Type 0
 Finds payloads index (Ok None) = length payloads ≤ index
 Finds payloads index (Ok (Some found)) = (slice_get payloads index ≡ Some found.0.items) × IsGateOf payloads (index + 1) found.1

@@ -22,7 +22,7 @@ is_generation payload = length payload == 17 && same_bytes (take 9 payload) gene
 abbrev pub generation_in : List ℕ → Option ℕ
 generation_in payload = if is_generation payload then Some (from_be_bytes w64 (drop 9 payload)) else None
 
--- the number of the first payload, where that is a Generation
+-- the number of the first payload, if that is a Generation
 abbrev pub first_generation : List (List ℕ) → Option ℕ
 first_generation [] = None
 first_generation (payload ∷ payloads) = generation_in payload
@@ -32,7 +32,7 @@ abbrev pub without_generation : List (List ℕ) → List (List ℕ)
 without_generation [] = []
 without_generation (payload ∷ payloads) = if is_generation payload then payloads else payload ∷ payloads
 
--- the same of a first record that is read from its gate on: 22 bytes, gate and length first
+-- the same, from the first record's 22 bytes: its gate, its length and its payload
 abbrev pub generation_at : List ℕ → Option ℕ
 generation_at front =
     if length front == 22 && same_bytes (take 14 front) (1 ∷ 0 ∷ 0 ∷ 0 ∷ 17 ∷ generation_kind) then Some (from_be_bytes w64 (drop 14 front)) else None
@@ -41,20 +41,20 @@ generation_at front =
 abbrev pub file_generation : List ℕ → Option ℕ
 file_generation file = if is_made file && is_known Two (take 7 (drop 1 file)) then generation_at (take 22 (drop 8 file)) else None
 
--- the number by which files are compared; a file without a Generation counts as 0
+-- the number by which files are compared; it is 0 for a file without a Generation
 abbrev pub number : Option ℕ → ℕ
 number None = 0
 number (Some n) = n
 
--- the second file is live where it is made and the first isn't, or has a smaller number
+-- the second file is live if it is made, and the first isn't or has a smaller number
 abbrev pub is_second_live : List ℕ → List ℕ → Bool
 is_second_live first second = is_made second && (not (is_made first) || nat_lt (number (file_generation first)) (number (file_generation second)))
 
--- the one of two files that counts
+-- the live one of two files
 abbrev pub live_file : List ℕ → List ℕ → List ℕ
 live_file first second = if is_second_live first second then second else first
 
--- the payloads of the live file, the Generation among them, or the offset at which it is damaged
+-- the payloads of the live file, with the Generation, or the offset at which it is damaged
 abbrev pub live_payloads : List ℕ → List ℕ → Result (List (List ℕ)) ℕ
 live_payloads first second = file_payloads Two (live_file first second)
 
@@ -72,40 +72,41 @@ pub record Files : Type 0 where
   pub first : DiskState
   pub second : Option DiskState
 
--- what the bytes that reads give stand for
+-- the payloads for which the bytes that reads give stand
 abbrev pub read_both : DiskState → Option DiskState → Result (List (List ℕ)) ℕ
 read_both first None = journal_payloads first.bytes
 read_both first (Some second) = live_payloads first.bytes second.bytes
 
--- the same of the files of a journal
+-- the same for the files of a journal
 abbrev pub read_payloads : Files → Result (List (List ℕ)) ℕ
 read_payloads files = read_both files.first files.second
 
--- what a claim says of the payloads that files stand for
+-- a claim about the payloads for which files stand
 abbrev pub Claim : Type 1
 Claim = Result (List (List ℕ)) ℕ → Type 0
 
--- whatever a crash now leaves of the files opens as P says
+-- whatever a crash may leave now of the files opens as P says
 abbrev pub LeavesBoth : Claim → DiskState → Option DiskState → Type 0
 LeavesBoth P first None = LeavesOnly (λ f. P (journal_payloads f)) first.instant
 LeavesBoth P first (Some second) = LeavesOnly (λ f. LeavesOnly (λ g. P (live_payloads f g)) second.instant) first.instant
 
--- the same of the files of a journal
+-- the same for the files of a journal
 abbrev pub LeavesOpened : Claim → Files → Type 0
 LeavesOpened P files = LeavesBoth P files.first files.second
 
--- Whatever a crash left at any moments since opens as P says. The disks have no common clock, so each moment of one goes with each of the other.
+-- Whatever a crash may have left at any moment since then opens as P says. The disks have no common clock, so each
+-- moment of one goes with each of the other.
 abbrev pub SinceBoth : Claim → DiskState → Option DiskState → DiskState → Option DiskState → Type 0
 SinceBoth P first None first_new None = Since (λ f. P (journal_payloads f)) first first_new
 SinceBoth P first None first_new (Some second_new) = ⊥
 SinceBoth P first (Some second) first_new None = ⊥
 SinceBoth P first (Some second) first_new (Some second_new) = Since (λ f. Since (λ g. P (live_payloads f g)) second second_new) first first_new
 
--- the same of the files of a journal
+-- the same for the files of a journal
 abbrev pub SinceOpened : Claim → Files → Files → Type 0
 SinceOpened P old new = SinceBoth P old.first old.second new.first new.second
 
--- the files stand for these payloads, and so does whatever a crash leaves now
+-- the files stand for these payloads, and so does whatever a crash may leave now
 pub record Holds (payloads : List (List ℕ)) (files : Files) : Type 0 where
   pub reads : read_payloads files ≡ Ok payloads
   pub leaves : LeavesOpened (λ r. r ≡ Ok payloads) files

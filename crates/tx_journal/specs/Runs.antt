@@ -15,7 +15,7 @@ pub data JournalCall : Type 0 where
   Turn : JournalCall
   Look : JournalCall
 
--- how a call was answered, its value left aside
+-- how a call was answered, without its value
 abbrev pub Answer : Type 0
 Answer = Result (Unit {0}) JournalError
 
@@ -63,13 +63,14 @@ Moves (Add payload) answer old new = AddMoves payload answer old new
 Moves Turn answer old new = TurnMoves answer old new
 Moves Look answer old new = LookMoves answer old new
 
--- The payloads that were acknowledged; those that a crash may leave too, once a call met a fault; the rows of a compaction under way.
+-- The payloads that were acknowledged; those that a crash may leave in place of them, once a call has met a fault; and
+-- the rows of a compaction under way.
 pub record Ledger : Type 0 where
   pub held : List (List ℕ)
   pub maybe : List (List ℕ)
   pub rows : Option (List (List ℕ))
 
--- nothing is under way
+-- no outcome is open
 abbrev pub settled : List (List ℕ) → Option (List (List ℕ)) → Ledger
 settled held rows = record { held = held; maybe = held; rows = rows }
 
@@ -92,7 +93,7 @@ outcome_of (Err OneDisk) = Refused
 outcome_of (Err (Spent count)) = Refused
 outcome_of (Err OutOfMemory) = Refused
 
--- one row more of a compaction under way
+-- one more row of a compaction under way
 abbrev pub with_row : List ℕ → Option (List (List ℕ)) → Option (List (List ℕ))
 with_row payload None = None
 with_row payload (Some rows) = Some (rows ++ payload ∷ [])
@@ -110,7 +111,7 @@ under_way (Add payload) l = l.held
 under_way Turn l = rows_or l.rows l.held
 under_way Look l = l.held
 
--- the ledger after a call; a compaction's first row has this number
+-- the ledger after a call; the first row of a compaction is the Generation of this number
 abbrev pub ledger_after : ℕ → JournalCall → Outcome → Ledger → Ledger
 ledger_after number call Refused l = l
 ledger_after number call Failed l = record { held = l.held; maybe = under_way call l; rows = None }
@@ -125,8 +126,9 @@ ledger_after number Turn GivenUp l = l
 ledger_after number Look Done l = l
 ledger_after number Look GivenUp l = l
 
--- The journal is as the ledger says: a crash now leaves what was acknowledged, or once a fault was met what may have come too;
--- while none was, it holds what was acknowledged, and the rows are those of the other file.
+-- The journal is as the ledger says. A crash now leaves what was acknowledged or, after a fault, perhaps what was under
+-- way. As long as there was no fault, the journal holds what was acknowledged, and the rows are those of the other
+-- file.
 pub record Stands (l : Ledger) (j : JournalState) : Type 0 where
   pub leaves : (files : Files) → told j ≡ Some files → LeavesOpened (IsEither l.held l.maybe) files
   pub holds : j.is_broken ≡ false → (files : Files) → told j ≡ Some files → Holds l.held files
@@ -138,11 +140,12 @@ abbrev pub Runs : Ledger → JournalState → List (JournalCall × Answer) → L
 Runs l old [] m new = (m ≡ l) × (new ≡ old)
 Runs l old (entry ∷ entries) m new = (mid : JournalState) × Moves entry.0 entry.1 old mid × Runs (ledger_after (next_number old.generation) entry.0 (outcome_of entry.1) l) mid entries m new
 
--- in a call on a journal that met no fault, whatever a crash leaves at any moment is what was acknowledged, or that with what is under way
+-- in a call on a journal that has met no fault, whatever a crash leaves at any moment is what was acknowledged, or what
+-- the call is about to make of it
 abbrev pub RisksOne : Ledger → JournalCall → JournalState → JournalState → Type 0
 RisksOne l call old new = old.is_broken ≡ false → Tells (SinceOpened (IsEither l.held (under_way call l))) (told old) (told new)
 
--- every call of a list does so
+-- the same for every call of a list
 abbrev pub RisksEach : Ledger → JournalState → List (JournalCall × Answer) → Type 0
 RisksEach l old [] = Unit {0}
 RisksEach l old (entry ∷ entries) = (mid : JournalState) → Moves entry.0 entry.1 old mid → RisksOne l entry.0 old mid × RisksEach (ledger_after (next_number old.generation) entry.0 (outcome_of entry.1) l) mid entries

@@ -8,7 +8,7 @@ use Rattle.tx_journal.specs.declared.survey.Seen.{Seen}
 use Rattle.tx_journal.specs.Pair.{file_generation, number}
 use Rattle.tx_journal.specs.Journal.{LooksLike}
 
--- the file is of a kind that is made
+-- a file of this kind is made
 abbrev pub is_made_kind : FileKind → Bool
 is_made_kind Unmade = false
 is_made_kind Other = true
@@ -20,6 +20,6 @@ pub record Sees (d : DiskState) (seen : Seen) : Type 0 where
   pub kind_is : LooksLike Two d seen.kind
   pub generation_is : seen.generation ≡ file_generation d.bytes
 
--- the second is live by what was seen
+-- by what was seen, the second is the live one
 abbrev pub is_second_seen : Seen → Seen → Bool
 is_second_seen first second = is_made_kind second.kind && (not (is_made_kind first.kind) || nat_lt (number first.generation) (number second.generation))

@@ -11,21 +11,22 @@ use Rattle.tx_journal.specs.Journal.{IsAtRest, IsSettled}
 use Rattle.tx_journal.specs.Compaction.{IsShutFront, MayBeShut}
 use Rattle.tx_journal.specs.Calls.{Side, JournalState, next_number, is_alone}
 
--- by how much a live file has to be newer than the other: at equal numbers the first is live
+-- by how much the live file's number has to be above the other's: if the numbers are equal, the first is live
 abbrev pub margin : Bool → ℕ
 margin true = 1
 margin false = 0
 
--- this file doesn't count beside a live one of that number
+-- this file isn't the live one if the other has that number
 abbrev pub Yields : Bool → ℕ → List ℕ → Type 0
 Yields is_second_live n file = (is_made file ≡ false) ⊎ (number (file_generation file) + margin is_second_live ≤ n)
 
--- The file that isn't live: with a closed gate, and maybe rows of a compaction behind it; or as an opening or a compaction left it.
+-- The file that isn't live: it has a closed gate, perhaps with rows of a compaction behind it; or it is as an opening
+-- or a compaction left it.
 abbrev pub Waits : Bool → Option ℕ → Bool → Option ℕ → DiskState → Type 0
 Waits is_second_live generation true staged d = IsShutFront d × ((at : ℕ) → staged ≡ Some at → (rows : List (List ℕ)) × IsAtRest Two Two (generation_row (next_number generation) ∷ rows) at (opened d.bytes))
 Waits is_second_live generation false staged d = IsDurable d × Yields is_second_live (number generation) d.bytes × MayBeShut d.bytes × (staged ≡ None)
 
--- the formats that a journal of one disk or of two knows
+-- the newest format that a journal knows, of one disk or of two
 abbrev pub newest_of : Option Side → Format
 newest_of None = One
 newest_of (Some other) = Two
@@ -43,7 +44,7 @@ pub record IsStarted (j : JournalState) (at : ℕ) : Type 0 where
   pub paired : is_alone j.other ≡ false
   pub small : number j.generation < 2 ^ 62
 
--- what is true of each journal
+-- what is true of every journal
 pub record IsSound (j : JournalState) (cursor : Cursor) (is_shut : Bool) (room : ℕ) : Type 0 where
   pub room_is : room ≡ longest + 6
   pub some : 9 ≤ j.end

@@ -11,6 +11,6 @@ pub record IsWindow (at : ℕ) (bytes : List ℕ) (d : DiskState) : Type 0 where
 abbrev pub ShowsFront : ℕ → List ℕ → ℕ → DiskState → Type 0
 ShowsFront from bytes at d = take 5 (drop (at - from) bytes) ≡ take 5 (drop at d.bytes)
 
--- a disk is shown, where it tells
+-- the window is right if the disk reports its state
 abbrev pub IsShown : Option DiskState → ℕ → List ℕ → Type 0
 IsShown told at bytes = (d : DiskState) → told ≡ Some d → IsWindow at bytes d

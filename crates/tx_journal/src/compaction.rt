@@ -11,7 +11,8 @@ ghost use Rattle.tx_journal.specs.Compaction.{StaysUnmade, Finishes, IsFinished,
 use actor_ports::PortError;
 use disk_model::Disk;
 
-// Closes the gate of the file that isn't live. One that is closed keeps its byte: written, it could hold a 1 after a crash.
+// Closes the gate of the file that isn't live. A gate that is closed already isn't written again: a torn write could
+// leave a 1 in it after a crash.
 fn close_gate<D: Disk>(disk: &mut D) -> Result<(), PortError>
     requires { (d : DiskState) → D.told disk.old ≡ Some d → IsDurable d × MayBeShut d.bytes }
     ensures crash { Tells Closes (D.told disk.old) (D.told disk.new) }
@@ -35,7 +36,7 @@ fn write_front<D: Disk>(disk: &mut D, front: &[u8]) -> Result<(), PortError>
     disk.write_at(1, front)
 }
 
-// Name, first gate, the Generation's record, a closed gate.
+// The name, an open gate, the Generation's record, and a closed gate.
 fn front_row(number: u64) -> [u8; 30]
     ensures { result ≡ name Two ++ 1 ∷ framed (generation_row number) ++ 0 ∷ [] }
 {
@@ -46,7 +47,7 @@ fn front_row(number: u64) -> [u8; 30]
     ]
 }
 
-// Starts a compaction: the gate is closed, where it isn't yet, and the file has its first row.
+// Starts a compaction: closes the gate unless it is closed already, and writes the first row.
 pub(crate) fn begin<D: Disk>(disk: &mut D, is_shut: bool, number: u64) -> Result<(), PortError>
     requires ready { (d : DiskState) → D.told disk.old ≡ Some d → MayStart is_shut d }
     ensures crash { Tells (Begins is_shut) (D.told disk.old) (D.told disk.new) }
@@ -62,7 +63,7 @@ pub(crate) fn begin<D: Disk>(disk: &mut D, is_shut: bool, number: u64) -> Result
     write_front(disk, &front)
 }
 
-// Writes one more record over the closed gate at `at - 1`: its gates are 1 before it and closed behind it.
+// Writes one more record over the closed gate at `at - 1`: an open gate, the record, and a closed gate behind it.
 pub(crate) fn add<D: Disk>(disk: &mut D, at: u64, bytes: &[u8]) -> Result<(), PortError>
     requires some { 2 ≤ at }
     requires within { (d : DiskState) → D.told disk.old ≡ Some d → at ≤ length d.bytes }
@@ -74,7 +75,7 @@ pub(crate) fn add<D: Disk>(disk: &mut D, at: u64, bytes: &[u8]) -> Result<(), Po
     disk.write_at(at - 1, bytes)
 }
 
-// Puts all on the disk, and opens the file's gate: it is live from then on.
+// Puts everything on the disk, and then opens the file's gate: the file is live from then on.
 pub(crate) fn finish<D: Disk>(disk: &mut D) -> Result<(), PortError>
     ensures crash { Tells Finishes (D.told disk.old) (D.told disk.new) }
     ensures done { OnOk result (Tells IsFinished (D.told disk.old) (D.told disk.new)) }

@@ -1,4 +1,4 @@
-// The answers of a journal that are no success.
+// The errors of a journal.
 ghost use Rattle.std.specs.Prelude.{◌≡◌};
 ghost use Rattle.tx_journal.specs.Journal.{as_journal};
 
@@ -11,16 +11,16 @@ pub enum JournalError {
     /// The disk failed; the journal must be opened again.
     #[error("the disk failed")]
     DiskFault,
-    /// The file is no journal; the place where it ceases to be one.
+    /// The file isn't a journal, or it is damaged; `offset` is the place in bytes where it ceases to be one.
     #[error("damaged at {offset}")]
     Damaged { offset: u64 },
-    /// The payload has so many bytes, more than a record can have.
+    /// The payload has `n` bytes, which is more than a record can have.
     #[error("payload of {n} bytes")]
     TooLong { n: u64 },
-    /// The file has so many bytes, and the record has no room.
+    /// The file has `len` bytes: there is no room for the record, or the file is too long to be opened.
     #[error("journal of {len} bytes is full")]
     Full { len: u64 },
-    /// An earlier call met a fault of the disk.
+    /// An earlier call met a disk fault; the journal must be opened again.
     #[error("journal must be opened again")]
     Reopen,
     /// No compaction is under way.
@@ -29,7 +29,7 @@ pub enum JournalError {
     /// The journal was opened with one disk, and can't be compacted.
     #[error("journal of one disk")]
     OneDisk,
-    /// The live file has this number, and no higher one can come.
+    /// The live file has the Generation `count`, and there can be no higher one.
     #[error("number {count} is the last")]
     Spent { count: u64 },
     /// There was no memory.

@@ -1,4 +1,4 @@
-// Finding the record of an index, from one that was found before.
+// Finds the record of an index, starting from one that was found before.
 ghost use Rattle.std.specs.Prelude.{◌≡◌, ◌<◌, ◌≤◌, ◌^◌, ℕ, ◌+◌, List, IfOk, IfErr, IfSome, Some};
 ghost use Rattle.disk_model.specs.Disk.{DiskState};
 ghost use Rattle.tx_journal.specs.Journal.{Costs, IsAtRest, IsGateOf, Finds, IsOpenError};
@@ -24,7 +24,7 @@ const WIDTH: usize = 5;
 // The gate of the first record.
 pub(crate) const FIRST: Cursor = Cursor { index: 0, gate: 8 };
 
-// The place of a row among the records: of a pair a Generation isn't counted. Rows have indices below 2^30.
+// The place of a row among the records: in a pair, a Generation isn't counted as a row. Indices are below 2^30.
 pub(crate) fn place_of(is_pair: bool, generation: Option<u64>, index: u64) -> u64
     requires { index < 2 ^ 30 }
     ensures { result ≡ place_in is_pair generation index }
@@ -35,7 +35,7 @@ pub(crate) fn place_of(is_pair: bool, generation: Option<u64>, index: u64) -> u6
     }
 }
 
-// Where a search for an index begins: at what was found before, unless that stands behind it.
+// Where a search for an index begins: at the record found before, or at the first one if that is past the index.
 pub(crate) fn start_at(cursor: Cursor, index: u64) -> Cursor
     ensures within { result.index ≤ index }
     ensures gate { (payloads : List (List ℕ)) → IsGateOf payloads cursor.index cursor.gate → IsGateOf payloads result.index result.gate }
@@ -43,7 +43,7 @@ pub(crate) fn start_at(cursor: Cursor, index: u64) -> Cursor
     if index < cursor.index { FIRST } else { cursor }
 }
 
-// The payload of that index, and the place of the gate behind it.
+// The payload at that index, and the place of the gate behind it; `None` past the last.
 pub(crate) fn find<D: Disk>(
     alloc: Global,
     disk: &mut D,

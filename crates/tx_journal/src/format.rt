@@ -1,15 +1,15 @@
-// The formats of a file, by its name.
+// The formats of a file, which its name gives.
 ghost use Rattle.std.specs.Prelude.{◌≡◌, ◌∷◌, [], ◌++◌};
 ghost use Rattle.tx_journal.specs.File.{name};
 
-/// The format of a file: the first, of files of their own, or the second, of files that are made in a pair.
+/// The format of a file: the first, for a file of its own, or the second, for a file that was made in a pair.
 #[derive(Clone, Copy, Debug, PartialEq, Eq)]
 pub enum Format {
     One,
     Two,
 }
 
-// The name of the format, and a closed gate behind it.
+// The name of the format, followed by a closed gate.
 pub(crate) fn front_of(format: Format) -> [u8; 8]
     ensures { result ≡ name format ++ 0 ∷ [] }
 {

@@ -27,7 +27,8 @@ const MOST_BYTES: u64 = 1_073_741_824;
 
 /// Payloads in a file, in order. An append is on the disk before it is answered.
 ///
-/// A journal of two disks can be compacted: the file that isn't live gets new rows, and then is the live one.
+/// A journal of two disks can be compacted: new rows are written to the file that isn't live, which then becomes the
+/// live one.
 #[derive(Drop)]
 pub struct Journal<D: Disk> {
     live: D,
@@ -56,7 +57,7 @@ impl<D: Disk> Model for Journal<D> {
 }
 
 impl<D: Disk> Journal<D> {
-    /// Opens a file of its own: makes it where `create` bids so and it isn't made, and reads it otherwise.
+    /// Opens a file of its own: makes it if `create` is true and it isn't made yet, and reads it otherwise.
     /// A refused opening hands the disk back.
     pub fn open(alloc: Global, disk: D, create: bool) -> Result<Journal<D>, (JournalError, D)>
         ensures opened { IfOk result (λ j. Tells (OpensFiles create) (tell_one (D.told disk)) (told j)) }
@@ -145,7 +146,7 @@ impl<D: Disk> Journal<D> {
         }
     }
 
-    /// The length of the live file in bytes, up to the gate behind its last record.
+    /// The length of the live file in bytes, up to and with the closed gate behind its last record.
     pub fn len(&self) -> u64
         ensures { result ≡ self.now.end }
     {
@@ -164,15 +165,15 @@ impl<D: Disk> Journal<D> {
         }
     }
 
-    /// Whether a call met a fault, so that the journal must be opened again.
+    /// Whether a call met a disk fault, so that the journal must be opened again.
     pub fn is_broken(&self) -> bool
         ensures { result ≡ self.now.is_broken }
     {
         self.is_broken
     }
 
-    /// The payload at the index, from 0; `None` past the last. It writes nothing.
-    /// Of a pair a Generation isn't counted.
+    /// The payload at the index, counted from 0; `None` past the last. It writes nothing.
+    /// In a pair, a Generation isn't counted.
     pub fn replay(&mut self, alloc: Global, index: u64) -> Result<Option<Vec<u8>>, JournalError>
         ensures reopen { self.old.is_broken ≡ true → (IsErrOf result JournalError.Reopen) × (self.new ≡ self.old) }
         ensures found { self.old.is_broken ≡ false → (files : Files) → told self.old ≡ Some files → (payloads : List (List ℕ)) → Holds payloads files → Replays (rows_in self.old.other payloads) index result }
@@ -204,8 +205,8 @@ impl<D: Disk> Journal<D> {
         }
     }
 
-    /// Adds a payload. At `Ok` it is on the disk; after `DiskFault` it may be or not, until the journal is opened again.
-    /// A compaction under way is given up.
+    /// Adds a payload. After `Ok` it is on the disk; after `DiskFault` it may or may not be there, until the journal is
+    /// opened again. A compaction under way is given up.
     pub fn append(&mut self, payload: &[u8]) -> Result<(), JournalError>
         ensures refused { (e : JournalError) → append_refusal self.old payload.now ≡ Some e → (result ≡ Err e) × (self.new ≡ self.old) }
         ensures taken { append_refusal self.old payload.now ≡ None → Appends payload.now result self.old self.new }
@@ -236,7 +237,7 @@ impl<D: Disk> Journal<D> {
     }
 }
 
-// So many bytes, all 0.
+// `n` bytes, all 0.
 fn zeros(alloc: Global, n: usize) -> Result<Vec<u8>, AllocError>
     ensures { IfOk result (λ v. length v.items ≡ n) }
 {

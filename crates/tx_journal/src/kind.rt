@@ -1,4 +1,4 @@
-// What the first bytes of a file say of it.
+// What the first bytes of a file say about it.
 ghost use Rattle.std.specs.Prelude.{◌≡◌, ◌≤◌, ℕ, length, take, drop, IfOk, IfErr, Some};
 ghost use Rattle.disk_model.specs.Disk.{DiskState};
 ghost use Rattle.tx_journal.specs.Journal.{Costs, IsKind, IsKnownKind, LooksLike, IsPortFault};
@@ -35,7 +35,7 @@ fn kind_of(front: &[u8], newest: Format) -> FileKind
     }
 }
 
-// What the front of a file says, to a journal that goes up to a format.
+// What the first eight bytes of a file say to a journal that knows the formats up to `newest`.
 pub(crate) fn look_at<D: Disk>(
     alloc: Global,
     disk: &mut D,

@@ -1,4 +1,4 @@
-// Making a file: its gate is opened last.
+// Makes a file: its gate is opened last.
 ghost use Rattle.std.specs.Prelude.{◌≡◌, ◌<◌, ◌≤◌, ℕ, List, length, OnOk, IfOk, Some, IsErrOf};
 ghost use Rattle.actor_ports.specs.Port.{HasCause};
 ghost use Rattle.disk_model.specs.Disk.{DiskState, Tells, IsSpent};
@@ -9,7 +9,7 @@ use crate::format::{Format, front_of};
 use actor_ports::PortError;
 use disk_model::Disk;
 
-// Puts a closed gate on the disk.
+// Puts a closed gate on the disk, as the file's first byte.
 pub(crate) fn shut<D: Disk>(disk: &mut D) -> Result<(), PortError>
     ensures crash { (format : Format) → Tells (Shuts format) (D.told disk.old) (D.told disk.new) }
     ensures done { OnOk result (Tells WasShut (D.told disk.old) (D.told disk.new)) }
@@ -20,7 +20,7 @@ pub(crate) fn shut<D: Disk>(disk: &mut D) -> Result<(), PortError>
     disk.sync()
 }
 
-// Writes name and first gate behind a closed gate, and opens that gate once they are on the disk.
+// Writes the name and the first gate behind a closed gate, and opens that gate once they are on the disk.
 pub(crate) fn make<D: Disk>(disk: &mut D, format: Format) -> Result<(), PortError>
     requires room { (d : DiskState) → D.told disk.old ≡ Some d → 1 ≤ length d.bytes }
     ensures crash { Tells (Makes format) (D.told disk.old) (D.told disk.new) }

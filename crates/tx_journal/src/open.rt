@@ -1,4 +1,4 @@
-// Opening a file: made where it is bidden to, or read from gate to gate.
+// Opens a file: it is made if that is asked for and it isn't made yet, or read from gate to gate.
 ghost use Rattle.std.specs.Prelude.{◌≡◌, ◌<◌, ◌≤◌, ℕ, true, false, List, length, OnOk, IfOk, IfErr, Some, IsErrOf};
 ghost use Rattle.actor_ports.specs.Port.{HasCause};
 ghost use Rattle.disk_model.specs.Disk.{DiskState, Tells, IsSpent};
@@ -45,7 +45,7 @@ fn create_file<D: Disk>(disk: &mut D, len: u64, format: Format) -> Result<(), Po
     }
 }
 
-// A file that was synced, of so many bytes: made where it is bidden to, or read.
+// Opens a file of `len` bytes that was synced: makes it if `create` is true and it isn't made, or reads it.
 // It answers the offset behind the last gate, and the format.
 pub(crate) fn settle_synced<D: Disk>(
     alloc: Global,
@@ -90,7 +90,7 @@ pub(crate) fn settle_synced<D: Disk>(
     }
 }
 
-// A file of its own that a crash may have left, made or read.
+// Opens a file of its own, as a crash may have left it: syncs it, and makes or reads it.
 pub(crate) fn settle<D: Disk>(
     alloc: Global,
     disk: &mut D,

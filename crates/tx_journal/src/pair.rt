@@ -1,4 +1,4 @@
-// Opening two files: both synced, the live one found, and read or made.
+// Opens two files: both are synced, and the live one is found and read, or made.
 ghost use Rattle.std.specs.Prelude.{◌≡◌, ◌<◌, ◌≤◌, ℕ, true, length, OnOk, IfOk, IfErr, Some};
 ghost use Rattle.disk_model.specs.Disk.{DiskState, Tells};
 ghost use Rattle.tx_journal.specs.declared.format.Format.TheVariants.{Two};
@@ -63,14 +63,14 @@ fn survey_both<D: Disk>(
     Ok((a, b))
 }
 
-// Whether the first byte of a file stands, and is closed.
+// Whether the file isn't made but has at least two bytes, so that its gate is closed.
 fn is_closed(seen: &Seen) -> bool
     ensures { result ≡ is_closed_seen seen.now }
 {
     matches!(seen.kind, FileKind::Unmade) && seen.len >= 2
 }
 
-// Two files that a crash may have left.
+// Opens two files as a crash may have left them: syncs both, and reads or makes the live one.
 pub(crate) fn settle_pair<D: Disk>(
     alloc: Global,
     first: &mut D,

@@ -1,4 +1,4 @@
-// Reading a file from gate to gate.
+// Reads a file from gate to gate.
 ghost use Rattle.std.specs.Prelude.{◌≡◌, ◌<◌, ◌≤◌, ℕ, ◌+◌, ◌-◌, ◌^◌, true, [], length, take, drop, OnOk, IfOk, IfErr, Some, IfSome};
 ghost use Rattle.std.specs.Int.{w32, to_be_bytes};
 ghost use Rattle.disk_model.specs.Disk.{DiskState};
@@ -17,7 +17,7 @@ pub(crate) const LONGEST: u64 = 5_242_880;
 // How many bytes a scan reads at once.
 const WIDTH: usize = 65_536;
 
-// The bytes from a place on, at most so many.
+// Replaces `front` by the bytes from `at` on, at most `most`; by none after an error.
 pub(crate) fn read_at<D: Disk>(
     disk: &mut D,
     at: u64,
@@ -38,7 +38,7 @@ pub(crate) fn read_at<D: Disk>(
     }
 }
 
-// The length behind a gate.
+// The length that is written behind a gate.
 fn size_of(front: &[u8]) -> u64
     requires { length front.now ≡ 5 }
     ensures spelled { take 4 (drop 1 front.now) ≡ to_be_bytes w32 result }
@@ -47,7 +47,7 @@ fn size_of(front: &[u8]) -> u64
     u32::from_be_bytes([front[1], front[2], front[3], front[4]]) as u64
 }
 
-// What stands at a gate: a closed one, or a record and then the next gate.
+// What is at a gate: `None` if it is closed, else the place of the next gate behind the record.
 pub(crate) fn next_gate<D: Disk>(
     disk: &mut D,
     at: u64,
@@ -87,7 +87,7 @@ pub(crate) fn next_gate<D: Disk>(
     Ok(Some(at + 5 + size))
 }
 
-// The offset behind the closed gate that ends the records, from the first gate on.
+// The offset behind the closed gate that ends the records, found by reading from the first gate on.
 pub(crate) fn scan<D: Disk>(alloc: Global, disk: &mut D, len: u64) -> Result<u64, JournalError>
     requires len { (d : DiskState) → D.told disk.old ≡ Some d → len ≡ length d.bytes }
     requires some { 8 ≤ len }

@@ -1,4 +1,4 @@
-// What an opening of two files sees of each, and which of them it takes for live.
+// What an opening of two files sees of each, and which of them it takes as the live one.
 ghost use Rattle.std.specs.Prelude.{◌≡◌, ◌<◌, ◌≤◌, ◌^◌, ℕ, length, take, IfOk, IfErr, IfSome, Some};
 ghost use Rattle.disk_model.specs.Disk.{DiskState};
 ghost use Rattle.tx_journal.specs.declared.format.Format.TheVariants.{Two};
@@ -24,7 +24,7 @@ pub(crate) struct Seen {
 
 const GENERATION: &[u8] = b"\x01\0\0\0\x11\0\0\0\0\0\0\0\0\x80";
 
-// The number of a Generation that is read from its gate on.
+// The number of a Generation, from the bytes that were read from its gate on; `None` if they are no Generation.
 fn number_at(front: &[u8]) -> Option<u64>
     ensures { result ≡ generation_at front.now }
 {
@@ -36,7 +36,7 @@ fn number_at(front: &[u8]) -> Option<u64>
     ]))
 }
 
-// The number of a Generation that is appended, where the payload is one.
+// The number of a Generation, if the payload is one.
 fn number_in(payload: &[u8]) -> Option<u64>
     ensures { result ≡ generation_in payload.now }
 {
@@ -55,7 +55,7 @@ fn number_in(payload: &[u8]) -> Option<u64>
     ]))
 }
 
-// The Generation of a live file after an append, which may be of its first record.
+// The Generation of a live file after an append: the payload may be the file's first record, and a Generation.
 pub(crate) fn generation_with(end: u64, generation: Option<u64>, payload: &[u8]) -> Option<u64>
     ensures { result ≡ generation_with end generation payload.now }
 {
@@ -66,7 +66,7 @@ pub(crate) fn generation_with(end: u64, generation: Option<u64>, payload: &[u8])
     }
 }
 
-// Looks at a file.
+// What a look at a file finds: its length, kind and Generation.
 pub(crate) fn survey<D: Disk>(alloc: Global, disk: &mut D) -> Result<Seen, JournalError>
     ensures seen { (d : DiskState) → D.told disk.old ≡ Some d → IfOk result (Sees d) }
     ensures errors { IfErr result IsPortFault }
@@ -91,7 +91,7 @@ pub(crate) fn survey<D: Disk>(alloc: Global, disk: &mut D) -> Result<Seen, Journ
     })
 }
 
-// Whether the second of two files is live.
+// Whether the second of two files is the live one, by what was seen of them.
 pub(crate) fn is_second_newer(first: &Seen, second: &Seen) -> bool
     ensures { result ≡ is_second_seen first.now second.now }
 {

@@ -1,4 +1,4 @@
-// A window on the bytes of a file: what was read at one place, so that not each small look reads the disk.
+// A window on the bytes of a file: what was read at one place, so that not every small look reads the disk.
 ghost use Rattle.std.specs.Prelude.{◌≡◌, ◌≤◌, ℕ, ◌+◌, ◌-◌, true, [], length, take, drop, OnOk, IfErr, Some};
 ghost use Rattle.disk_model.specs.Disk.{DiskState};
 ghost use Rattle.tx_journal.specs.Journal.{Costs, IsPortFault};
@@ -9,7 +9,7 @@ use crate::scan::read_at;
 use disk_model::Disk;
 use std::alloc::Global;
 
-// Bytes that were read from a place on.
+// The bytes that were read from the place `at` on.
 #[derive(Drop)]
 pub(crate) struct Window {
     pub(crate) at: u64,
@@ -26,7 +26,7 @@ pub(crate) fn closed(alloc: Global) -> Window
     }
 }
 
-// Whether the window shows the five bytes from a place on.
+// Whether the window shows the five bytes from `at` on.
 fn has_front(window: &Window, at: u64) -> bool
     ensures { result ≡ true → (window.now.at ≤ at) × (at - window.now.at + 5 ≤ length window.now.bytes.items) }
 {
@@ -34,7 +34,7 @@ fn has_front(window: &Window, at: u64) -> bool
     window.at <= at && 5 <= len && at - window.at <= len - 5
 }
 
-// Moves the window to a place, unless it shows the five bytes from there on.
+// Moves the window to `at`, unless it shows the five bytes from there on.
 pub(crate) fn show<D: Disk>(
     disk: &mut D,
     at: u64,
@@ -57,7 +57,7 @@ pub(crate) fn show<D: Disk>(
     read_at(disk, at, width, &mut window.bytes)
 }
 
-// The bytes that the window shows from a place on, as many as five.
+// The bytes that the window shows from `at` on, at most five.
 pub(crate) fn front_at(window: &Window, at: u64) -> &[u8]
     requires { (window.now.at ≤ at) × (at - window.now.at ≤ length window.now.bytes.items) }
     ensures { result.now ≡ take 5 (drop (at - window.now.at) window.now.bytes.items) }

@@ -1,4 +1,5 @@
--- Over every list of events no more turns begin than there are events: each asks one call at most, and a call begins once.
+-- Over every list of events no more turns begin than there are events: each makes at most one call, and a call begins
+-- once.
 use Rattle.std.proofs.Common.{◌≡◌, ℕ, ◌+◌, ◌≤◌, List, [], ◌∷◌, ◌++◌, length, set, Option, None, Some, refl, ap, arith}
 use Rattle.std.specs.Prelude.{zero, suc, nat_le, ◌==◌, slice_get}
 use Rattle.std.proofs.lemmas.Bool.{cond_both}
@@ -53,7 +54,7 @@ one_asked key zero chain now = refl
 one_asked key (suc least) chain now = refl
 
 module _ (owner : PlacementTable → ActorKey → Option HostInfo) (part_of : ActorKey → ℕ → ℕ) where
-  -- so many turns have begun at most, if those that wait are counted with them
+  -- at most `n` turns have begun, if waiting calls are counted with them
   record BeganAtMost (n : ℕ) (w : ClusterState) : Type 0 where
     safe : IsSafeWorld owner w
     few : begun_turns w.marks + waiting_in w.parts ≤ n

@@ -1,4 +1,4 @@
--- No event of a drill declares a member lost that runs: only `lost` can, and it stands behind the stops of both parts.
+-- No event of a drill declares a running member lost: only `lost` can, and it comes after the stops of both parts.
 use Rattle.std.proofs.Common.{◌≡◌, ◌⊎◌, ℕ, Bool, true, false, ◌+◌, ◌||◌, cond, List, [], ◌∷◌, ◌++◌, Option, None, Some, refl, ap, inl, inr}
 use Rattle.actor_names.specs.Names.{default_space}
 use Rattle.std.specs.Prelude.{zero, suc, nat_le, nat_lt, length, slice_get, ◌==◌, ◌%◌, ◌/◌, ◌-◌, min, Result, Ok, Err, codes, decimal, if◌then◌else◌}

@@ -1,5 +1,5 @@
--- Where a member has two parts, it has stopped once both are told to: its parts are numbered below 2, and no two have one
--- number.
+-- If a member has two parts, it has stopped once both are told to: its parts are numbered below 2, and no two have the
+-- same number.
 use Rattle.std.proofs.Common.{◌≡◌, ◌⊎◌, ℕ, Bool, true, false, not, ◌||◌, cond, ◌+◌, ◌<◌, List, [], ◌∷◌, set, Option, None, Some, refl, sym, ap, ◌∙◌, subst, inl, inr, arith}
 use Rattle.std.specs.Prelude.{zero, suc, nat_le, slice_get}
 use Rattle.std.proofs.lemmas.Bool.{cond_both, cases_Bool, and_from, eq-eqb, both_ways}
@@ -179,7 +179,7 @@ module _ (owner : PlacementTable → ActorKey → Option HostInfo) (part_of : Ac
                 let f : slice_get w.parts n ≡ Some h.1 = subst (λ (z : ℕ). slice_get w.parts z ≡ Some h.1) same h.3 in absurd (cc)),
           )
 
-  -- a stop stops the part, and leaves stopped who has stopped
+  -- a stop stops the part, and leaves parts stopped that had stopped
   pub stop_stops : (w : ClusterState) (m : Member) (i : ℕ) → HasTwoEach w → IsStopped m i (world.cluster_step owner part_of w (lines.Stop m i)).world
   stop_stops w m i t =
       cond_both (nat_le most_events w.events) _ _ (λ (s : world.WorldStep). IsStopped m i s.world)

@@ -1,4 +1,4 @@
--- Worked drills, as tests of the definitions: each closes by computing. No owner of an actor is asked in them.
+-- Worked drills, as tests of the definitions: each closes by computing. None of them looks up the owner of an actor.
 use Rattle.std.specs.Prelude.{◌≡◌, [], ◌∷◌, codes}
 use Rattle.actor_names.specs.Names.{default_space}
 use Rattle.std.specs.Fmt.{digits}

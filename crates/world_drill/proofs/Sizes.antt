@@ -1,4 +1,4 @@
--- A step of a drill has three events at most.
+-- A step of a drill has at most three events.
 use Rattle.std.proofs.Common.{ℕ, ◌*◌, ◌≤◌, List, [], ◌∷◌, length, Option, None, Some, arith, length-append}
 use Rattle.std.specs.Prelude.{zero, suc, Bool, true, false, nat_lt, ◌==◌, ◌-◌, ◌%◌, min, if◌then◌else◌, Result, Ok}
 use Rattle.std.proofs.lemmas.Bool.{cond_both}

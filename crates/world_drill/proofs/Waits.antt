@@ -1,5 +1,5 @@
--- No more turns begin than calls were asked: a step of a part begins calls that waited in its cells, or the one that it is
--- asked.
+-- No more turns begin than calls were made: a step of a part begins calls that waited in its cells, or the one that it
+-- makes.
 use Rattle.std.proofs.Common.{◌≡◌, ◌⊎◌, ℕ, Bool, true, false, not, cond, ◌&&◌, ◌+◌, ◌≤◌, List, [], ◌∷◌, ◌++◌, length, Option, None, Some, refl, ap, ◌∙◌, inl, inr, arith, length-append}
 use Rattle.std.specs.Prelude.{nat_lt, ◌==◌, max, option_map, is_some}
 use Rattle.std.proofs.lemmas.Bool.{cond_both, or_parts, ltb-false}
@@ -67,7 +67,7 @@ same_moved : (ws : List Waiter) → length (all_moved ws) ≡ length ws
 same_moved [] = refl
 same_moved (w ∷ ws) = let more = same_moved ws in omega arith
 
--- the first call that isn't moved leaves the line
+-- the first call that isn't moved leaves the queue
 first_leaves : (ws : List Waiter) (w : Waiter) → first_unmoved ws ≡ Some w → length (without_first_unmoved ws) + 1 ≡ length ws
 first_leaves [] w e = absurd (cc)
 first_leaves (x ∷ ws) w e = go (λ f. first_leaves ws w f) x.moved e
@@ -86,20 +86,20 @@ next_begun a key v may c = cond_both (may && is_free c) _ _ (λ (o : Option Wait
 
 -- ---- cells
 
--- how many calls an event asks
+-- how many calls an event makes
 abbrev pub asked_by : PartEvent → ℕ
 asked_by (events.Ask key chain now) = 1
 asked_by (events.AskAt key chain least now) = 1
 asked_by e = 0
 
--- the turns that a step begins waited before, or are asked
+-- the turns that a step begins waited before, or come from a call that it makes
 abbrev pub BeginsWaiting : PartState → ℕ → PartStep → Type 0
 BeginsWaiting p asked s = total waits_in s.part.cells + begun s.marks ≤ total waits_in p.cells + asked
 
 stays : (p : PartState) (asked : ℕ) (reply : PartReply) → BeginsWaiting p asked (Part.refused p reply)
 stays p asked reply = omega arith
 
--- the actor's cell, or a first one, in which nobody waits
+-- the actor's cell, or a first one, in which no call waits
 abbrev IsHome : PartState → ActorCell → Type 0
 IsHome p c = (cell_at p.cells c.key ≡ Some c) ⊎ ((cell_at p.cells c.key ≡ None) × (waits_in c ≡ 0))
 

@@ -1,4 +1,4 @@
--- On the way through a drill: the events so far, and those that are left.
+-- On the way through a drill: the events so far, and those that remain.
 use Rattle.std.proofs.Common.{◌≡◌, ℕ, ◌*◌, ◌≤◌, List, [], ◌∷◌, ◌++◌, refl, sym, ap, ◌∙◌, subst, append_assoc, arith}
 use Rattle.std.specs.Prelude.{suc}
 use Rattle.part_core.specs.Part.{ring_owner}
@@ -21,8 +21,8 @@ run-append w (e ∷ es) fs = run-append (cluster_step ring_owner key_part w e).w
 abbrev pub after : List WorldEvent → ClusterState
 after es = cluster_run ring_owner key_part (opening_cluster drill_settings) es
 
--- The view is that of the cluster after some events, and with those of so many steps more, from this generator on, they
--- are the drill's.
+-- The view is that of the cluster after some events, and these with the events of the remaining steps, from this
+-- generator on, are the drill's.
 pub record IsOnWay (v : WorldView) (x left seed steps : ℕ) : Type 0 where
   pub before : List WorldEvent
   pub shown : view_of (after before) ≡ v

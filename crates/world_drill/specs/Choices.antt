@@ -17,11 +17,11 @@ chosen w (One event) = event ∷ []
 chosen w (Loss m) = loss_of m
 chosen w (Ending m part) = closing_of w part m
 
--- from the one view to the other by these events, whatever the marks are
+-- these events lead from the one view to the other, whatever the marks are
 abbrev pub Plays : (ClusterState → List WorldEvent) → WorldView → WorldView → Type 0
 Plays events old new = (w : ClusterState) → view_of w ≡ old → view_of (cluster_run ring_owner key_part w (events w)) ≡ new
 
--- the outcome, where the event wasn't refused
+-- the outcome, if the event wasn't refused
 abbrev pub accepted : Result Outcome WorldError → Option Outcome
 accepted (Ok outcome) = Some outcome
 accepted (Err error) = None

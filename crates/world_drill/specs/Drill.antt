@@ -33,13 +33,13 @@ draw_of x = x / 2 ^ 33
 abbrev pub counter : List ℕ
 counter = codes "counter"
 
--- a member has two parts, and three turns of one chain may be open beside each other
+-- a member has two parts, and three turns of one chain may be open at once
 abbrev pub drill_settings : WorldSettings
 drill_settings = record { parts = 2; kinds = record { kind = counter; idle_ms = 3600000; drain_ms = 60000; depth = 3 } ∷ []; idle_ms = 3600000; drain_ms = 60000 }
 
 -- ---- what is picked
 
--- the member of this number, counted from 0 in order of boot, past the last one from the first again
+-- the member of this number, counted from 0 in order of boot; the number wraps around after the last one
 abbrev pub member_numbered : ClusterState → ℕ → Option Member
 member_numbered w n = if w.boots == 0 then None else member_in (slice_get w.parts (n % w.boots * w.settings.parts))
 
@@ -50,7 +50,7 @@ events_of (Some m) events = events m
 abbrev pub at_member : ClusterState → ℕ → (Member → List WorldEvent) → List WorldEvent
 at_member w n events = events_of (member_numbered w n) events
 
--- the call of this number, counted from 0 in the order asked, past the last one from the first again
+-- the call of this number, counted from 0 in the order made; the number wraps around after the last one
 abbrev pub call_numbered : ClusterState → ℕ → Option ℕ
 call_numbered w n = if length w.calls == 0 then None else Some (1 + n % length w.calls)
 
@@ -83,7 +83,7 @@ loss_of m = lines.Stop m 0 ∷ lines.Stop m 1 ∷ lines.Lost m ∷ []
 abbrev pub call_of : ClusterState → ℕ → Member → List WorldEvent
 call_of w b m = lines.Call (suc (length w.calls)) m (record { space = default_space; kind = counter; id = codes "k" ++ decimal (b % 8) }) 0 (Some (codes "c" ++ decimal (b / 8 % 4))) ∷ []
 
--- a deactivation that was begun is ended
+-- a deactivation that began is ended
 abbrev pub closed_after : Member → Result Outcome WorldError → List WorldEvent
 closed_after m (Ok (out.Closing key)) = lines.Closed m key ∷ []
 closed_after m outcome = []
@@ -120,7 +120,7 @@ third_of x = next_seed (next_seed (next_seed x))
 abbrev pub step_events : ClusterState → ℕ → List WorldEvent
 step_events w x = picked w (draw_of (first_of x) % 16) (draw_of (second_of x)) (draw_of (third_of x))
 
--- so many steps from this world and generator
+-- the events of the given number of steps, from this world and generator on
 abbrev pub events_from : ℕ → ℕ → ClusterState → List WorldEvent
 events_from zero x w = []
 events_from (suc n) x w = step_events w x ++ events_from n (third_of x) (cluster_run ring_owner key_part w (step_events w x))
@@ -132,17 +132,17 @@ drill_events seed steps = events_from steps seed (opening_cluster drill_settings
 abbrev pub drill_world : ℕ → ℕ → ClusterState
 drill_world seed steps = cluster_run ring_owner key_part (opening_cluster drill_settings) (drill_events seed steps)
 
--- what is counted of it, by its messages and marks
+-- what is counted of it, from its messages and marks
 abbrev pub counts_of : ℕ → ClusterState → DrillCounts
 counts_of steps w =
     record { steps = steps; boots = w.boots; messages = length w.messages; begun = begun_turns w.marks; open_turns = open_turns w.marks; version = last_version (room_of w.placement default_space) }
 
--- the event was refused, since it declares a member lost that runs
+-- the event was refused, since it declares a running member lost or is a Tick that would drop one
 abbrev pub is_dishonest : Result Outcome WorldError → Bool
 is_dishonest (Err (Dishonest member)) = true
 is_dishonest outcome = false
 
--- no event of the list declares a member lost that runs
+-- no event of the list declares a running member lost
 abbrev pub AreHonest : ClusterState → List WorldEvent → Type 0
 AreHonest w events = list_any is_dishonest (outcomes ring_owner key_part w events) ≡ false
 

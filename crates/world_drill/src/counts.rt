@@ -13,6 +13,6 @@ pub struct DrillCounts {
     pub begun: u64,
     /// The turns that are open at the end.
     pub open_turns: u64,
-    /// The last version that the placement used, 0 where it used none.
+    /// The last version that the placement used in the space `default`, 0 if it used none.
     pub version: u64,
 }

@@ -9,7 +9,7 @@ use actor_names::{
 };
 use std::alloc::Global;
 
-/// A letter, and a digit behind it.
+/// A letter, and a digit after it.
 #[tactic(auto, using(std::proofs::lemmas::Fmt::decimal_digit))]
 fn marked(letter: u8, digit: u64) -> [u8; 2]
     requires { digit < 10 }

@@ -13,13 +13,13 @@ use std::alloc::Global;
 use world_events::WorldEvent;
 use world_run::World;
 
-/// The most members that are booted.
+/// The greatest number of members that are booted.
 const MOST_BOOTS: u64 = 64;
 
 /// How many of the last messages are delivered.
 const LAST_MESSAGES: u64 = 8;
 
-/// The member of this number, past the last one from the first again.
+/// The member of this number, which wraps around after the last one.
 fn member_numbered(world: &World, n: u64) -> Option<Member>
     ensures { (w : ClusterState) → view_of w ≡ world.now → result ≡ member_numbered w n }
 {
@@ -86,7 +86,7 @@ fn lose_or_collect(world: &World, a: u64, b: u64) -> Choice
     }
 }
 
-/// One time in sixteen the placement is started anew, else a member asks what there is to do.
+/// One time in sixteen the placement is restarted, else a member asks what there is to do.
 fn restart_or_beat(world: &World, a: u64, b: u64) -> Choice
     ensures { (w : ClusterState) → view_of w ≡ world.now →
         chosen w result ≡ (if a % 16 == 0 then WorldEvent.Restart ∷ [] else at_member w b (λ m. WorldEvent.Beat m ∷ [])) }
@@ -135,7 +135,7 @@ fn deliver(world: &World, a: u64, b: u64) -> Choice
     }
 }
 
-/// A call is asked at a member.
+/// An actor is called at a member.
 fn ask(alloc: Global, world: &World, a: u64, b: u64) -> Result<Choice, OutOfMemory>
     ensures { IfOk result (λ c. (w : ClusterState) → view_of w ≡ world.now → chosen w c ≡ at_member w a (call_of w b)) }
 {
@@ -153,7 +153,7 @@ fn ask(alloc: Global, world: &World, a: u64, b: u64) -> Result<Choice, OutOfMemo
     })
 }
 
-/// The number of a call that was asked, if there is one.
+/// The number of a call that was made, if there is one.
 fn call_numbered(world: &World, n: u64) -> Option<u64>
     ensures { (w : ClusterState) → view_of w ≡ world.now → result ≡ call_numbered w n }
 {
@@ -176,7 +176,7 @@ fn end(world: &World, n: u64) -> Choice
     }
 }
 
-/// Somebody asks where a call stands.
+/// Somebody asks what state a call is in.
 fn poll(world: &World, n: u64) -> Choice
     ensures { (w : ClusterState) → view_of w ≡ world.now → chosen w result ≡ at_call w n (λ call. WorldEvent.Poll call) }
 {

@@ -14,7 +14,7 @@ use std::alloc::Global;
 use world_events::{Outcome, WorldError, WorldEvent};
 use world_run::World;
 
-/// An event happens; its outcome, where it isn't refused.
+/// An event happens; gives its outcome if it isn't refused.
 fn happen(
     alloc: Global,
     world: &mut World,

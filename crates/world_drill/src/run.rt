@@ -15,10 +15,10 @@ use std::alloc::Global;
 use world_events::WorldSettings;
 use world_run::World;
 
-/// A member has so many parts.
+/// How many parts a member has.
 const PARTS: u8 = 2;
 
-/// So many turns of one chain may be open beside each other.
+/// How many turns of one chain may be open at once.
 const DEPTH: u32 = 3;
 
 /// The idle time, in milliseconds.
@@ -54,7 +54,7 @@ fn opening(alloc: Global) -> Result<World, OutOfMemory>
     Ok(World::new(alloc, settings))
 }
 
-/// What is counted of a cluster after so many steps.
+/// What is counted of a cluster after `steps` steps.
 fn counts(world: &World, steps: u32) -> DrillCounts
     ensures { (w : ClusterState) → view_of w ≡ world.now → begun_turns w.marks < 2 ^ 64 → over_turns w.marks ≤ begun_turns w.marks → result ≡ counts_of steps w }
 {
@@ -68,8 +68,8 @@ fn counts(world: &World, steps: u32) -> DrillCounts
     }
 }
 
-/// So many steps of a drill: each draws three numbers from the generator of the seed, and by them does at most three
-/// events of a cluster of two parts a member. Its one error is want of memory.
+/// Runs `steps` steps of a drill: each draws three numbers from the generator of the seed, and by them does at most
+/// three events of a cluster with two parts per member. Its only error is out of memory.
 pub fn drill(alloc: Global, seed: u64, steps: u32) -> Result<DrillCounts, OutOfMemory>
     ensures counts { IfOk result (λ c. c ≡ counts_of steps (drill_world seed steps)) }
     ensures honest { AreHonest (opening_cluster drill_settings) (drill_events seed steps) }

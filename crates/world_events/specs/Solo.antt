@@ -10,7 +10,7 @@ pub data SoloEvent : Type 0 where
   Hold : (key : List ℕ) → SoloEvent
   Release : (key : List ℕ) → SoloEvent
 
--- what an event whose keys and chains are lent from a script tells
+-- an event whose keys and chains are borrowed from a script, as one with lists of bytes
 abbrev pub event_told : Lent → SoloEvent
 event_told (lent.Call call key chain) = Call call key.now (option_map (λ c. c.now) chain)
 event_told (lent.End call) = End call

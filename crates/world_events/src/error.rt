@@ -9,13 +9,13 @@ pub enum WorldError {
     /// There were 2^62 events.
     #[error("{count} events")]
     Spent { count: u64 },
-    /// A member was declared lost, or would be dropped, that has a running part. A solo world never answers it.
+    /// A member that has a running part was declared lost, or would be dropped. A solo world never reports this.
     #[error("a member that runs is declared lost")]
     Dishonest { member: Member },
     /// A call's number isn't `next`, one more than the calls so far.
     #[error("a call that isn't {next}")]
     WrongNumber { next: u64 },
-    /// There was no memory for the event.
+    /// There was no memory for the event. A solo world reports this too for an actor past 2^32 others.
     #[error("out of memory")]
     OutOfMemory,
 }

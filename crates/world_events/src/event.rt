@@ -2,11 +2,11 @@
 use actor_names::{ActorKey, ChainId, Member, Node, Space};
 use place_table::ActorTypes;
 
-/// What happens in the world of a solo script; keys, of the form `TYPE/ID`, and chains are lent from the script. Calls
-/// are numbered from 1 in the order in which they were asked.
+/// What happens in the world of a solo script. Keys, of the form `TYPE/ID`, and chains are borrowed from the script.
+/// Calls are numbered from 1 in the order in which they were made.
 #[derive(Clone, Copy)]
 pub enum SoloEvent<'a> {
-    /// A call of an actor is asked; its number is one more than the calls so far.
+    /// An actor is called; the call's number is one more than the calls so far.
     Call {
         call: u64,
         key: &'a [u8],
@@ -16,7 +16,7 @@ pub enum SoloEvent<'a> {
     End {
         call: u64,
     },
-    /// Somebody asks where a call stands.
+    /// Somebody asks what state a call is in.
     Poll {
         call: u64,
     },
@@ -30,8 +30,8 @@ pub enum SoloEvent<'a> {
     },
 }
 
-/// What happens in a cluster. Messages are numbered from 1 in the order in which they were added, calls in the order in
-/// which they were asked, and the parts of a member from 0.
+/// What happens in a cluster. Messages are numbered from 1 in the order in which they were added, calls from 1 in the
+/// order in which they were made, and the parts of a member from 0.
 #[derive(Drop)]
 pub enum WorldEvent {
     /// The present moment, in milliseconds.
@@ -65,7 +65,7 @@ pub enum WorldEvent {
         message: u64,
         part: u64,
     },
-    /// A call of an actor is asked at a member, by a caller that knows of a table of version `least`.
+    /// An actor is called at a member, by a caller that knows of a table of version `least`.
     Call {
         call: u64,
         member: Member,
@@ -73,7 +73,7 @@ pub enum WorldEvent {
         least: u64,
         chain: Option<ChainId>,
     },
-    /// Somebody asks where a call stands.
+    /// Somebody asks what state a call is in.
     Poll {
         call: u64,
     },
@@ -116,6 +116,6 @@ pub enum WorldEvent {
     },
     /// Time has passed for the placement.
     PlacementTick,
-    /// The placement was started anew.
+    /// The placement was restarted.
     Restart,
 }

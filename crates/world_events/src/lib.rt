@@ -1,8 +1,8 @@
 // What happens in the world of a script, what comes of it, and why an event is refused.
 //
-// Types alone, which the worlds, the reader of scripts and the printer of outcomes share. A solo script's events lend
-// their keys and chains from the script; those of a cluster own theirs. Stands on `round_core`, `part_core` and those
-// below them for what placements and parts say.
+// Only types, shared by the worlds, the reader of scripts and the printer of outcomes. A solo script's events borrow
+// their keys and chains from the script; those of a cluster own theirs. Depends on `round_core`, `part_core` and the
+// crates below them for what placements and parts say.
 #![tactic(auto)]
 
 mod error;

@@ -4,23 +4,23 @@ use actor_names::{ActorKey, Member};
 use place_table::AckStage;
 use round_core::PlaceReply;
 
-/// What comes of a call, of its end or poll, and of a hold, in worlds of both kinds. Calls are named by the script's
-/// number.
+/// What comes of a call, of its end or poll, and of a hold, in both kinds of world. Calls are given by the script's
+/// numbers.
 #[derive(Clone, Copy, Debug, PartialEq, Eq)]
 pub enum TurnOutcome {
     /// The call's turn is open.
     Begun { call: u64 },
-    /// The call is in its actor's line, at this place from 1.
+    /// The call waits in its actor's queue, at this place from 1.
     Waits { call: u64, place: u64 },
     /// The call was refused: its chain has `turns` open, as many as the depth allows.
     Depth { call: u64, turns: u64 },
-    /// The call was refused: its actor's line is full.
+    /// The call was refused: its actor's queue is full.
     QueueFull { call: u64 },
-    /// The call's turn has ended, and the turn of `next` has begun.
+    /// The call's turn has ended, and the turn of `next`, if any, has begun.
     Ended { call: u64, next: Option<u64> },
-    /// The call is neither open nor in the line.
+    /// The call is neither open nor in the queue.
     AlreadyEnded { call: u64 },
-    /// The call is in the line.
+    /// The call is in the queue.
     StillWaiting { call: u64 },
     /// What the event names doesn't exist, or is a call that was refused.
     NotThere,
@@ -37,7 +37,7 @@ pub enum TurnOutcome {
 /// What comes of an event of a cluster script. Messages are numbered from 1.
 #[derive(Debug, Drop)]
 pub enum Outcome {
-    /// What comes of a call or a hold, where the part does it.
+    /// What comes of a call or a hold, if the part does it.
     Turn {
         outcome: TurnOutcome,
     },
@@ -106,7 +106,7 @@ pub enum Outcome {
         version: u64,
         drained: bool,
     },
-    /// The part has opened; so many waiting calls began, and so many were moved.
+    /// The part has opened: `begun` waiting calls began, and `moved` were moved.
     Opened {
         version: u64,
         begun: u32,
@@ -116,7 +116,7 @@ pub enum Outcome {
     NotDrained {
         version: u64,
     },
-    /// So many turns of actors of other owners were ended.
+    /// `turns` turns of actors with other owners were ended.
     TickEnded {
         turns: u64,
     },
@@ -126,26 +126,26 @@ pub enum Outcome {
     },
     /// No actor may be deactivated.
     NoneClosing,
-    /// The actor isn't active any more; the turn of the call `next` has begun.
+    /// The actor is no longer active; the turn of the call `next`, if any, has begun.
     Closed {
         key: ActorKey,
         next: Option<u64>,
     },
     /// The actor isn't closing.
     NotClosing,
-    /// The member is none any more.
+    /// The member is no longer a member.
     Lost {
         member: Member,
     },
-    /// There is no such member; the greatest boot of its node.
+    /// There is no such member; `greatest` is the greatest boot of its node.
     NotMember {
         greatest: u64,
     },
-    /// So many members were not heard in time, and are none any more.
+    /// `members` members weren't heard from in time, and are no longer members.
     Dropped {
         members: u32,
     },
-    /// The placement was started anew; the version of the round that starts in each room, 0 for none.
+    /// The placement was restarted; `versions` has the version of the round that starts in each room, 0 for none.
     Restarted {
         versions: Versions,
     },

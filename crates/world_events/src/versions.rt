@@ -3,7 +3,7 @@ ghost use Rattle.std.specs.Prelude.{◌≡◌};
 
 use std::marker::Model;
 
-/// A version for each room of a placement, in byte order of space: that of the round that starts there, 0 where none
+/// A version for each room of a placement, in byte order of space: that of the round that starts there, 0 if none
 /// starts.
 #[derive(Debug, Drop)]
 pub struct Versions {

@@ -1,4 +1,4 @@
--- The parts of a member stand together.
+-- The parts of a member are next to each other.
 use Rattle.std.proofs.Common.{◌≡◌, ◌≢◌, ℕ, ◌+◌, ◌*◌, ◌<◌, ◌≤◌, Bool, true, false, List, [], ◌∷◌, ◌++◌, length, set, refl, sym, ap, ◌∙◌, subst, arith, append_assoc, append-nil, mul-le-mul_right}
 use Rattle.std.specs.Prelude.{zero, suc, slice_get, Some}
 use Rattle.std.proofs.lemmas.List.{length-append, length-map}
@@ -149,7 +149,7 @@ found_first m per boot (suc k) (n ∷ ns) ps some e b at =
     let here = behind m per (k * per) s.front s.back (none_block m o s.front 0 per s.front_is (other_boot m o (λ q. omega arith))) (length-block s.front o 0 per s.front_is) more in
     subst (λ (z : List PartState). IsFirst z m per (suc k * per)) (sym s.whole) (subst (λ (j : ℕ). IsFirst (s.front ++ s.back) m per j) (omega arith) here)
 
--- as many parts as members times the parts of each
+-- there are as many parts as members times the parts of each
 pub length-laid : (per boot : ℕ) (ns : List Home) (ps : List PartState) → tags_of ps ≡ all_tags per boot ns → length ps ≡ length ns * per
 length-laid per boot [] [] e = omega arith
 length-laid per boot [] (p ∷ ps) e = absurd (cc)
@@ -169,7 +169,7 @@ tags-set (x ∷ ps) zero p q e f g =
     ap (λ (z : PartTag). z ∷ tags_of ps) t
 tags-set (x ∷ ps) (suc n) p q e f g = ap (λ (z : List PartTag). tag_of x ∷ z) (tags-set ps n p q e f g)
 
--- one member more
+-- one more member
 pub tags-boot : (per boot : ℕ) (ns : List Home) (node : Home) (ps qs : List PartState) → tags_of ps ≡ all_tags per boot ns →
     tags_of qs ≡ member_tags (booted_at node (boot + length ns)) 0 per → tags_of (ps ++ qs) ≡ all_tags per boot (ns ++ node ∷ [])
 tags-boot per boot ns node ps qs e f = tags-append ps qs ∙ ap (λ (z : List PartTag). z ++ tags_of qs) e ∙ ap (λ (z : List PartTag). all_tags per boot ns ++ z) f ∙ sym (more boot ns)
@@ -185,7 +185,7 @@ tags-boot per boot ns node ps qs e f = tags-append ps qs ∙ ap (λ (z : List Pa
         ∙ sym (append_assoc (member_tags (booted_at n boot) 0 per) (all_tags per (suc boot) ns) (member_tags (booted_at node (suc boot + length ns)) 0 per))
         ∙ ap (λ (k : ℕ). (member_tags (booted_at n boot) 0 per ++ all_tags per (suc boot) ns) ++ member_tags (booted_at node k) 0 per) (omega arith)
 
--- the place of a part is below as many parts as there are
+-- the place of a member's first part is at most the number of parts
 pub place_below : (per k : ℕ) (ns : List Home) (ps : List PartState) → tags_of ps ≡ all_tags per 1 ns → k < length ns → k * per ≤ length ps
 place_below per k ns ps e l =
     let below : k ≤ length ns = omega arith in

@@ -1,4 +1,4 @@
--- Where a call that a part began stands among the calls of the script.
+-- The place of a call that a part began among the calls of the script.
 use Rattle.std.proofs.Common.{◌≡◌, ◌≢◌, ℕ, ◌+◌, ◌-◌, ◌<◌, ◌≤◌, Bool, true, false, cond, List, [], ◌∷◌, ◌++◌, length, get_or, Option, None, Some, refl, sym, ap, ◌∙◌, subst, arith, Bor}
 use Rattle.std.specs.Prelude.{zero, suc, ◌&&◌, ◌==◌, slice_get, option_map, unwrap_or, is_some}
 use Rattle.std.specs.Option.{option_copied}
@@ -49,7 +49,7 @@ first_call-append (Some c ∷ cs) x n p q = go (first_call-append cs x (suc n) p
     go more true = refl
     go more false = more ∙ ap (λ (k : ℕ). or_else (first_call cs (suc n) p q) (first_call (x ∷ []) k p q)) (omega arith)
 
--- the number of the script is that of the index, 0 where there is none
+-- the number of the script is that of the index, 0 if there is none
 pub number_indexed : (cs : List (Option CallPlace)) (n p q : ℕ) → script_number cs n p q ≡ unwrap_or (first_call cs n p q) 0
 number_indexed [] n p q = refl
 number_indexed (None ∷ cs) n p q = number_indexed cs (suc n) p q

@@ -1,4 +1,4 @@
--- How many turns a step of a part begins and ends, told by its reply and by the calls that it lends.
+-- How many turns a step of a part begins and ends, as given by its reply and by the calls that it lends.
 use Rattle.std.proofs.Common.{◌≡◌, ℕ, Bool, true, false, cond, not, List, [], ◌∷◌, ◌++◌, length, refl, sym, ap}
 use Rattle.std.specs.Prelude.{Option, None, Some, Result, Ok, Err, ◌&&◌, ◌==◌, nat_lt}
 use Rattle.std.proofs.lemmas.Bool.{cond_both}
@@ -28,7 +28,7 @@ use Rattle.part_core.specs.Part.{PartState, PartStep, CellStep, each_cell, is_op
 use Rattle.world_run.specs.declared.tally.Tally.{Tally}
 use Rattle.world_run.specs.Views.{began_in, ended_in, closes, is_ended, tally_of, told_calls}
 
--- one turn ended exactly where the reply says so
+-- one turn ended exactly if the reply says so
 abbrev Fits : PartStep → Type 0
 Fits s = length (ended_calls s.marks) ≡ cond (is_ended s.reply) 1 0
 

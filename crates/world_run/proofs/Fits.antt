@@ -1,4 +1,4 @@
--- What the safety of a cluster gives of the next event, and of the world after it.
+-- What the safety of a cluster gives for the next event, and for the world after it.
 use Rattle.std.proofs.Common.{◌≡◌, ℕ, ◌+◌, ◌<◌, ◌≤◌, ◌^◌, true, false, cond, List, [], ◌∷◌, ◌++◌, refl, sym, ap, ◌∙◌, subst, inl, inr, arith}
 use Rattle.std.specs.Prelude.{zero, suc, bytes_eq, ◌==◌, nat_le, slice_get, length, Option, None, Some, Result, Ok, Err, is_ok}
 use Rattle.std.proofs.lemmas.Bool.{cond_both, cond-false, lt-leb}
@@ -190,7 +190,7 @@ module _ (n : ℕ) where
   honest_stays w None t = t
   honest_stays w (Some m) t = t
 
-  -- what happens doesn't count itself
+  -- `happens` doesn't count the event
   pub events_stay : (w : ClusterState) (e : WorldEvent) → w.events ≡ n → Stays (world.happens ring_owner key_part w e)
   events_stay w (lines.At moment) t = t
   events_stay w (lines.Boot space node kinds) t = t

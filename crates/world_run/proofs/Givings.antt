@@ -34,7 +34,7 @@ use Rattle.world_run.proofs.Unmarked.{begun-tagged, ended-tagged, begun-append, 
 pub gives_nothing : (v : WorldView) → Gives (Ok (out.Turn turn.NotThere)) v v (nothing (cluster_of v))
 gives_nothing v = inr (refl, refl)
 
--- there was no memory
+-- out of memory
 pub gives_want : (v : WorldView) (s : WorldStep) → Gives (Err refused.OutOfMemory) v v s
 gives_want v s = inl (refl, refl)
 
@@ -65,7 +65,7 @@ module _ (settings : WorldSettings) (post : PostView) (calls : CallsView) (momen
         | inr k ↦ inr (told ∙ ap (λ (z : PartReply). let q : Result Outcome WorldError = Ok (says z) in q) k.1, ap view k.2 ∙ step_view pv n h.0 (part_step ring_owner h.0 e))
       ])
 
-  -- the part wanted memory
+  -- the part ran out of memory
   pub step_wants : (pv new : PartsView) (n : ℕ) (e : PartEvent) (reply : PartReply) → StepsAt e reply n pv new → n < length pv.parts → MayWant e → wants reply ≡ true → (s : WorldStep) → Gives (Err refused.OutOfMemory) (view pv) (view new) s
   step_wants pv new n e reply steps l may w s =
       let h = part_at pv.parts n l in
@@ -81,7 +81,7 @@ module _ (settings : WorldSettings) (post : PostView) (calls : CallsView) (momen
   pub does_nothing : (pv : PartsView) (o : Option ℕ) (e : PartEvent) (says : ℕ → PartReply → Outcome) → None ≡ o → Does pv pv o e says (Ok (out.Turn turn.NotThere))
   does_nothing pv o e says none = subst (λ (z : Option ℕ). Does pv pv z e says (Ok (out.Turn turn.NotThere))) none (gives_nothing (view pv))
 
--- where a member's part of an actor stands
+-- the place of a member's part of an actor
 pub key_at : (pv : PartsView) (settings : WorldSettings) (m : Member) (key : ActorKey) (o : Option ℕ) → pv.per ≡ settings.parts → o ≡ place_of_part pv.parts m (key_part key pv.per) → o ≡ place_of_part pv.parts m (key_part key settings.parts)
 key_at pv settings m key o per e = e ∙ ap (λ (n : ℕ). place_of_part pv.parts m (key_part key n)) per
 
@@ -114,7 +114,7 @@ module _ (settings : WorldSettings) (post : PostView) (moment events : ℕ) wher
             )
       ])))
 
-  -- a call for which the part wanted memory
+  -- a call for which the part ran out of memory
   pub call_wants : (pv new : PartsView) (cv next : CallsView) (n : ℕ) (e : PartEvent) (reply : PartReply) (s : WorldStep) → StepsAt e reply n pv new → n < length pv.parts → MayWant e → wants reply ≡ true → next.calls ≡ cv.calls →
       Gives (Err refused.OutOfMemory) (viewed settings post pv cv moment events) (viewed settings post new next moment events) s
   call_wants pv new cv next n e reply s steps l may w same =

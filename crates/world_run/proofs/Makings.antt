@@ -21,7 +21,7 @@ use Rattle.world_run.specs.Layout.{booted_at, home_of, PartTag, tags_of, member_
 use Rattle.world_run.specs.Views.{state_in, states_of}
 use Rattle.world_run.proofs.Blocks.{tags-boot}
 
--- one part more
+-- one more part
 pub new_parts-suc : (m : Member) (ks : List TypeSettings) (i n : ℕ) → new_parts m ks i (suc n) ≡ new_parts m ks i n ++ new_part m (i + n) ks ∷ []
 new_parts-suc m ks i zero = ap (λ (k : ℕ). new_part m k ks ∷ []) (omega arith)
 new_parts-suc m ks i (suc n) = ap (λ (z : List PartState). new_part m i ks ∷ z) (new_parts-suc m ks (suc i) n ∙ ap (λ (k : ℕ). new_parts m ks (suc i) n ++ new_part m k ks ∷ []) (omega arith))
@@ -32,7 +32,7 @@ made-more m ks i vs v e f =
     let zero : i ≡ 0 + i = omega arith in
     map-append state_in vs (v ∷ []) ∙ ap (λ (z : List PartState). z ++ v.state ∷ []) e ∙ ap (λ (z : PartView). new_parts m ks 0 i ++ z.state ∷ []) f ∙ ap (λ (k : ℕ). new_parts m ks 0 i ++ new_part m k ks ∷ []) zero ∙ sym (new_parts-suc m ks 0 i) ∙ ap (λ (k : ℕ). new_parts m ks 0 k) (sym one)
 
--- the settings of one type more
+-- the settings of one more type
 pub settings-more : (s : WorldSettings) (kinds : List (List ℕ)) (list : List TypeSettings) (kind : List ℕ) (rest : List (List ℕ)) (t : TypeSettings) → kinds ≡ kind ∷ rest → t ≡ settings_in s kind →
     list ++ settings_for s kinds ≡ (list ++ t ∷ []) ++ settings_for s rest
 settings-more s kinds list kind rest t e f = ap (λ (z : List (List ℕ)). list ++ settings_for s z) e ∙ ap (λ (z : TypeSettings). list ++ z ∷ settings_for s rest) (sym f) ∙ sym (append_assoc list (t ∷ []) (settings_for s rest))
@@ -46,7 +46,7 @@ new_sound m ks i zero p h = absurd h
 new_sound m ks i (suc n) p (inl e) = subst (λ (z : PartState). IsPartSound ring_owner z) (sym e) (new_part_sound ring_owner m i ks)
 new_sound m ks i (suc n) p (inr j) = new_sound m ks (suc i) n p j
 
--- one member more keeps the layout
+-- one more member keeps the layout
 pub boot_laid : (per : ℕ) (nodes : List Home) (ps : List PartState) (m : Member) (ks : List TypeSettings) → AreLaidOut per nodes ps → m.boot ≡ suc (length nodes) → AreLaidOut per (nodes ++ home_of m ∷ []) (ps ++ new_parts m ks 0 per)
 boot_laid per nodes ps m ks laid boot =
     let same : m.boot ≡ 1 + length nodes = omega arith in

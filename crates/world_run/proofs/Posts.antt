@@ -40,7 +40,7 @@ numbered_at ts ks (suc n) x some within e =
 
 -- ---- steps of the placement
 
--- another event wants no memory
+-- an event other than a Register doesn't run out of memory
 pub gives_other : (event : PlaceEvent) (now : ℕ) (reply : PlaceReply) (old new : PlacementState) → is_register event ≡ false → views.GivesStep event now reply old new → GivesReply event now reply old new
 gives_other (changes.Register host) now reply old new e g = absurd (cc)
 gives_other (changes.Beat m) now reply old new e g = g
@@ -58,7 +58,7 @@ without : (event : PlaceEvent) (now : ℕ) (reply : PlaceReply) (old new : Place
 without event now replies.OutOfMemory old new e g = g
 without event now reply old new e g = absurd (cc)
 
--- a Register that wanted none
+-- a Register that didn't run out of memory
 pub gives_register : (event : PlaceEvent) (now : ℕ) (reply : PlaceReply) (old new : PlacementState) → place_wants reply ≡ false → views.GivesStep event now reply old new → GivesReply event now reply old new
 gives_register (changes.Register host) now reply old new e g = in_memory (changes.Register host) now reply old new e g
 gives_register (changes.Beat m) now reply old new e g = gives_other (changes.Beat m) now reply old new refl g
@@ -79,7 +79,7 @@ gives_none changes.Look now reply old new e f g = absurd (cc)
 
 -- ---- tables
 
--- where none is pending the placement's hosts play no part
+-- if none is pending, the placement's hosts don't matter
 pub settled : (ts : List PlacementTable) (p : Option Wanted) (s others : PlacementState) → p ≡ None → told_tables ts p s ≡ told_tables ts None others
 settled ts p s others e = ap (λ (o : Option Wanted). told_tables ts o s) e
 
@@ -107,7 +107,7 @@ slice-in [] n l = absurd (omega arith)
 slice-in (x ∷ xs) zero l = (x, refl)
 slice-in (x ∷ xs) (suc n) l = slice-in xs n (omega arith)
 
--- more tables leave a message that names an earlier one
+-- more tables don't change a message that names an earlier one
 message-more : (ts us : List PlacementTable) (k : Kept) → names_table (length ts) k → message_in (ts ++ us) k ≡ message_in ts k
 message-more ts us (kept.Register host) n = refl
 message-more ts us (kept.Beat m) n = refl
@@ -124,7 +124,7 @@ messages-more : (ts us : List PlacementTable) (ks : List Kept) → ((n : ℕ) (x
 messages-more ts us [] h = refl
 messages-more ts us (k ∷ ks) h = (λ i. message-more ts us k (h 0 k refl) i ∷ messages-more ts us ks (λ n x e. h (suc n) x e) i)
 
--- an answer that is no Update is kept as it is
+-- an answer that isn't an Update is kept as it is
 kept_plain : (ts : List PlacementTable) (m : Member) (reply : PlaceReply) (at : ℕ) (space : List ℕ) (hosts : List HostInfo) → updated_version reply ≡ None → message_in ts (kept_answer m reply at) ≡ Tells m (answer_of space hosts reply)
 kept_plain ts m (replies.Lock version) at space hosts e = refl
 kept_plain ts m (replies.Update version) at space hosts e = absurd (cc)
@@ -167,7 +167,7 @@ brings_some at (Some (kept.Says m reply)) e = absurd (cc)
 brings_same : (at : ℕ) (m : Member) → brings at (Some (kept.Update m at)) ≡ true
 brings_same at m = eq-eqb at at refl
 
--- a request changes nothing of what was told
+-- a request changes nothing about the tables that were sent
 pub ask_kept : (n last : ℕ) (ks : List Kept) (x : Kept) → is_request x ≡ true → IsPostKept n ks last → IsPostKept n (ks ++ x ∷ []) last
 ask_kept n last ks x r h =
     record {
@@ -200,12 +200,12 @@ messages-push ts ks x = map-append (message_in ts) ks (x ∷ [])
 
 -- ---- an answer
 
--- the messages after an answer that is kept with the table of this place, and that they are kept so
+-- the messages after an answer that is kept with the table at this place, and how they are kept
 pub record AnsweredBy (spot : Spot) (next : ℕ) (ts : List PlacementTable) (ks : List Kept) (m : Member) (reply : PlaceReply) (s : PlacementState) : Type 0 where
   pub messages : messages_in (told_tables ts spot.pending s) (ks ++ kept_answer m reply spot.table ∷ []) ≡ messages_in ts ks ++ Tells m (answer_of m.space (table_in s m.space) reply) ∷ []
   pub kept : IsPostKept (length (told_tables ts spot.pending s)) (ks ++ kept_answer m reply spot.table ∷ []) next
 
--- the last table stays told
+-- the last table is still one that was sent
 still_told : (n last : ℕ) (ks : List Kept) (x : Kept) → (0 < n → brings (n - 1) (slice_get ks last) ≡ true) → 0 < n → brings (n - 1) (slice_get (ks ++ x ∷ []) last) ≡ true
 still_told n last ks x h l = (let b = brings_some (n - 1) (slice_get ks last) (h l) in subst (λ (o : Option Kept). brings (n - 1) o ≡ true) (sym (slice-append_left ks (x ∷ []) last _ b.1)) (brings_same (n - 1) b.0))
 

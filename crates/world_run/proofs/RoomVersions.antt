@@ -11,7 +11,7 @@ in_place [] n l = absurd (omega arith)
 in_place (x ∷ xs) zero l = (x, refl)
 in_place (x ∷ xs) (suc n) l = in_place xs n (omega arith)
 
--- one room more
+-- one more room
 pub taken_versions : (rooms : List SpaceRoom) (n : ℕ) (r : SpaceRoom) → slice_get rooms n ≡ Some r → map version_in (take (suc n) rooms) ≡ map version_in (take n rooms) ++ version_in r ∷ []
 taken_versions [] n r e = absurd (cc)
 taken_versions (x ∷ rooms) zero r e = let same : x ≡ r = cc in ap (λ (z : SpaceRoom). version_in z ∷ []) same
@@ -29,7 +29,7 @@ drop_all [] (suc n) e = absurd (omega arith)
 drop_all (x ∷ xs) zero e = absurd (omega arith)
 drop_all (x ∷ xs) (suc n) e = drop_all xs n (omega arith)
 
--- at a room the last version before the restart still stands
+-- a room's entry is still its last version before the restart
 pub version_before : (rooms new : List SpaceRoom) (n : ℕ) (r t : SpaceRoom) → slice_get rooms n ≡ Some r → slice_get new n ≡ Some t → slice_get (versions_at rooms new n) n ≡ Some (version_in r)
 version_before [] new n r t e f = absurd (cc)
 version_before (x ∷ rooms) [] n r t e f = absurd (cc)

@@ -1,4 +1,4 @@
--- One event more of a run.
+-- One more event of a run.
 use Rattle.std.proofs.Common.{◌≡◌, List, [], ◌∷◌, ◌++◌, sym, ◌∙◌, subst, inl, inr}
 use Rattle.std.specs.Prelude.{Result, Ok, Err, MatchResult}
 use Rattle.part_core.specs.Part.{ring_owner}

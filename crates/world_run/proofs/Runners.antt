@@ -48,7 +48,7 @@ runs_here ps js i now j m e late running =
     let whole : late_of (drop i js) now ≡ m ∷ rest = late_joined js i now j e ∙ ap (λ (b : Bool). cond b (j.host.member ∷ rest) rest) h.0 ∙ ap (λ (z : Member). z ∷ rest) (sym h.1) in
     sym (ap (λ (ms : List Member). running_among ps ms) whole ∙ ap (λ (b : Bool). cond b (running_among ps rest) (Some m)) running)
 
--- one that has stopped is passed over
+-- one that has stopped is skipped
 pub stopped_here : (ps : List PartState) (js : List Joined) (i now : ℕ) (j : Joined) (m : Member) → slice_get js i ≡ Some j → Some m ≡ late_member now j → all_stopped ps m ≡ true →
     running_among ps (late_of (drop (i + 1) js) now) ≡ running_among ps (late_of (drop i js) now)
 stopped_here ps js i now j m e late stopped =
@@ -57,7 +57,7 @@ stopped_here ps js i now j m e late stopped =
     let whole : late_of (drop i js) now ≡ m ∷ rest = late_joined js i now j e ∙ ap (λ (b : Bool). cond b (j.host.member ∷ rest) rest) h.0 ∙ ap (λ (z : Member). z ∷ rest) (sym h.1) in
     sym (ap (λ (ms : List Member). running_among ps ms) whole ∙ ap (λ (b : Bool). cond b (running_among ps rest) (Some m)) stopped)
 
--- so is one that was heard in time
+-- so is one that was heard from in time
 pub heard_here : (ps : List PartState) (js : List Joined) (i now : ℕ) (j : Joined) → slice_get js i ≡ Some j → ◌≡◌ {A = Option Member} None (late_member now j) →
     running_among ps (late_of (drop (i + 1) js) now) ≡ running_among ps (late_of (drop i js) now)
 heard_here ps js i now j e late =
@@ -76,7 +76,7 @@ late_rooms rs n now r e =
     let next : suc n ≡ n + 1 = omega arith in
     ap (λ (l : List SpaceRoom). late_in l now) (drop_room rs n r e ∙ ap (λ (k : ℕ). r ∷ drop k rs) next)
 
--- the first of two lists where it has one, else of the second
+-- the first of two lists if it has one, else of the second
 first_among : (ps : List PartState) (xs ys : List Member) (m : Member) → running_among ps xs ≡ Some m → running_among ps (xs ++ ys) ≡ Some m
 first_among ps [] ys m e = absurd (cc)
 first_among ps (x ∷ xs) ys m e = go (all_stopped ps x) (first_among ps xs ys m) e

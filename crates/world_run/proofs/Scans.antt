@@ -1,4 +1,4 @@
--- What the cluster model's searches through all parts find, where the parts of a member stand together.
+-- What the cluster model's searches through all parts find, if the parts of a member are next to each other.
 use Rattle.std.proofs.Common.{◌≡◌, ◌≢◌, ℕ, ◌+◌, ◌-◌, ◌<◌, ◌≤◌, Bool, true, false, not, cond, List, [], ◌∷◌, ◌++◌, length, refl, sym, ap, ◌∙◌, subst, arith, append_assoc}
 use Rattle.std.specs.Prelude.{zero, suc, map, ◌&&◌, ◌||◌, ◌==◌, slice_get, Option, None, Some}
 use Rattle.std.proofs.lemmas.Bool.{ne_eqb, eq-eqb, eqb-true, true≢false}
@@ -234,7 +234,7 @@ stopped-first ps m per first f =
     ap (λ (z : List PartState). all_stopped z m) f.whole ∙ stopped-skip m f.before (f.block ++ f.after) f.none_before ∙ stopped-own m 0 per f.block f.after f.own f.none_after
     ∙ ap are_all_stopped (sym (segment-first ps m per first f))
 
--- a receipt tells whether its part has stopped
+-- a receipt says whether its part has stopped
 pub stopped_receipt_is : (p : PartState) → is_stopped_stage (receipt_of ring_owner p).stage ≡ is_stopped p.stage
 stopped_receipt_is p = go p.stage
   where

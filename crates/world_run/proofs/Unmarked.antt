@@ -1,4 +1,4 @@
--- A step looks at no mark: it adds its own to those that were there.
+-- A step doesn't look at the marks: it adds its own to those that were there.
 use Rattle.std.proofs.Common.{◌≡◌, ℕ, ◌+◌, Bool, true, false, cond, List, [], ◌∷◌, ◌++◌, refl, sym, ap, ◌∙◌, arith, append-nil, append_assoc}
 use Rattle.std.specs.Prelude.{zero, suc, ◌==◌, slice_get, set, length, Option, None, Some, Result}
 use Rattle.actor_names.specs.declared.member.Member.{Member}
@@ -68,7 +68,7 @@ marked w ms = record w { marks = ms }
 abbrev pub adds : List TraceMark → WorldStep → WorldStep
 adds ms s = record { world = marked s.world (ms ++ s.world.marks); outcome = s.outcome }
 
--- a step of no mark
+-- a step without marks
 quiet : (ms : List TraceMark) (w : ClusterState) (o : Result Outcome WorldError) → record { world = marked w ms; outcome = o } ≡ adds ms (record { world = marked w []; outcome = o })
 quiet ms w o = ap (λ (xs : List TraceMark). let s : WorldStep = record { world = marked w xs; outcome = o } in s) (sym (append-nil ms))
 

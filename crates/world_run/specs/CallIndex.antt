@@ -1,4 +1,4 @@
--- The calls of a script, and where each call that a part began stands among them. Own.
+-- The calls of a script, and the place among them of each call that a part began. Own.
 use Rattle.std.specs.Prelude.{◌≡◌, ℕ, suc, ◌<◌, Bool, ◌&&◌, ◌==◌, if◌then◌else◌, List, [], ◌∷◌, map, Option, None, Some, option_map}
 use Rattle.std.specs.HashMap.{HashMap, get}
 use Rattle.cluster_model.specs.World.{CallPlace}
@@ -19,7 +19,7 @@ call_place c = record { place = c.place; call = c.call }
 abbrev pub calls_of : List (Option CallAt) → List (Option CallPlace)
 calls_of cs = map (option_map call_place) cs
 
--- the first of these calls that was asked at a place and has the number of its part, counted from n
+-- the number, counted from n, of the first of these calls that was made at this place and has this number at its part
 abbrev pub first_call : List (Option CallPlace) → ℕ → ℕ → ℕ → Option ℕ
 first_call [] n place call = None
 first_call (None ∷ cs) n place call = first_call cs (suc n) place call

@@ -1,4 +1,4 @@
--- Where the parts of a member stand among those of all members. Own.
+-- Where the parts of a member are among those of all members. Own.
 use Rattle.std.specs.Prelude.{◌≡◌, ℕ, zero, suc, ◌<◌, ◌≤◌, Bool, true, false, ◌&&◌, List, [], ◌∷◌, ◌++◌, map, length, Option, None, Some, slice_get}
 use Rattle.actor_names.specs.declared.member.Member.{Member}
 use Rattle.turn_core.specs.CellSound.{In}
@@ -21,7 +21,7 @@ tag_of p = record { member = p.member; number = p.number }
 abbrev pub tags_of : List PartState → List PartTag
 tags_of ps = map tag_of ps
 
--- so many parts of a member, from this number on
+-- the given number of parts of a member, numbered from this number on
 abbrev pub member_tags : Member → ℕ → ℕ → List PartTag
 member_tags m i zero = []
 member_tags m i (suc n) = record { member = m; number = i } ∷ member_tags m (suc i) n
@@ -38,7 +38,7 @@ abbrev pub all_tags : ℕ → ℕ → List Home → List PartTag
 all_tags per boot [] = []
 all_tags per boot (h ∷ hs) = member_tags (booted_at h boot) 0 per ++ all_tags per (suc boot) hs
 
--- The parts stand in order of boot, from 1, then number; each is sound.
+-- The parts are in order of boot, from 1, then number; each is sound.
 pub record AreLaidOut (per : ℕ) (homes : List Home) (ps : List PartState) : Type 0 where
   pub many : 0 < per
   pub few : per ≤ 16
@@ -50,7 +50,7 @@ abbrev pub HasNone : Member → List PartState → Type 0
 HasNone m [] = Unit {0}
 HasNone m (p ∷ ps) = (same_member m p.member ≡ false) × HasNone m ps
 
--- the member's parts stand from this place on, and nowhere else
+-- the member's parts are at this place and those after it, and nowhere else
 pub record IsFirst (ps : List PartState) (m : Member) (per first : ℕ) : Type 0 where
   pub before : List PartState
   pub block : List PartState
@@ -66,7 +66,7 @@ abbrev pub with_found : Option PartState → List PartState → List PartState
 with_found None ps = ps
 with_found (Some p) ps = p ∷ ps
 
--- so many parts from this place on
+-- the given number of parts, from this place on
 abbrev pub segment : List PartState → ℕ → ℕ → List PartState
 segment ps at zero = []
 segment ps at (suc n) = with_found (slice_get ps at) (segment ps (suc at) n)
@@ -76,7 +76,7 @@ abbrev pub are_all_stopped : List PartState → Bool
 are_all_stopped [] = true
 are_all_stopped (p ∷ ps) = is_stopped p.stage && are_all_stopped ps
 
--- so many places from this one on
+-- the given number of places, from this one on
 abbrev pub counted_from : ℕ → ℕ → List ℕ
 counted_from n zero = []
 counted_from n (suc k) = n ∷ counted_from (suc n) k

@@ -4,7 +4,7 @@ use Rattle.actor_names.specs.declared.member.Member.{Member}
 use Rattle.part_core.specs.Part.{PartState}
 use Rattle.cluster_model.specs.Messages.{Message, Asks, Tells}
 
--- whose part it is, where there is one
+-- whose part it is, if there is one
 abbrev pub member_in : Option PartState → Option Member
 member_in None = None
 member_in (Some p) = Some p.member
@@ -13,7 +13,7 @@ abbrev pub asks : Message → Bool
 asks (Asks request) = true
 asks (Tells member answer) = false
 
--- whether the message of this number is a request, where there is one; messages are numbered from 1
+-- whether the message of this number is a request, if there is one; messages are numbered from 1
 abbrev pub asks_at : List Message → ℕ → Option Bool
 asks_at ms zero = None
 asks_at ms (suc k) = option_map asks (slice_get ms k)

@@ -28,7 +28,7 @@ abbrev pub table_or : Option PlacementTable → PlacementTable
 table_or None = no_table []
 table_or (Some t) = t
 
--- the message that is kept so, where the tables that were told are these
+-- the message that is kept in this form, if these are the tables that were sent
 abbrev pub message_in : List PlacementTable → Kept → Message
 message_in ts (kept.Register host) = Asks (Register host)
 message_in ts (kept.Beat m) = Asks (Beat m)
@@ -42,16 +42,16 @@ message_in ts (kept.Says m reply) = Tells m (Says reply)
 abbrev pub messages_in : List PlacementTable → List Kept → List Message
 messages_in ts ks = map (message_in ts) ks
 
--- the table that the placement fixed last in a space and that isn't built yet, where its version was told
+-- the table that the placement fixed last in a space and that isn't built yet, if its version was sent
 abbrev pub pending_table : Option Wanted → PlacementState → List PlacementTable
 pending_table None s = []
 pending_table (Some w) s = table_of w.space w.version (table_in s w.space) ∷ []
 
--- all tables that were told
+-- all tables that were sent
 abbrev pub told_tables : List PlacementTable → Option Wanted → PlacementState → List PlacementTable
 told_tables built pending s = built ++ pending_table pending s
 
--- an Update message names a table that was told
+-- an Update message names a table that was sent
 abbrev pub names_table : ℕ → Kept → Type 0
 names_table n (kept.Update m at) = at < n
 names_table n k = Unit {0}
@@ -61,7 +61,7 @@ abbrev pub brings : ℕ → Option Kept → Bool
 brings at (Some (kept.Update m place)) = place == at
 brings at k = false
 
--- Each Update message names a table that was told, and the message at `last` carries the last of these.
+-- Each Update message names a table that was sent, and the message at `last` carries the last of these.
 pub record IsPostKept (tables : ℕ) (ks : List Kept) (last : ℕ) : Type 0 where
   pub named : (k : ℕ) (x : Kept) → slice_get ks k ≡ Some x → names_table tables x
   pub told : 0 < tables → brings (tables - 1) (slice_get ks last) ≡ true
@@ -71,7 +71,7 @@ abbrev pub numbered : List Message → ℕ → Option Message
 numbered ms zero = None
 numbered ms (suc k) = slice_get ms k
 
--- what a message tells, and to whom
+-- what a message brings, and to whom
 abbrev pub told_of : Option Message → ℕ → Option Told
 told_of None now = None
 told_of (Some (Asks r)) now = None
@@ -83,12 +83,13 @@ answered v r now =
     let s = placement_step v.placement (change_of r) now in
     record { placement = s.state; messages = v.messages ++ Tells (asker_of r) (answer_of (asker_of r).space (table_in s.state (asker_of r).space) s.reply) ∷ [] }
 
--- what comes of the delivery of a message to the placement: nothing where there is no such request
+-- what comes of the delivery of a message to the placement: nothing if there is no such request
 abbrev pub Delivers : Option Message → ℕ → Option PlaceReply → PostView → PostView → Type 0
 Delivers (Some (Asks r)) now result old new = (result ≡ Some (placement_step old.placement (change_of r) now).reply) × (new ≡ answered old r now)
 Delivers x now result old new = (result ≡ None) × (new ≡ old)
 
--- Where the answer is an Update, each table of its space and version that was told is the one that the placement fixed last.
+-- If the answer is an Update, each table of its space and version that was sent is the one that the placement fixed
+-- last.
 abbrev pub AgreesOn : List Message → ℕ → List ℕ → List HostInfo → PlaceReply → Type 0
 AgreesOn ms now space hosts (replies.Update version) =
     (m : Member) (t : PlacementTable) (k : ℕ) → slice_get ms k ≡ Some (Tells m (UpdateTo t)) → t.space ≡ space → t.version ≡ version → t ≡ table_of space version hosts
@@ -128,7 +129,7 @@ abbrev pub is_wanted : List ℕ → ℕ → Option PlacementTable → Bool
 is_wanted space version None = false
 is_wanted space version (Some t) = bytes_eq t.space space && (t.version == version)
 
--- the place of the table of a space and version, where the last table may be it
+-- the place of the table of a space and version: the last one if it is that table, else the next
 abbrev pub spot_for : List PlacementTable → List ℕ → Option ℕ → Spot
 spot_for ts space None = record { table = 0; pending = None }
 spot_for ts space (Some version) =
@@ -143,7 +144,7 @@ abbrev pub place_wants : PlaceReply → Bool
 place_wants replies.OutOfMemory = true
 place_wants reply = false
 
--- the member, where a Tick at this moment drops it
+-- the member, if a Tick at this moment drops it
 abbrev pub late_member : ℕ → Joined → Option Member
 late_member now j = if is_late now j then Some j.host.member else None
 
@@ -154,11 +155,11 @@ GivesReply event now reply old new = (reply ≡ (placement_step old event now).r
 abbrev pub version_in : SpaceRoom → ℕ
 version_in r = last_version r.room
 
--- the version of the round that a restart started, where the last version was this and is that
+-- the version of the round that a restart started, from the last versions before and after it
 abbrev pub started_version : ℕ → ℕ → ℕ
 started_version before after = if after == before then 0 else after
 
--- where the message stands that brought the last table, after one more
+-- the place of the message that brought the last table, after one more
 abbrev pub last_for : Option ℕ → ℕ → ℕ → ℕ
 last_for None count last = last
 last_for (Some version) count last = count

@@ -1,5 +1,5 @@
 -- What contracts see of the world of a cluster script: the cluster's state without its marks, and how many turns began
--- and ended, which the marks tell. Own.
+-- and ended, which come from the marks. Own.
 use Rattle.std.specs.Prelude.{◌≡◌, ◌⊎◌, ℕ, ◌+◌, ◌-◌, ◌<◌, length, slice_get, List, [], ◌∷◌, ◌++◌, MatchResult, Option, None, Some, IfSome, Result, Ok, Err}
 use Rattle.part_core.specs.Part.{PartState, ring_owner}
 use Rattle.part_core.specs.Rooms.{IsInRange}
@@ -54,18 +54,18 @@ view_of w =
 abbrev pub open_turns : WorldView → ℕ
 open_turns v = v.begun - v.ended
 
--- what a step gives: the outcome and the view of the step's cluster, or want of memory and nothing changed
+-- what a step gives: the outcome and the view of the step's cluster, or out of memory and no change
 abbrev pub GivesStep : Result Outcome WorldError → WorldView → WorldStep → WorldView → Type 0
 GivesStep result old step new = ((result ≡ Err OutOfMemory) × (new ≡ old)) ⊎ ((result ≡ step.outcome) × (new ≡ view_of step.world))
 
 -- ---- a cluster whose marks are forgotten
 
--- the cluster of a view, with no mark
+-- the cluster of a view, without marks
 abbrev pub cluster_of : WorldView → ClusterState
 cluster_of v =
     record { settings = v.settings; placement = v.placement; parts = v.parts; boots = v.boots; messages = v.messages; now = v.moment; calls = v.calls; marks = []; events = v.events }
 
--- the view after a step whose marks are these alone
+-- the view after a step, if these are the marks of that step alone
 abbrev pub after : WorldView → ClusterState → WorldView
 after v w =
     record {
@@ -81,7 +81,7 @@ after v w =
       ended = more v.ended (over_turns w.marks);
     }
 
--- the same of a step that begins with no mark
+-- the same for a step that begins without marks
 abbrev pub Gives : Result Outcome WorldError → WorldView → WorldView → WorldStep → Type 0
 Gives result old new step = ((result ≡ Err OutOfMemory) × (new ≡ old)) ⊎ ((result ≡ step.outcome) × (new ≡ after old step.world))
 
@@ -114,26 +114,26 @@ abbrev pub IsToldInRange : Option Told → Type 0
 IsToldInRange None = Unit {0}
 IsToldInRange (Some t) = IfSome t.event (λ e. IsInRange e)
 
--- What the cluster's safety gives of an event: a delivered request is answered with the one table of its version, and a
--- delivered answer has a version in range.
+-- What the cluster's safety gives for an event: a delivered request is answered with the one table of its version, and
+-- a delivered answer has a version in range.
 abbrev pub IsFit : WorldView → WorldEvent → Type 0
 IsFit v (lines.To k) = Agrees (numbered v.messages k) v.moment (post_of v)
 IsFit v (lines.Part k i) = IsToldInRange (told_of (numbered v.messages k) v.moment)
 IsFit v event = Unit {0}
 
--- the turns that the parts at so many places from this one on end, as the outcome says
+-- the turns that `count` parts from this place on end, as the outcome says
 abbrev pub Ticks : ℕ → WorldView → WorldView → ℕ → ℕ → ℕ → Type 0
 Ticks result old new at count turns = Gives (Ok (out.TickEnded result)) old new (tick_each ring_owner key_part (cluster_of old) (counted_from at count) turns)
 
--- where a call was asked: none where it was refused or never asked, or its part isn't there
+-- where a call was made: none if it was refused or never made, or its part isn't there
 abbrev pub AskedAt : Option CallAt → WorldView → ℕ → Type 0
 AskedAt (Some c) v call = (call_at v.calls call ≡ Some (call_place c)) × (c.place < length v.parts)
 AskedAt None v call = (c : CallPlace) → call_at v.calls call ≡ Some c → slice_get v.parts c.place ≡ None
 
 -- ---- runs
 
--- The events are done in their order, up to the first one that is refused or wants memory, which is the result; the
--- outcomes of those before it are added to the ones that were there.
+-- The events are done in their order, up to the first one that is refused or runs out of memory, which is the result;
+-- the outcomes of those before it are added to the ones that were there.
 abbrev pub Runs : ClusterState → List WorldEvent → List Outcome → Result (Unit {0}) WorldError → List Outcome → WorldView → Type 0
 Runs w [] before result outcomes v = (result ≡ Ok tt) × (outcomes ≡ before) × (v ≡ view_of w)
 Runs w (e ∷ es) before result outcomes v =

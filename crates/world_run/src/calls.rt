@@ -1,4 +1,4 @@
-// The calls of the script, in the order in which they were asked.
+// The calls of the script, in the order in which they were made.
 ghost use Rattle.std.specs.Prelude.{◌≡◌, ◌<◌, ◌^◌, ◌++◌, ◌∷◌, [], ℕ, suc, Some, length, OnOk, option_map};
 ghost use Rattle.cluster_model.specs.World.{CallPlace, call_at, script_number, place_of_call};
 ghost use Rattle.world_run.specs.CallIndex.{HasRoom, call_place};
@@ -9,14 +9,14 @@ use std::alloc::Global;
 use std::collections::HashMap;
 use std::marker::Model;
 
-/// Where a call was asked: the place of the part, and the part's number for it.
+/// Where a call was made: the place of the part, and the part's number for it.
 #[derive(Clone, Copy)]
 pub(crate) struct CallAt {
     pub(crate) place: usize,
     pub(crate) call: u64,
 }
 
-/// The calls of the script; none where a call was refused. An index finds the script's number of a part's call.
+/// The calls of the script; none for a call that was refused. An index finds the script's number of a part's call.
 #[derive(Drop)]
 pub(crate) struct Calls {
     items: Vec<Option<CallAt>>,
@@ -35,7 +35,7 @@ impl Model for Calls {
     ghost invariant = { λ a. IsIndexed (calls_of a.items.items) a.numbers };
 }
 
-/// The number that a part drew for a call, where it wasn't refused.
+/// The number that a part drew for a call, if it wasn't refused.
 fn drawn_call(reply: &PartReply) -> Option<u64>
     ensures { (place : ℕ) → option_map (λ call. record { place = place; call = call }) result ≡ place_of_call place reply.now }
 {
@@ -47,7 +47,7 @@ fn drawn_call(reply: &PartReply) -> Option<u64>
 }
 
 impl Calls {
-    /// No call.
+    /// An empty list of calls.
     pub(crate) fn new(alloc: Global) -> Calls
         ensures { result.calls ≡ [] }
     {
@@ -72,7 +72,7 @@ impl Calls {
         self.items.len() as u64 + 1
     }
 
-    /// Where a call was asked, if it wasn't refused.
+    /// Where a call was made, if it wasn't refused.
     pub(crate) fn at(&self, call: u64) -> Option<CallAt>
         ensures { option_map call_place result ≡ call_at self.now.calls call }
     {
@@ -82,7 +82,7 @@ impl Calls {
         self.items[call as usize - 1]
     }
 
-    /// Makes room for one call more.
+    /// Makes room for one more call.
     pub(crate) fn reserve(&mut self) -> Result<(), OutOfMemory>
         ensures same { self.new.calls ≡ self.old.calls }
         ensures room { OnOk result (HasRoom self.new) }
@@ -92,7 +92,7 @@ impl Calls {
         Ok(())
     }
 
-    /// One call more, which was asked at this place and got this reply.
+    /// Adds a call, which was made at this place and got this reply.
     pub(crate) fn add(&mut self, place: usize, reply: &PartReply)
         requires { HasRoom self.old }
         ensures { self.new.calls ≡ self.old.calls ++ place_of_call place reply.now ∷ [] }
@@ -103,7 +103,7 @@ impl Calls {
         }
     }
 
-    /// One call more, for which its part drew this number.
+    /// Adds a call, for which its part drew this number.
     fn put(&mut self, place: usize, call: u64)
         requires { HasRoom self.old }
         ensures { self.new.calls ≡ self.old.calls ++ Some (record { place = place; call = call }) ∷ [] }
@@ -116,7 +116,7 @@ impl Calls {
         self.items.push(Some(CallAt { place, call })).unwrap();
     }
 
-    /// The script's number of the call that the part at this place has under this number; 0 where there is none.
+    /// The script's number of the call that the part at this place has under this number; 0 if there is none.
     pub(crate) fn number_of(&self, place: usize, call: u64) -> u64
         ensures { result ≡ script_number self.now.calls 1 place call }
     {

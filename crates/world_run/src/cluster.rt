@@ -99,7 +99,7 @@ impl Cluster {
         self.post.len() as u64
     }
 
-    /// How many calls were asked.
+    /// How many calls were made.
     pub(crate) fn calls(&self) -> u64
         ensures { result ≡ length self.now.calls }
     {
@@ -134,14 +134,14 @@ impl Cluster {
         self.events
     }
 
-    /// So many events were done.
+    /// Sets how many events were done.
     pub(crate) fn set_events(&mut self, events: u64)
         ensures { self.new ≡ record self.old { events = events } }
     {
         self.events = events;
     }
 
-    /// The present moment.
+    /// Sets the present moment.
     fn at(&mut self, moment: u64) -> Result<Outcome, WorldError>
         ensures { Happens result self.old self.new (WorldEvent.At moment) }
     {
@@ -149,7 +149,7 @@ impl Cluster {
         Ok(Outcome::At { moment })
     }
 
-    /// What comes of an event, or why it is refused, which changes nothing.
+    /// What comes of an event, or why it is refused; a refusal changes nothing.
     pub(crate) fn happens(
         &mut self,
         alloc: Global,

@@ -80,7 +80,7 @@ impl Cluster {
         }
     }
 
-    /// A member was lost; one that runs isn't declared so.
+    /// A member was lost; refused if it has a running part.
     pub(crate) fn lost(&mut self, alloc: Global, member: Member) -> Result<Outcome, WorldError>
         ensures { Happens result self.old self.new (lines.Lost member) }
     {
@@ -96,7 +96,7 @@ impl Cluster {
         Ok(lost_outcome(member, reply))
     }
 
-    /// Time has passed for the placement, which drops nobody that runs.
+    /// Time has passed for the placement; refused if it would drop a member with a running part.
     pub(crate) fn placement_tick(&mut self, alloc: Global) -> Result<Outcome, WorldError>
         ensures { Happens result self.old self.new lines.PlacementTick }
     {
@@ -107,7 +107,7 @@ impl Cluster {
         Ok(dropped_outcome(reply))
     }
 
-    /// The placement is started anew.
+    /// The placement is restarted.
     pub(crate) fn restart(&mut self, alloc: Global) -> Result<Outcome, WorldError>
         ensures { Happens result self.old self.new lines.Restart }
     {

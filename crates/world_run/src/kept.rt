@@ -9,8 +9,8 @@ use place_table::{AckStage, HostInfo, Table};
 use round_core::{PlaceEvent, PlaceReply};
 use std::alloc::Global;
 
-/// A message as it is kept: a request to the placement, or an answer of it. An Update names its table by its place
-/// among those that were told.
+/// A message as it is kept: a request to the placement, or an answer of it. An Update names its table by the table's
+/// place among those that were sent.
 #[derive(Drop)]
 pub(crate) enum Kept {
     Register {
@@ -45,7 +45,7 @@ pub(crate) enum Kept {
     },
 }
 
-/// What an answer of the placement tells a part of its member; nothing where it brings no table event.
+/// What an answer of the placement brings to a part of its member; no event if it brings no table event.
 #[derive(Drop)]
 pub(crate) struct Told {
     pub(crate) member: Member,
@@ -59,14 +59,14 @@ pub(crate) struct Asked {
     pub(crate) event: PlaceEvent,
 }
 
-/// A table that was told and isn't built yet.
+/// A table that was sent and isn't built yet.
 #[derive(Clone, Copy)]
 pub(crate) struct Wanted {
     pub(crate) space: Space,
     pub(crate) version: u64,
 }
 
-/// Where the table of an answer is found among those that were told, and what it is where it isn't built yet.
+/// Where the table of an answer is among those that were sent, and which table it is if it isn't built yet.
 #[derive(Clone, Copy)]
 pub(crate) struct Spot {
     pub(crate) table: usize,
@@ -116,7 +116,7 @@ pub(crate) fn asked_at(
     }
 }
 
-/// The answer as it is kept, whose table has this place.
+/// The answer as it is kept, with its table at this place.
 pub(crate) fn kept_answer(member: Member, reply: PlaceReply, table: usize) -> Kept
     ensures { result ≡ kept_answer member reply table }
 {
@@ -191,7 +191,7 @@ pub(crate) fn is_register(event: &PlaceEvent) -> bool
     }
 }
 
-/// Whether the placement wanted memory.
+/// Whether the placement ran out of memory.
 pub(crate) fn place_wants(reply: PlaceReply) -> bool
     ensures { result ≡ place_wants reply }
 {

@@ -10,7 +10,7 @@ use part_core::{Part, PartSettings, TypeList, TypeSettings};
 use std::alloc::Global;
 use world_events::WorldSettings;
 
-/// The settings of a type, where it is listed; of two entries with one type the last counts.
+/// The settings of a type, if it is listed; of two entries for one type the last counts.
 fn find_settings<'a>(settings: &'a WorldSettings, kind: &ActorType) -> Option<&'a TypeSettings>
     ensures { unwrap_or (option_copied result) (unnamed_settings settings.now kind.now) ≡ settings_in settings.now kind.now }
 {
@@ -63,7 +63,7 @@ fn settings_for(
     Ok(TypeList::from_vec(list))
 }
 
-/// The parts of a new member, so many.
+/// The `count` parts of a new member, numbered from 0.
 pub(crate) fn make_parts(
     alloc: Global,
     member: Member,

@@ -1,4 +1,4 @@
-// What parts and the placement say, as outcomes of the events that asked them.
+// What parts and the placement reply, as outcomes of the events that caused it.
 ghost use Rattle.std.specs.Prelude.{◌≡◌};
 ghost use Rattle.cluster_model.specs.World.{call_outcome, hold_outcome, seen_outcome, told_outcome, closing_outcome, stop_outcome, lost_outcome, dropped_outcome, ended_turns};
 
@@ -21,7 +21,7 @@ pub(crate) fn nothing() -> Outcome
     turn(TurnOutcome::NotThere)
 }
 
-/// Of a call, and of a poll.
+/// The outcome of a call, and of a poll.
 pub(crate) fn call_outcome(call: u64, reply: PartReply) -> Outcome
     ensures { result ≡ call_outcome call reply }
 {
@@ -44,7 +44,7 @@ pub(crate) fn call_outcome(call: u64, reply: PartReply) -> Outcome
     }
 }
 
-/// Of a hold or a release.
+/// The outcome of a hold or a release.
 pub(crate) fn hold_outcome(reply: PartReply) -> Outcome
     ensures { result ≡ hold_outcome reply }
 {
@@ -58,7 +58,7 @@ pub(crate) fn hold_outcome(reply: PartReply) -> Outcome
     }
 }
 
-/// Of a Lock or an Update that changed its part.
+/// The outcome of a Lock or an Update that changed its part.
 fn seen_outcome(receipt: Receipt) -> Outcome
     ensures { result ≡ seen_outcome receipt receipt.stage }
 {
@@ -77,7 +77,7 @@ fn seen_outcome(receipt: Receipt) -> Outcome
     }
 }
 
-/// Of a message that is delivered.
+/// The outcome of a message that is delivered.
 pub(crate) fn told_outcome(reply: PartReply) -> Outcome
     ensures { result ≡ told_outcome reply }
 {
@@ -106,7 +106,7 @@ pub(crate) fn told_outcome(reply: PartReply) -> Outcome
     }
 }
 
-/// Of a part's Tick: how many turns it ended.
+/// How many turns a part's Tick ended.
 pub(crate) fn ended_turns(reply: PartReply) -> u32
     ensures { result ≡ ended_turns reply }
 {
@@ -116,7 +116,7 @@ pub(crate) fn ended_turns(reply: PartReply) -> u32
     }
 }
 
-/// Of a part that is to give up an actor.
+/// The outcome for a part that is to give up an actor.
 pub(crate) fn closing_outcome(reply: PartReply) -> Outcome
     ensures { result ≡ closing_outcome reply }
 {
@@ -128,7 +128,7 @@ pub(crate) fn closing_outcome(reply: PartReply) -> Outcome
     }
 }
 
-/// Of a part that is to stop.
+/// The outcome for a part that is to stop.
 pub(crate) fn stop_outcome(reply: PartReply) -> Outcome
     ensures { result ≡ stop_outcome reply }
 {

@@ -22,8 +22,8 @@ use std::alloc::Global;
 use std::marker::Model;
 use world_events::Versions;
 
-/// The placement, and every message that was added. The table of a version is built when it is first wanted, and shared
-/// by all whom it is told one after the other: until then the placement has its hosts.
+/// The placement, and every message that was added. The table of a version is built when it is first needed, and then
+/// shared by the messages that send it one after the other; until then the placement has its hosts.
 #[derive(Drop)]
 pub(crate) struct Post {
     placement: Placement,
@@ -44,7 +44,7 @@ impl Model for Post {
     ghost invariant = { λ a. IsPostKept (length (told_tables a.tables.items a.pending a.placement.state)) a.messages.items a.last };
 }
 
-/// The table that was told and isn't built yet is built.
+/// Builds the table that was sent and isn't built yet.
 fn settle(
     alloc: Global,
     placement: &Placement,
@@ -68,7 +68,7 @@ fn settle(
     }
 }
 
-/// The placement takes a step; none where it wanted memory, and is as before.
+/// The placement takes a step; none if it ran out of memory and is as before.
 fn step_placement(placement: &mut Placement, event: PlaceEvent, now: u64) -> Option<PlaceReply>
     ensures { MatchOption result (placement.new.state ≡ placement.old.state) (λ reply. GivesReply event now reply placement.old.state placement.new.state) }
 {
@@ -81,7 +81,7 @@ fn step_placement(placement: &mut Placement, event: PlaceEvent, now: u64) -> Opt
     }
 }
 
-/// The version of the round that a restart started, where the last version was this and is that; 0 for none.
+/// The version of the round that a restart started, from the last versions before and after it; 0 for none.
 fn started_version(before: u64, after: u64) -> u64
     ensures { result ≡ started_version before after }
 {
@@ -99,7 +99,7 @@ fn last_versions(alloc: Global, placement: &Placement) -> Result<Vec<u64>, OutOf
     Ok(versions)
 }
 
-/// The versions of the rounds that a restart started in the rooms, in place of their last versions before it.
+/// Replaces the rooms' last versions before a restart with the versions of the rounds that it started in them.
 fn start_versions(versions: &mut Vec<u64>, placement: &Placement)
     requires { length versions.old.items ≡ length placement.now.state.rooms }
     ensures { (rooms : List SpaceRoom) → versions.old.items ≡ map version_in rooms → versions.new.items ≡ restarted_versions rooms placement.now.state.rooms }
@@ -110,7 +110,7 @@ fn start_versions(versions: &mut Vec<u64>, placement: &Placement)
     }
 }
 
-/// Where the message stands that brought the last table, after the next one.
+/// The place of the message that brought the last table, after one more message.
 fn last_for(version: Option<u64>, count: usize, last: usize) -> usize
     ensures { result ≡ last_for version count last }
 {
@@ -120,7 +120,7 @@ fn last_for(version: Option<u64>, count: usize, last: usize) -> usize
     }
 }
 
-/// The table at this place of those that were told, built if need be.
+/// The table at this place of those that were sent, built if need be.
 fn told_table(
     alloc: Global,
     placement: &Placement,
@@ -175,7 +175,7 @@ impl Post {
         self.placement.last_version(space)
     }
 
-    /// A request is the next message.
+    /// Adds a request as the next message.
     pub(crate) fn ask(&mut self, request: Kept) -> Result<(), OutOfMemory>
         requires { is_request request ≡ true }
         ensures ok { OnOk result (self.new ≡ record self.old { messages = self.old.messages ++ message_in [] request ∷ [] }) }
@@ -185,7 +185,7 @@ impl Post {
         Ok(())
     }
 
-    /// The last message, a request, is taken back.
+    /// Takes back the last message, a request.
     pub(crate) fn withdraw(&mut self)
         requires { LastAsks self.old.messages }
         ensures { (ms : List Message) (x : Message) → self.old.messages ≡ ms ++ x ∷ [] → self.new ≡ record self.old { messages = ms } }
@@ -193,8 +193,8 @@ impl Post {
         let _ = self.messages.pop();
     }
 
-    /// A request is delivered, and the placement's reply is the next message; nothing where there is no such request.
-    /// The room for the reply is taken before the placement's step.
+    /// Delivers a request, and adds the placement's reply as the next message; nothing if there is no such request.
+    /// Room for the reply is reserved before the placement's step.
     pub(crate) fn deliver(
         &mut self,
         alloc: Global,
@@ -223,7 +223,7 @@ impl Post {
         Ok(Some(reply))
     }
 
-    /// What the message of this number tells; nothing where it is no answer of the placement.
+    /// What the message of this number brings; nothing if it isn't an answer of the placement.
     pub(crate) fn told_at(
         &mut self,
         alloc: Global,
@@ -285,7 +285,7 @@ impl Post {
         Ok(self.placement.step(event, now))
     }
 
-    /// The placement is started anew; the version of the round that each room starts, 0 for none, in order of space.
+    /// Restarts the placement; gives the version of the round that each room starts, 0 for none, in order of space.
     pub(crate) fn restart(&mut self, alloc: Global, now: u64) -> Result<Versions, OutOfMemory>
         ensures versions { IfOk result (λ versions. versions ≡ restarted_versions self.old.placement.rooms (placement_restarted self.old.placement now).rooms) }
         ensures ok { OnOk result (self.new ≡ record self.old { placement = placement_restarted self.old.placement now }) }
@@ -313,7 +313,7 @@ impl Post {
         self.placement.members_at(room).len()
     }
 
-    /// The member at this place of the room at that place, where a Tick at this moment would drop it.
+    /// The member at this place of the room at that place, if a Tick at this moment would drop it.
     pub(crate) fn late_at(&self, room: usize, at: usize, now: u64) -> Option<Member>
         requires { IsMemberPlace self.now.placement.rooms room at }
         ensures { (r : SpaceRoom) (j : Joined) → slice_get self.now.placement.rooms room ≡ Some r → slice_get r.room.members at ≡ Some j → result ≡ late_member now j }

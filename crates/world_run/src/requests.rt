@@ -32,7 +32,7 @@ fn host_of(alloc: Global, member: Member, kinds: ActorTypes) -> Result<HostInfo,
 }
 
 impl Cluster {
-    /// The member that a start of the space's node makes.
+    /// The member that the next start of the space's node makes.
     fn next_member(&self, space: Space, node: Node) -> Member
         ensures { result ≡ record { space = space; node = node; boot = suc self.now.boots } }
     {

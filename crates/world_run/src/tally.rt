@@ -11,7 +11,7 @@ pub(crate) struct Tally {
     pub(crate) ended: u64,
 }
 
-/// Whether the event ends turns by time or for good.
+/// Whether the event is a Tick or a stop, which end turns of their own accord.
 pub(crate) fn closes(event: &PartEvent) -> bool
     ensures { result ≡ closes event.now }
 {
@@ -32,7 +32,7 @@ fn is_ended(reply: &PartReply) -> bool
     }
 }
 
-/// The tally of a step that tells so many calls.
+/// The tally of a step that reports `count` calls.
 pub(crate) fn tally_of(closes: bool, reply: &PartReply, count: u64) -> Tally
     ensures { result ≡ tally_of closes (is_ended reply.now) count }
 {

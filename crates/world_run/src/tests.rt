@@ -133,7 +133,7 @@ fn open_world(alloc: Global) -> Result<World, Fail> {
     Ok(world)
 }
 
-/// The first call is asked.
+/// Makes the first call.
 fn call(world: &mut World, alloc: Global) -> Result<&'static str, Fail> {
     let member = first()?;
     let key = actor(alloc)?;

@@ -16,7 +16,7 @@ use part_core::{PartEvent, PartReply};
 use std::alloc::Global;
 use world_events::{Outcome, TurnOutcome, WorldError};
 
-/// The event of a call; that of a caller that says no version where it says none.
+/// The event of a call: `Ask` if the caller gives no version, which is 0.
 fn ask_of(key: ActorKey, least: u64, chain: Option<ChainId>, now: u64) -> PartEvent
     ensures event { result ≡ ask_of key least chain now }
     ensures range { IsInRange result }
@@ -34,7 +34,7 @@ fn ask_of(key: ActorKey, least: u64, chain: Option<ChainId>, now: u64) -> PartEv
     }
 }
 
-/// Whether the part wanted memory.
+/// Whether the part ran out of memory.
 fn wants(reply: &PartReply) -> bool
     ensures { result ≡ wants reply.now }
 {
@@ -53,7 +53,7 @@ fn in_memory(reply: PartReply) -> Option<PartReply>
     if wants(&reply) { None } else { Some(reply) }
 }
 
-/// The script's number of the call that began at a place, where one did.
+/// The script's number of the call that began at a place, if one did.
 fn next_number(calls: &Calls, place: usize, next: Option<u64>) -> Option<u64>
     ensures { result ≡ next_number calls.now.calls place next }
 {
@@ -63,7 +63,7 @@ fn next_number(calls: &Calls, place: usize, next: Option<u64>) -> Option<u64>
     }
 }
 
-/// Of an end, whose part is at this place.
+/// The outcome of an end, whose part is at this place.
 fn end_outcome(calls: &Calls, call: u64, place: usize, reply: PartReply) -> Outcome
     ensures { result ≡ end_outcome calls.now.calls call place reply }
 {
@@ -85,7 +85,7 @@ fn end_outcome(calls: &Calls, call: u64, place: usize, reply: PartReply) -> Outc
     }
 }
 
-/// Of a deactivation that is over, of a part at this place.
+/// The outcome of a deactivation that is over, for a part at this place.
 fn closed_outcome(calls: &Calls, key: ActorKey, place: usize, reply: PartReply) -> Outcome
     ensures { result ≡ closed_outcome calls.now.calls key place reply }
 {
@@ -101,7 +101,7 @@ fn closed_outcome(calls: &Calls, key: ActorKey, place: usize, reply: PartReply) 
 }
 
 impl Cluster {
-    /// A call of an actor is asked at a member; its number is one more than the calls so far.
+    /// An actor is called at a member; the call's number is one more than the calls so far.
     pub(crate) fn call(
         &mut self,
         call: u64,
@@ -129,7 +129,7 @@ impl Cluster {
         Ok(call_outcome(call, reply))
     }
 
-    /// Where a call was asked, if its part is there.
+    /// Where a call was made, if its part is there.
     fn asked(&self, call: u64) -> Option<CallAt>
         ensures { AskedAt result self.now call }
     {
@@ -145,7 +145,7 @@ impl Cluster {
         }
     }
 
-    /// Somebody asks where a call stands.
+    /// Somebody asks what state a call is in.
     pub(crate) fn poll(&mut self, call: u64) -> Result<Outcome, WorldError>
         ensures { Happens result self.old self.new (lines.Poll call) }
     {
@@ -199,7 +199,7 @@ impl Cluster {
         Ok(hold_outcome(self.parts.step_at(at, PartEvent::Release { key, now })))
     }
 
-    /// The parts at so many places from this one on take a Tick each; the turns that they ended, and these before.
+    /// The `count` parts from this place on take a Tick each; gives the turns that they ended, plus `turns`.
     fn tick_from(&mut self, at: usize, count: usize, turns: u64) -> u64
         requires within { at + count ≤ length self.old.parts }
         requires fits { at + count < 2 ^ 63 }

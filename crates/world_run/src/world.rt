@@ -78,7 +78,7 @@ impl World {
         self.cluster.messages()
     }
 
-    /// How many calls were asked; refused ones count.
+    /// How many calls were made; refused ones count.
     pub fn calls(&self) -> u64
         ensures { result ≡ length self.now.calls }
     {
@@ -92,7 +92,7 @@ impl World {
         self.cluster.begun()
     }
 
-    /// How many turns are open: those that have begun less those that have ended.
+    /// How many turns are open: those that have begun minus those that have ended.
     pub fn open_turns(&self) -> u64
         ensures { result ≡ open_turns self.now }
     {
@@ -106,8 +106,8 @@ impl World {
         self.cluster.last_version(space)
     }
 
-    /// What comes of an event, or why it is refused, which changes nothing. For each cluster of this view it is what comes
-    /// of the event in the model, or there was no memory for it.
+    /// What comes of an event, or why it is refused; a refusal changes nothing. For each cluster with this view it is
+    /// what comes of the event in the model, or `OutOfMemory`.
     pub fn step(&mut self, alloc: Global, event: WorldEvent) -> Result<Outcome, WorldError>
         ensures { (w : ClusterState) → view_of w ≡ self.old → GivesStep result self.old (cluster_step ring_owner key_part w event) self.new }
     {
@@ -122,8 +122,8 @@ impl World {
         result
     }
 
-    /// What comes of events in their order, up to the first one that is refused or wants memory; the outcomes of those
-    /// before it are added at the end.
+    /// What comes of events in their order, up to the first one that is refused or runs out of memory; the outcomes of
+    /// those before it are appended to `outcomes`.
     pub fn run(
         &mut self,
         alloc: Global,

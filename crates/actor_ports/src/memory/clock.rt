@@ -6,7 +6,7 @@ use crate::port::{Clock, PortError};
 use std::alloc::Global;
 use std::marker::Model;
 
-/// A clock that shows given moments in order, and then its last for good.
+/// A clock that shows given moments in order, and after them the last one forever.
 #[derive(Drop)]
 pub struct MemClock {
     shown: u64,
@@ -27,8 +27,8 @@ impl Model for MemClock {
 }
 
 impl MemClock {
-    /// A clock of these moments, which don't fall and are before 9999-01-01T00:00:00Z.
-    /// Want of memory is its one error.
+    /// A clock of these moments, which never fall and are before 9999-01-01T00:00:00Z.
+    /// The only error is `OutOfMemory`.
     pub fn new(alloc: Global, first: u64, later: &[u64]) -> Result<MemClock, PortError>
         requires { Rises first later.now }
         ensures holds { IfOk result (λ s. s ≡ new_clock first later.now) }
@@ -74,7 +74,7 @@ impl Clock for MemClock {
         ensures same { self.new ≡ self.old }
     {}
 
-    /// A clock that has the same moments left.
+    /// A clock that has the same moments left to show.
     fn another(&self) -> Result<MemClock, PortError>
         ensures never_falls { IfOk result (λ other. self.now.shown ≤ other.shown) }
         ensures memory { IfErr result (λ e. e ≡ PortError.OutOfMemory) }

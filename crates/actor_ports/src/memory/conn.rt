@@ -12,8 +12,8 @@ use std::marker::Model;
 /// A connection whose other end sends given bytes, and which keeps what is written to it. It fails at the calls whose
 /// numbers it was given.
 ///
-/// For tests: it tells what was read, what is left and what was written. Reads and writes are numbered together, from
-/// 1; one that ends for want of memory has no number.
+/// For tests: it reports what was read, what is left and what was written. Reads and writes are numbered together,
+/// from 1; a call that answers `OutOfMemory` has no number.
 #[derive(Drop)]
 pub struct MemConn {
     ip: u32,
@@ -43,8 +43,8 @@ impl Model for MemConn {
 }
 
 impl MemConn {
-    /// A connection whose other end sends these bytes, and whose calls of the numbers in `failing` are to fail.
-    /// Want of memory is its one error.
+    /// A connection whose other end sends these bytes, and whose calls with the numbers in `failing` are to fail.
+    /// The only error is `OutOfMemory`.
     pub fn new(alloc: Global, incoming: &[u8], failing: &[u64]) -> Result<MemConn, PortError>
         ensures holds { IfOk result (λ s. s ≡ new_conn incoming.now failing.now) }
         ensures memory { IfErr result (λ e. e ≡ PortError.OutOfMemory) }
@@ -74,14 +74,14 @@ impl MemConn {
         self.written.as_slice()
     }
 
-    // Whether a call of it has failed.
+    // Whether one of its calls has failed.
     pub(super) fn has_failed(&self) -> bool
         ensures { IsTrue result ↔ (0 < self.now.faults) }
     {
         self.faults > 0
     }
 
-    // The same connection as it is dialled there.
+    // The same connection after it was dialled at this address: nothing is read of it or written to it yet.
     pub(super) fn leading_to(mut self, ip: u32, port: u16) -> MemConn
         ensures { result ≡ leading_to (record { ip = ip; port = port }) self }
     {
@@ -95,7 +95,7 @@ impl MemConn {
         self
     }
 
-    // An equal connection. Want of memory is its one error.
+    // An equal connection. The only error is `OutOfMemory`.
     pub(super) fn copy(&self, alloc: Global) -> Result<MemConn, PortError>
         ensures equal { IfOk result (λ other. other ≡ self.now) }
         ensures memory { IfErr result (λ e. e ≡ PortError.OutOfMemory) }
@@ -129,8 +129,8 @@ impl Source for MemConn {
 
     ghost read_traffic = { λ s. Some s.traffic };
 
-    /// Takes as much as is left, up to `most`. It fails exactly where the number of the call is listed.
-    /// Past 2^64 - 1 calls, which can't be counted, it answers `OutOfMemory` with nothing changed.
+    /// Takes as much as is left, up to `most`. It fails exactly if the number of the call is listed.
+    /// After 2^64 - 1 calls no further one can be counted: it answers `OutOfMemory` and changes nothing.
     fn read(&mut self, into: &mut Vec<u8>, most: usize) -> Result<usize, PortError>
         requires { 0 < most }
         ensures most { IfOk result (λ n. n ≤ most) }
@@ -169,8 +169,8 @@ impl Sink for MemConn {
 
     ghost write_traffic = { λ s. Some s.traffic };
 
-    /// Keeps all of the bytes. It fails exactly where the number of the call is listed, and then keeps none.
-    /// Past 2^64 - 1 calls, which can't be counted, it answers `OutOfMemory` with nothing changed.
+    /// Keeps all of the bytes. It fails exactly if the number of the call is listed, and then keeps none.
+    /// After 2^64 - 1 calls no further one can be counted: it answers `OutOfMemory` and changes nothing.
     fn write(&mut self, bytes: &[u8]) -> Result<(), PortError>
         ensures written { WritesAll (Some self.old.traffic.written) (Some self.new.traffic.written) bytes.now result }
         ensures cause { HasCause self.old.faults self.new.faults result }

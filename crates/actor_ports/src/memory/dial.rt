@@ -11,10 +11,10 @@ use std::alloc::Global;
 use std::marker::Model;
 
 /// A dialler that hands out given connections, in order, and keeps those that are given back. It fails at the dials
-/// whose numbers it was given, and past its last connection.
+/// whose numbers it was given, and when no connection is left.
 ///
-/// For tests: it tells where was dialled and what went over each link given back. Dials are numbered from 1; one that
-/// ends for want of memory has no number.
+/// For tests: it reports the places dialled and what went over each link given back. Dials are numbered from 1; one
+/// that answers `OutOfMemory` has no number.
 #[derive(Drop)]
 pub struct MemDial {
     places: Vec<(u32, u16)>,
@@ -46,8 +46,8 @@ impl Model for MemDial {
 }
 
 impl MemDial {
-    /// A dialler of these connections, whose dials of the numbers in `failing` are to fail.
-    /// Want of memory is its one error.
+    /// A dialler of these connections, whose dials with the numbers in `failing` are to fail.
+    /// The only error is `OutOfMemory`.
     pub fn new(alloc: Global, links: Vec<MemConn>, failing: &[u64]) -> Result<MemDial, PortError>
         requires { AreFaultless links.items }
         ensures holds { IfOk result (λ s. s ≡ new_dial links.items failing.now) }
@@ -84,8 +84,8 @@ impl Dial for MemDial {
 
     ghost room = { λ s. s.room };
 
-    /// Hands out the next connection, and takes the room to keep it. It fails only where the number of the dial is
-    /// listed or no connection is left, and where it doesn't fail or lack memory it isn't listed.
+    /// Hands out the next connection, and reserves the room to keep it. It fails only if the number of the dial is
+    /// listed or no connection is left. If it hands out a connection, the number isn't listed.
     fn dial(&mut self, ip: u32, port: u16) -> Result<MemConn, PortError>
         ensures fresh { IfOk result (λ link. link.faults ≡ 0) }
         ensures dials { Dials (λ link. Some link.traffic) (Some (dialled_of self.old)) (Some (dialled_of self.new)) (record { ip = ip; port = port }) result }
@@ -129,7 +129,7 @@ impl Dial for MemDial {
         self.links.push_reserved(link);
     }
 
-    /// A dialler that has the same connections left, with no link given back and no dial counted.
+    /// A dialler that has the same connections left to hand out, with no link given back and no dial counted.
     fn another(&self) -> Result<MemDial, PortError>
         ensures fresh { IfOk result (λ other. other.faults ≡ 0) }
         ensures anew { IfOk result (λ other. StartsAnew (Some (dialled_of self.now)) (Some (dialled_of other))) }

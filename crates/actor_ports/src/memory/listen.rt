@@ -9,8 +9,8 @@ use crate::port::{Listen, PortError};
 use std::alloc::Global;
 use std::marker::Model;
 
-/// A listener that hands out given connections, in order. It fails at the accepts whose numbers it was given, and past
-/// its last connection.
+/// A listener that hands out given connections, in order. It fails at the accepts whose numbers it was given, and when
+/// no connection is left.
 ///
 /// For tests. Accepts are numbered from 1.
 #[derive(Drop)]
@@ -33,8 +33,8 @@ impl Model for MemListen {
 }
 
 impl MemListen {
-    /// A listener of these connections, whose accepts of the numbers in `failing` are to fail.
-    /// Want of memory is its one error.
+    /// A listener of these connections, whose accepts with the numbers in `failing` are to fail.
+    /// The only error is `OutOfMemory`.
     pub fn new(alloc: Global, links: Vec<MemConn>, failing: &[u64]) -> Result<MemListen, PortError>
         requires { AreFaultless links.items }
         ensures holds { IfOk result (λ s. s ≡ new_listen links.items failing.now) }
@@ -57,8 +57,8 @@ impl Listen for MemListen {
 
     ghost listen_faults = { λ s. s.faults };
 
-    /// Hands out the next connection. It fails exactly where the number of the accept is listed or no connection is
-    /// left. Past 2^64 - 1 accepts, which can't be counted, and only there it answers `OutOfMemory`.
+    /// Hands out the next connection. It fails exactly if the number of the accept is listed or no connection is left.
+    /// After 2^64 - 1 accepts no further one can be counted: then, and only then, it answers `OutOfMemory`.
     fn accept(&mut self) -> Result<MemConn, PortError>
         ensures fresh { IfOk result (λ link. link.faults ≡ 0) }
         ensures cause { HasCause self.old.faults self.new.faults result }

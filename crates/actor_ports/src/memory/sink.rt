@@ -10,8 +10,8 @@ use std::marker::Model;
 
 /// A sink that keeps in memory what was written, and fails at the writes whose numbers it was given.
 ///
-/// For tests: it tells what was written, and its faults come where they are asked for.
-/// Writes are numbered from 1; one that ends for want of memory has no number.
+/// For tests: it reports what was written, and its faults come where they are asked for.
+/// Writes are numbered from 1; one that answers `OutOfMemory` has no number.
 #[derive(Drop)]
 pub struct MemSink {
     bytes: Vec<u8>,
@@ -32,8 +32,8 @@ impl Model for MemSink {
 }
 
 impl MemSink {
-    /// An empty sink, whose writes of the numbers in `failing` are to fail.
-    /// Want of memory is its one error.
+    /// An empty sink, whose writes with the numbers in `failing` are to fail.
+    /// The only error is `OutOfMemory`.
     pub fn new(alloc: Global, failing: &[u64]) -> Result<MemSink, PortError>
         ensures holds { IfOk result (λ s. s ≡ new_sink failing.now) }
         ensures memory { IfErr result (λ e. e ≡ PortError.OutOfMemory) }
@@ -62,8 +62,8 @@ impl Sink for MemSink {
 
     ghost write_faults = { λ s. s.faults };
 
-    /// Keeps all of the bytes. It fails exactly where the number of the write is listed, and then keeps none.
-    /// Past 2^64 - 1 writes, which can't be counted, it answers `OutOfMemory` with nothing changed.
+    /// Keeps all of the bytes. It fails exactly if the number of the write is listed, and then keeps none.
+    /// After 2^64 - 1 writes no further one can be counted: it answers `OutOfMemory` and changes nothing.
     fn write(&mut self, bytes: &[u8]) -> Result<(), PortError>
         ensures written { WritesAll (Some self.old.written) (Some self.new.written) bytes.now result }
         ensures cause { HasCause self.old.faults self.new.faults result }

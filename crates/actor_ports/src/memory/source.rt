@@ -10,8 +10,8 @@ use std::marker::Model;
 
 /// A source over bytes in memory, which fails at the reads whose numbers it was given.
 ///
-/// For tests: it tells what is left, and its faults come where they are asked for.
-/// Reads are numbered from 1; one that ends for want of memory has no number.
+/// For tests: it reports what is left, and its faults come where they are asked for.
+/// Reads are numbered from 1; one that answers `OutOfMemory` has no number.
 #[derive(Drop)]
 pub struct MemSource {
     bytes: Vec<u8>,
@@ -33,8 +33,8 @@ impl Model for MemSource {
 }
 
 impl MemSource {
-    /// A source of these bytes, whose reads of the numbers in `failing` are to fail.
-    /// Want of memory is its one error.
+    /// A source of these bytes, whose reads with the numbers in `failing` are to fail.
+    /// The only error is `OutOfMemory`.
     pub fn new(alloc: Global, bytes: &[u8], failing: &[u64]) -> Result<MemSource, PortError>
         ensures holds { IfOk result (λ s. s ≡ new_source bytes.now failing.now) }
         ensures memory { IfErr result (λ e. e ≡ PortError.OutOfMemory) }
@@ -60,8 +60,8 @@ impl Source for MemSource {
 
     ghost read_faults = { λ s. s.faults };
 
-    /// Takes as much as is left, up to `most`. It fails exactly where the number of the read is listed.
-    /// Past 2^64 - 1 reads, which can't be counted, it answers `OutOfMemory` with nothing changed.
+    /// Takes as much as is left, up to `most`. It fails exactly if the number of the read is listed.
+    /// After 2^64 - 1 reads no further one can be counted: it answers `OutOfMemory` and changes nothing.
     fn read(&mut self, into: &mut Vec<u8>, most: usize) -> Result<usize, PortError>
         requires { 0 < most }
         ensures most { IfOk result (λ n. n ≤ most) }

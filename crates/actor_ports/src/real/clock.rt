@@ -1,4 +1,4 @@
-// A clock over the system's.
+// A clock over the system's clock.
 ghost use Rattle.std.specs.Prelude.{◌≡◌, ◌<◌, ◌≤◌, ℕ, IfOk, IfErr};
 
 use crate::port::{Clock, PortError};
@@ -9,7 +9,7 @@ use std::{thread, time};
 // The last moment before 9999-01-01T00:00:00Z.
 const LAST: u64 = 253_370_764_799_999;
 
-/// The system's clock. Where the system's falls back or can't be read, it shows its last moment again.
+/// A clock over the system's. If the system's clock goes back or can't be read, this one shows its last moment again.
 ///
 /// In `main(rt: HostRuntime)`: `let clock = SystemClock::new(rt);`
 #[derive(Drop)]
@@ -60,7 +60,7 @@ impl<C: time::Clock + Copy + Send> Clock for SystemClock<C> {
         thread::sleep(&self.clock, Duration::from_millis(ms));
     }
 
-    /// Takes no memory.
+    /// An equal clock. It takes no memory.
     fn another(&self) -> Result<SystemClock<C>, PortError>
         ensures never_falls { IfOk result (λ other. self.now ≤ other) }
         ensures memory { IfErr result (λ e. e ≡ PortError.OutOfMemory) }
@@ -74,7 +74,7 @@ impl<C: time::Clock + Copy + Send> Clock for SystemClock<C> {
     }
 }
 
-// The milliseconds since 1970 that the system's clock reads, 0 where it can't be read.
+// The milliseconds since 1970 by the system's clock; 0 if it can't be read.
 fn read_ms(clock: &impl time::Clock) -> u64 {
     let Ok(moment) = SystemTime::now(clock) else {
         return 0;
@@ -92,7 +92,7 @@ mod tests {
     use std::sync::atomic::{AtomicUsize, Ordering};
     use std::test::Fail;
 
-    // A clock that reads given moments, and can't be read where none is left.
+    // A clock that gives these moments in order, and can't be read when none is left.
     #[derive(Drop)]
     struct Told<'a> {
         moments: &'a [u64],

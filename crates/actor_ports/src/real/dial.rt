@@ -13,7 +13,7 @@ use std::marker::Model;
 use std::net::{IpAddr, Ipv4Addr, Net, SocketAddr, TcpStream};
 use std::time::Duration;
 
-/// A dialler over TCP. It tells nothing of what was dialled.
+/// A dialler over TCP. It reports nothing of what was dialled.
 ///
 /// In `main(rt: HostRuntime)`, to connect within 5 seconds, and to wait 10 for each byte:
 /// `let dialler = TcpDial::new(rt.alloc(), rt, Some(5_000), Some(10_000));`
@@ -39,9 +39,9 @@ impl<N: Net<Stream = TcpStream> + Copy + Send> Model for TcpDial<N> {
 }
 
 impl<N: Net<Stream = TcpStream> + Copy + Send> TcpDial<N> {
-    /// A dialler whose dials end after `connect_ms` milliseconds without an answer, and whose links fail after
-    /// `wait_ms` milliseconds in which no byte comes or goes. `None` waits for as long as the system does, and 0 is
-    /// taken for 1.
+    /// A dialler whose dials fail after `connect_ms` milliseconds without an answer, and whose links fail after
+    /// `wait_ms` milliseconds in which no byte comes or goes. `None` waits for as long as the system does, and 0 counts
+    /// as 1.
     pub fn new(alloc: Global, net: N, connect_ms: Option<u64>, wait_ms: Option<u64>) -> TcpDial<N>
         ensures { result ≡ record { room = 0; faults = 0 } }
     {
@@ -65,7 +65,7 @@ impl<N: Net<Stream = TcpStream> + Copy + Send> Dial for TcpDial<N> {
 
     ghost room = { λ s. s.room };
 
-    /// Connects, and counts a failure. Where the faults and the links that are out reach 2^64 - 1 together no further
+    /// Connects; a failure is counted. When the faults and the links that are out together reach 2^64 - 1, no further
     /// one can be counted: it answers `OutOfMemory` and connects to nothing.
     fn dial(&mut self, ip: u32, port: u16) -> Result<StreamConn<TcpStream>, PortError>
         ensures fresh { IfOk result (λ link. link.faults ≡ 0) }
@@ -118,7 +118,7 @@ impl<N: Net<Stream = TcpStream> + Copy + Send> Dial for TcpDial<N> {
     }
 }
 
-// A stream to the address, on which reads and writes wait so long.
+// A stream to the address, whose reads and writes wait at most `wait_ms` milliseconds.
 fn connect<N: Net<Stream = TcpStream>>(
     net: &N,
     ip: u32,

@@ -12,7 +12,7 @@ use std::net::{OpenListener, TcpStream};
 
 /// A listener over TCP.
 ///
-/// In `main(rt: HostRuntime)`, for connections on which no byte comes for a minute at most:
+/// In `main(rt: HostRuntime)`, for connections that fail after a minute without a byte:
 /// `let listener = TcpListen::new(rt.alloc(), TcpListener::bind(&rt, "127.0.0.1:7400")?, Some(60_000));`
 #[derive(Drop)]
 pub struct TcpListen<L: OpenListener<Stream = TcpStream> + Drop + Send> {
@@ -32,7 +32,7 @@ impl<L: OpenListener<Stream = TcpStream> + Drop + Send> Model for TcpListen<L> {
 
 impl<L: OpenListener<Stream = TcpStream> + Drop + Send> TcpListen<L> {
     /// A listener whose connections fail after `wait_ms` milliseconds in which no byte comes or goes. `None` waits for
-    /// as long as the system does, and 0 is taken for 1.
+    /// as long as the system does, and 0 counts as 1.
     pub fn new(alloc: Global, listener: L, wait_ms: Option<u64>) -> TcpListen<L>
         ensures { result ≡ record { inner = listener; faults = 0 } }
     {
@@ -50,7 +50,7 @@ impl<L: OpenListener<Stream = TcpStream> + Drop + Send> Listen for TcpListen<L> 
 
     ghost listen_faults = { λ s. s.faults };
 
-    /// Waits for the next connection, and counts a failure. After 2^64 - 1 failures no further one can be counted: it
+    /// Waits for the next connection; a failure is counted. After 2^64 - 1 failures no further one can be counted: it
     /// answers `OutOfMemory` and accepts nothing.
     fn accept(&mut self) -> Result<StreamConn<TcpStream>, PortError>
         ensures fresh { IfOk result (λ link. link.faults ≡ 0) }
@@ -69,7 +69,7 @@ impl<L: OpenListener<Stream = TcpStream> + Drop + Send> Listen for TcpListen<L> 
     }
 }
 
-// The next stream, again after each interruption.
+// The next stream; it tries again after each interruption.
 fn accept_stream(
     listener: &impl OpenListener<Stream = TcpStream>,
     wait_ms: Option<u64>,

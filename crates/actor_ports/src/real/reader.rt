@@ -1,4 +1,4 @@
-// A source over a reader of the library.
+// A source over one of the library's readers.
 ghost use Rattle.std.specs.Prelude.{◌≡◌, ◌<◌, ◌≤◌, None, IfOk, IfErr, IfSome, IfNone, length, take, vec_len};
 ghost use Rattle.std.specs.Io.KnownBytes.{Consumes, IsAtEnd, Keeps};
 ghost use Rattle.actor_ports.specs.Port.{HasCause, Appends, faults_after};
@@ -12,7 +12,7 @@ use std::marker::Model;
 // The most bytes that one read asks the library for.
 const PIECE: usize = 65_536;
 
-/// A source over one of the library's readers. It tells of what is left whatever the reader tells.
+/// A source over one of the library's readers. It reports what is left if the reader does.
 ///
 /// Over standard input, in `main(rt: HostRuntime)`:
 /// `let input = ReaderSource::new(rt.alloc(), rt.reader())?;`
@@ -35,8 +35,8 @@ impl<R: Read + Drop> Model for ReaderSource<R> {
 }
 
 impl<R: Read + Drop> ReaderSource<R> {
-    /// A source over this reader, with the room for one piece of 65,536 bytes.
-    /// Want of memory is its one error, and drops the reader.
+    /// A source over this reader, with room for one piece of 65,536 bytes.
+    /// The only error is `OutOfMemory`, which drops the reader.
     pub fn new(alloc: Global, reader: R) -> Result<ReaderSource<R>, PortError>
         ensures holds { IfOk result (λ s. s ≡ record { inner = reader; faults = 0 }) }
         ensures memory { IfErr result (λ e. e ≡ PortError.OutOfMemory) }
@@ -55,7 +55,7 @@ impl<R: Read + Drop> Source for ReaderSource<R> {
 
     ghost read_faults = { λ s. s.faults };
 
-    /// Reads once, at most 65,536 bytes, and again after each interruption. Each failure is counted.
+    /// Reads once, at most 65,536 bytes; it tries again after each interruption. Each failure is counted.
     /// After 2^64 - 1 failures no further one can be counted: it answers `OutOfMemory` and reads nothing.
     fn read(&mut self, into: &mut Vec<u8>, most: usize) -> Result<usize, PortError>
         requires { 0 < most }
@@ -76,7 +76,7 @@ impl<R: Read + Drop> Source for ReaderSource<R> {
     }
 }
 
-// The room for one piece.
+// Room for one piece.
 pub(super) fn make_piece(alloc: Global) -> Result<Vec<u8>, PortError>
     ensures length { IfOk result (λ piece. vec_len piece ≡ 65536) }
     ensures memory { IfErr result (λ e. e ≡ PortError.OutOfMemory) }
@@ -87,7 +87,8 @@ pub(super) fn make_piece(alloc: Global) -> Result<Vec<u8>, PortError>
     }
 }
 
-// One read of the library, at most a piece, appended to `into`. A failure is counted while the count can rise.
+// Appends what one read of the library gives, at most a piece, to `into`. A failure is counted as long as the count
+// can rise.
 pub(super) fn read_counted<R: Read>(
     reader: &mut R,
     piece: &mut Vec<u8>,
@@ -115,7 +116,7 @@ pub(super) fn read_counted<R: Read>(
     Ok(count)
 }
 
-// One read of the library into the front of `piece`, again after each interruption.
+// One read of the library into the first bytes of `piece`; it tries again after each interruption.
 fn read_piece<R: Read>(reader: &mut R, piece: &mut [u8], room: usize) -> Option<usize>
     requires some { 0 < room }
     requires within { room ≤ length piece.old }

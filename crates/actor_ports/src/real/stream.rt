@@ -1,4 +1,4 @@
-// A connection over a stream of the library.
+// A connection over one of the library's streams.
 ghost use Rattle.std.specs.Prelude.{◌≡◌, ◌<◌, ◌≤◌, ◌↔◌, None, IfOk, IfErr, IsErrOf, refl};
 ghost use Rattle.actor_ports.specs.Port.{HasCause, Appends, faults_after};
 ghost use Rattle.actor_ports.specs.Real.{Counted, ReadsThrough, WritesThrough};
@@ -10,9 +10,9 @@ use std::alloc::Global;
 use std::io::{Read, Write};
 use std::marker::Model;
 
-/// A connection over one of the library's streams. It tells nothing of the bytes that go over it.
+/// A connection over one of the library's streams. It reports nothing of the bytes that go over it.
 ///
-/// A stream that has a time-out fails where it passes, which counts as any failure does.
+/// A stream that has a time-out fails when the time is over; that counts like any other failure.
 #[derive(Drop)]
 pub struct StreamConn<S: Read + Write + Drop + Send> {
     stream: S,
@@ -32,8 +32,8 @@ impl<S: Read + Write + Drop + Send> Model for StreamConn<S> {
 }
 
 impl<S: Read + Write + Drop + Send> StreamConn<S> {
-    /// A connection over this stream, with the room for one piece of 65,536 bytes.
-    /// Want of memory is its one error, and drops the stream.
+    /// A connection over this stream, with room for one piece of 65,536 bytes.
+    /// The only error is `OutOfMemory`, which drops the stream.
     pub fn new(alloc: Global, stream: S) -> Result<StreamConn<S>, PortError>
         ensures holds { IfOk result (λ s. s ≡ record { inner = stream; faults = 0 }) }
         ensures memory { IfErr result (λ e. e ≡ PortError.OutOfMemory) }
@@ -59,7 +59,7 @@ impl<S: Read + Write + Drop + Send> Source for StreamConn<S> {
 
     ghost read_faults = { λ s. s.faults };
 
-    /// Reads once, at most 65,536 bytes, and again after each interruption. Each failure is counted.
+    /// Reads once, at most 65,536 bytes; it tries again after each interruption. Each failure is counted.
     /// After 2^64 - 1 failures no further one can be counted: it answers `OutOfMemory` and reads nothing.
     fn read(&mut self, into: &mut Vec<u8>, most: usize) -> Result<usize, PortError>
         requires { 0 < most }
@@ -85,8 +85,9 @@ impl<S: Read + Write + Drop + Send> Sink for StreamConn<S> {
 
     ghost write_faults = { λ s. s.faults };
 
-    /// Writes until all is written, again after each interruption, and flushes. Each failure is counted.
-    /// After 2^64 - 1 failures no further one can be counted: only then it answers `OutOfMemory`, and writes nothing.
+    /// Writes until all is written, going on after each interruption, and flushes. Each failure is counted.
+    /// After 2^64 - 1 failures no further one can be counted: then, and only then, it answers `OutOfMemory` and writes
+    /// nothing.
     fn write(&mut self, bytes: &[u8]) -> Result<(), PortError>
         ensures cause { HasCause self.old.faults self.new.faults result }
 

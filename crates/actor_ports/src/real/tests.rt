@@ -1,4 +1,4 @@
-// The forms over TCP on one machine.
+// A dialler and a listener over TCP on one machine.
 use super::{TcpDial, TcpListen};
 use crate::port::{Dial, Listen, PortError, Sink, Source};
 use std::net::{Ipv4Addr, SocketAddr, TcpListener};

@@ -1,4 +1,4 @@
-// A sink over a writer of the library.
+// A sink over one of the library's writers.
 ghost use Rattle.std.specs.Prelude.{◌≡◌, ◌<◌, ◌≤◌, ◌↔◌, None, IfSome, IfNone, IsErrOf, IsTrue, length, take};
 ghost use Rattle.std.specs.Io.KnownBytes.{Appends, Keeps};
 ghost use Rattle.actor_ports.specs.Port.{HasCause, faults_after};
@@ -8,7 +8,7 @@ use crate::port::{PortError, Sink};
 use std::io::{ErrorKind, Write};
 use std::marker::Model;
 
-/// A sink over one of the library's writers. It tells of what was written whatever the writer tells.
+/// A sink over one of the library's writers. It reports what was written if the writer does.
 ///
 /// Over standard output, in `main(rt: HostRuntime)`:
 /// `let output = WriterSink::new(io::writer(&rt));`
@@ -40,8 +40,9 @@ impl<W: Write + Drop> Sink for WriterSink<W> {
 
     ghost write_faults = { λ s. s.faults };
 
-    /// Writes until all is written, again after each interruption, and flushes. Each failure is counted.
-    /// After 2^64 - 1 failures no further one can be counted: only then it answers `OutOfMemory`, and writes nothing.
+    /// Writes until all is written, going on after each interruption, and flushes. Each failure is counted.
+    /// After 2^64 - 1 failures no further one can be counted: then, and only then, it answers `OutOfMemory` and writes
+    /// nothing.
     fn write(&mut self, bytes: &[u8]) -> Result<(), PortError>
         ensures cause { HasCause self.old.faults self.new.faults result }
 
@@ -53,7 +54,7 @@ impl<W: Write + Drop> Sink for WriterSink<W> {
     }
 }
 
-// Writes all of the bytes and flushes. A failure is counted while the count can rise.
+// Writes all of the bytes and flushes. A failure is counted as long as the count can rise.
 pub(super) fn write_counted<W: Write>(
     writer: &mut W,
     faults: &mut u64,
@@ -73,7 +74,7 @@ pub(super) fn write_counted<W: Write>(
     Ok(())
 }
 
-// Writes all of the bytes and flushes, or answers false after a front of them.
+// Writes all of the bytes and flushes; or answers false, and a prefix of them was written.
 fn write_whole<W: Write>(writer: &mut W, bytes: &[u8]) -> bool
     ensures whole { IsTrue result → Appends (W.contents writer.old) (W.contents writer.new) bytes.now }
     ensures front { WritesKnownFront (W.contents writer.old) (W.contents writer.new) bytes.now }
@@ -88,7 +89,7 @@ fn write_whole<W: Write>(writer: &mut W, bytes: &[u8]) -> bool
     writer.flush().is_ok()
 }
 
-// One write of the library, again after each interruption. Where nothing is taken it has failed.
+// One write of the library; it tries again after each interruption. A write that takes nothing has failed.
 fn write_piece<W: Write>(writer: &mut W, bytes: &[u8]) -> Option<usize>
     ensures some { IfSome result (λ n. 0 < n) }
     ensures bound { IfSome result (λ n. n ≤ length bytes.now) }

@@ -6,13 +6,13 @@ use crate::{Machine, News};
 /// What happens to a counter.
 #[derive(Drop)]
 pub enum Count {
-    /// It counts one more.
+    /// The counter counts one more.
     Up,
-    /// Somebody asks how far it has come.
+    /// A caller asks how far it has counted.
     Look,
 }
 
-/// A count, which is the answer to each event.
+/// A count. The counter answers each event with it.
 #[derive(Drop)]
 pub struct Counter {
     pub count: u64,

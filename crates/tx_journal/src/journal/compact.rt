@@ -1,4 +1,4 @@
-// Compaction: the file that isn't live gets new rows, and then is the live one.
+// Compaction: new rows are written to the file that isn't live, which then becomes the live one.
 ghost use Rattle.std.specs.Prelude.{◌≡◌, ◌+◌, ℕ, OnOk, Some, None};
 ghost use Rattle.disk_model.specs.Disk.{Tells};
 ghost use Rattle.tx_journal.specs.Calls.{JournalState, told, next_number, start_refusal, Starts, Keeps, Kept, HasBegun, add_refusal, given_up, Adds, HasRow, end_refusal, Turns, Replaces, Replaced};
@@ -11,12 +11,12 @@ use crate::format::Format;
 use crate::record::fill;
 use disk_model::Disk;
 
-// The first number behind which there is no further Generation.
+// A Generation of this number or above has none after it.
 const LAST: u64 = 1 << 62;
 
 impl<D: Disk> Journal<D> {
-    /// Starts a compaction: the file that isn't live is shut, cut, and gets its name and a Generation one above the live file's.
-    /// One that is under way is started anew.
+    /// Starts a compaction: the file that isn't live is closed and cut, and gets its name and a Generation one above
+    /// the live file's. A compaction under way is started anew.
     pub fn compact_start(&mut self) -> Result<(), JournalError>
         ensures refused { (e : JournalError) → start_refusal self.old ≡ Some e → (result ≡ Err e) × (self.new ≡ self.old) }
         ensures taken { start_refusal self.old ≡ None → Starts result self.old self.new }
@@ -45,7 +45,7 @@ impl<D: Disk> Journal<D> {
     }
 
     /// Adds a row to the compaction under way. It isn't synced before `compact`.
-    /// A row that is too long or has no room gives the compaction up.
+    /// If the row is too long or there is no room for it, the compaction is given up.
     pub fn compact_add(&mut self, payload: &[u8]) -> Result<(), JournalError>
         ensures refused { (e : JournalError) → add_refusal self.old payload.now ≡ Some e → (result ≡ Err e) × (self.new ≡ given_up e self.old) }
         ensures taken { add_refusal self.old payload.now ≡ None → Adds payload.now result self.old self.new }

@@ -14,8 +14,8 @@ use disk_model::Disk;
 use std::alloc::Global;
 
 impl<D: Disk> Journal<D> {
-    /// Opens two files, of which the made one with the greater Generation is live; at equal numbers the first is.
-    /// Where neither is made it makes the first, if `create` bids so. A refused opening hands both disks back.
+    /// Opens two files. The made one with the greater Generation is live; if the numbers are equal, the first is.
+    /// If neither is made and `create` is true, it makes the first. A refused opening hands both disks back.
     pub fn open_pair(
         alloc: Global,
         first: D,

@@ -17,7 +17,7 @@ fn open_two(
     }
 }
 
-// A new pair with two payloads, whose second disk fails at the call of this number.
+// A new pair with two payloads, whose second disk fails at the calls of these numbers.
 fn two_payloads(alloc: Global, failing: &[u64]) -> Result<Journal<MemDisk>, Fail> {
     let first = MemDisk::new(alloc, b"", &[])?;
     let second = MemDisk::new(alloc, b"", failing)?;
@@ -76,7 +76,7 @@ fn compaction_writes_generation_and_rows(rt: HostRuntime) -> Result<(), Fail> {
         return Err(refused());
     };
     assert_eq!(rt; row.as_slice(), b"yz".as_slice());
-    // The next one goes into the first file, with the number 2.
+    // The next compaction goes into the first file, with the number 2.
     assert_eq!(rt; compact_all(&mut journal), Ok(()));
     assert_eq!(rt; journal.disk().bytes().get(29), Some(&2));
     assert_eq!(rt; count(rt.alloc(), &mut journal)?, 2);
@@ -111,7 +111,7 @@ fn stopped_compaction_keeps_contents(rt: HostRuntime) -> Result<(), Fail> {
 
 #[test]
 fn abandoned_compaction_is_started_again(rt: HostRuntime) -> Result<(), Fail> {
-    // The second start finds a closed gate, and writes behind it: calls 11 to 17.
+    // The second start finds a closed gate and writes only behind it: calls 11 to 17.
     for stop in 11..19 {
         let mut journal = two_payloads(rt.alloc(), &[stop])?;
         assert_eq!(rt; copy_rows(&mut journal), Ok(()));

@@ -6,7 +6,7 @@ use crate::world::World;
 use actor_names::Member;
 
 impl World {
-    /// The member of this number, counted from 0 in order of boot, if so many nodes have started.
+    /// The member of this number, counted from 0 in order of boot, if that many nodes have started.
     pub fn member(&self, n: u64) -> Option<Member>
         ensures { result ≡ member_in (slice_get self.now.parts (n * self.now.settings.parts)) }
     {

@@ -1,7 +1,7 @@
 use Rattle.std.proofs.Common.{◌≡◌, ◌≤◌, ◌+◌, ◌-◌, length, take}
 use Rattle.disk_model.proofs.file.fill_from.Given as goal
 
--- what was appended so far is counted, and what stood before stands
+-- what was appended so far is counted, and what was there before is unchanged
 abbrev pub invariant-loop-done : goal.invariant-loop-done
 invariant-loop-done g l =
     (l.done ≤ l.most) × (length l.piece ≡ 65536) × (length l.into.items ≡ length l.initial.into.items + l.done) × (take (length l.initial.into.items) l.into.items ≡ l.initial.into.items)

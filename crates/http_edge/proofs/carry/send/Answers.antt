@@ -3,7 +3,7 @@ use Rattle.actor_ports.specs.Traffic.{Sends}
 use Rattle.http_edge.proofs.Carried.{writes_from}
 use Rattle.http_edge.proofs.carry.send.Goals as goal
 
--- what a write makes of a connection's traffic is told on its other side too
+-- how a write changes a connection's traffic also holds for the traffic that its reads report
 pub returns-clause-writes : goal.returns-clause-writes
 returns-clause-writes g c =
     let law = (g.met.C.Conn g.world.𝓛 g.world.𝓜 g.world.𝓡 ((λ s x. x), (λ x. x), (λ x. x), (λ x. x))).one_traffic in

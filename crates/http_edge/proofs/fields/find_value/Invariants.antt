@@ -5,7 +5,7 @@ use Rattle.http_edge.specs.Fields.{values_of}
 use Rattle.http_edge.specs.Steps.{option_span}
 use Rattle.http_edge.proofs.fields.find_value.Given as goal
 
--- the value that was found, and those of the fields that are left
+-- the value that was found, and those of the fields not looked at yet
 abbrev pub invariant-loop-span : goal.invariant-loop-span
 invariant-loop-span l =
     record {

@@ -3,7 +3,7 @@ use Rattle.http_edge.specs.Arrivals.{Extends}
 use Rattle.http_edge.specs.Fields.{most_head}
 use Rattle.http_edge.proofs.parts.await_part.Given as goal
 
--- what came over the connection so far isn't taken
+-- what came over the connection so far isn't taken yet
 abbrev pub invariant-looks : goal.invariant-looks
 invariant-looks g l =
     record {

@@ -2,7 +2,7 @@ use Rattle.std.proofs.Common.{◌≡◌, ◌≤◌, ℕ, suc, ◌+◌, List, [],
 use Rattle.std.proofs.lemmas.List.{take-append-le}
 use Rattle.tx_journal.proofs.record.fill.Goals as goal
 
--- a byte in front of what was filled
+-- a byte before what was filled
 filled : (n m : ℕ) (buffer part post text : List ℕ) → m ≡ suc n → 1 ≤ length buffer → n ≤ length part → take n part ≡ text → take m (take 1 (slice_set buffer 0 1) ++ (part ++ post)) ≡ 1 ∷ text
 filled n m [] part post text is some long same = absurd (omega (arith, some))
 filled n m (b ∷ buffer) part post text is some long same =

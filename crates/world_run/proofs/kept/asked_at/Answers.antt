@@ -14,7 +14,7 @@ use Rattle.world_run.proofs.kept.asked_at.Goals as goal
 found : (ts : List PlacementTable) (ks : List Kept) (number : ℕ) (x y : Kept) → number ≢ 0 → number ≤ length ks → x ≡ get_or ks (number - 1) x → x ≡ y → asked_of (numbered (messages_in ts ks) number) ≡ asked_of (Some (message_in ts y))
 found ts ks number x y some within e f = ap asked_of (numbered_at ts ks number x some within e ∙ ap (λ (z : Kept). Some (message_in ts z)) f)
 
--- an answer is none
+-- an answer isn't a request
 no_request : (ts : List PlacementTable) (x : Kept) → ((h : HostInfo) → x ≡ kept.Register h → ⊥) → ((m : Member) → x ≡ kept.Beat m → ⊥) → ((m : Member) (s : AckStage) (v : ℕ) → x ≡ kept.Ack m s v → ⊥) → ((m : Member) → x ≡ kept.Leave m → ⊥) → asked_of (Some (message_in ts x)) ≡ None
 no_request ts (kept.Register h) a b c d = absurd (a h refl)
 no_request ts (kept.Beat m) a b c d = absurd (b m refl)

@@ -1,4 +1,4 @@
--- The table is held against the class at each of the 256 bytes, by computing.
+-- The table is compared with the class at each of the 256 bytes, by computation.
 use Rattle.std.proofs.Common.{not, nat_eq, get_or, refl, arith}
 use Rattle.std.proofs.lemmas.Bool.{agree_below_at}
 use Rattle.actor_names.specs.Names.{is_type_byte}

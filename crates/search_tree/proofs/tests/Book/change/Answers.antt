@@ -9,7 +9,7 @@ use Rattle.search_tree.specs.declared.tests.Entry.{Entry}
 use Rattle.search_tree.proofs.Orders.{cut, place_element}
 use Rattle.search_tree.proofs.tests.Book.change.Goals as goal
 
--- a change that leaves each element its place
+-- a change that keeps each element in its place
 module _ {E : Type 0} (cmp : E → E → Ordering) (f : E → E) (left : (a b : E) → cmp (f a) b ≡ cmp a b) (right : (a b : E) → cmp a (f b) ≡ cmp a b) (at : E → Ordering) where
   below_changed : (e : E) (xs : List E) → IsBelow cmp e xs → IsBelow cmp e (with_changed at f xs)
   below_changed e [] b = tt

@@ -5,7 +5,7 @@ use Rattle.tx_journal.proofs.Records.{rest_within}
 use Rattle.tx_journal.proofs.Grows.{append_crash, append_done, append_live, append_waits}
 use Rattle.tx_journal.proofs.journal.Journal.append.Goals as goal
 
--- the bytes that are written are the record, which stands in the front of the buffer
+-- the bytes that are written are the record, which is at the start of the buffer
 record_is : (n m len : ℕ) (front rest whole text : List ℕ) → whole ≡ take len (front ++ rest) → m ≡ n → n ≤ len → n ≤ length front → take n front ≡ 1 ∷ text → drop 1 (take m whole) ≡ text
 record_is n m len front rest whole text is same within long filled =
     ap (λ (k : ℕ). drop 1 (take k whole)) same ∙ ap (λ (l : List ℕ). drop 1 (take n l)) is ∙ ap (drop 1) (take-take n len (front ++ rest) within ∙ take-append-le n front rest long ∙ filled)

@@ -7,7 +7,7 @@ use Rattle.tx_journal.proofs.Compacts.{live_two, row_within, row_crash, row_kept
 use Rattle.tx_journal.proofs.Grows.{waits_on}
 use Rattle.tx_journal.proofs.journal.Journal.compact_add.Goals as goal
 
--- the bytes that are written stand in the front of the buffer
+-- the bytes that are written are at the start of the buffer
 record_is : (n m len : ℕ) (front rest whole text : List ℕ) → whole ≡ take len (front ++ rest) → m ≡ n → n ≤ len → n ≤ length front → take n front ≡ text → take m whole ≡ text
 record_is n m len front rest whole text is same within long filled =
     ap (λ (k : ℕ). take k whole) same ∙ ap (λ (l : List ℕ). take n l) is ∙ take-take n len (front ++ rest) within ∙ take-append-le n front rest long ∙ filled

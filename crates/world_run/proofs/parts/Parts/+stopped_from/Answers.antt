@@ -17,7 +17,7 @@ unwrap-receipt-requires t c = (let h = part_at c.args.self.now.parts c.args.at (
 pub overflow_add-at : goal.overflow_add-at
 overflow_add-at t c = omega arith
 
--- what the first receipt tells of all
+-- what the first receipt says of all
 first_told : (ps : List PartState) (at count : ℕ) (r : ReceiptState) (o : Option ReceiptState) → at + count ≤ length ps → count ≢ 0 → o ≡ Some r → ((p : PartState) → slice_get ps at ≡ Some p → o ≡ Some (receipt_of ring_owner p)) →
     are_all_stopped (segment ps at count) ≡ (is_stopped_stage r.stage && are_all_stopped (segment ps (at + 1) (count - 1)))
 first_told ps at count r o l some e told =

@@ -20,7 +20,7 @@ returns-in_default-clause-ok c =
 kept_messages : (c : goal.After-unwrap) → messages_in (told_tables c.self.inside.tables.items c.self.inside.pending c.self.inside.placement.state) c.self.inside.messages.items ≡ c.args.self.now.messages
 kept_messages c = ap (λ (v : PostView). v.messages) c.self.view_is
 
--- all tables that were told are built
+-- all tables that were sent are built
 all_built : (c : goal.After-unwrap) → told_tables c.self.inside.tables.items c.self.inside.pending c.self.inside.placement.state ≡ c.settle.new.tables.items
 all_built c =
     sym c.in_ok-settle.ensures.same ∙ settled c.settle.new.tables.items c.settle.new.pending c.self.inside.placement.state c.self.inside.placement.state c.in_ok-settle.ensures.settled ∙ append-nil c.settle.new.tables.items

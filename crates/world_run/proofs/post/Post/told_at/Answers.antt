@@ -13,7 +13,7 @@ use Rattle.world_run.specs.Post.{PostView, message_in, messages_in, told_tables,
 use Rattle.world_run.proofs.Posts.{numbered_at}
 use Rattle.world_run.proofs.post.Post.told_at.Goals as goal
 
--- what the message of this number tells
+-- what the message of this number brings
 found : (ts : List PlacementTable) (v : PostView) (ks : List Kept) (number now : ℕ) (x y : Kept) → v.messages ≡ messages_in ts ks → number ≢ 0 → number ≤ length ks → x ≡ get_or ks (number - 1) x → x ≡ y → told_of (Some (message_in ts y)) now ≡ told_of (numbered v.messages number) now
 found ts v ks number now x y w some within e f =
     sym (ap (λ (ms : List Message). told_of (numbered ms number) now) w ∙ ap (λ (o : Option Message). told_of o now) (numbered_at ts ks number x some within e ∙ ap (λ (z : Kept). Some (message_in ts z)) f))

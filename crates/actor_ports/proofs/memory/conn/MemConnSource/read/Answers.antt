@@ -1,4 +1,4 @@
--- What was read so far and what is left meet at the new place.
+-- After the read, what was read so far ends where what is left begins: at the new place.
 use Rattle.std.proofs.Common.{◌+◌, ap, ◌∙◌, Some, Ok}
 use Rattle.actor_ports.specs.Traffic.{took}
 use Rattle.actor_ports.specs.Memory.{ConnMemory, conn_read}
