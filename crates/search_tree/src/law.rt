@@ -1,5 +1,6 @@
 // What holds of the definitions. The function that states it does nothing.
 ghost use Rattle.search_tree.specs.Orders.{OrderLaw};
+ghost use Rattle.search_tree.specs.Walks.{WalkLaw};
 
 use crate::element::Element;
 
@@ -7,4 +8,9 @@ use crate::element::Element;
 /// or all matches are removed.
 pub fn order_law<E: Element>()
     ensures { OrderLaw E.cmp }
+{}
+
+/// A walk over elements in order gives each of them once, and putting them in this order makes the list anew.
+pub fn walk_law<E: Element>()
+    ensures { WalkLaw E.cmp }
 {}

@@ -12,9 +12,10 @@ mod change;
 mod element;
 mod law;
 mod tree;
+mod walk;
 
 pub use element::{Change, Element, Probe};
-pub use law::order_law;
+pub use law::{order_law, walk_law};
 pub use tree::{Node, Tree, leaf};
 
 #[cfg(test)]

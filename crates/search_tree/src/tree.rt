@@ -2,9 +2,12 @@
 ghost use Rattle.std.specs.Prelude.{◌≡◌, ◌≤◌, ◌^◌, [], ◌++◌, ◌∷◌, length, option_copied, IfOk};
 ghost use Rattle.search_tree.specs.Cuts.{IsCut, IsRun};
 ghost use Rattle.search_tree.specs.Lists.{found, first_behind, count_at};
+ghost use Rattle.search_tree.specs.Orders.{Ascends};
+ghost use Rattle.search_tree.specs.Walks.{from_place, following};
 ghost use Rattle.search_tree.specs.Trees.{node_items, root_items};
 
 use crate::element::{Element, Probe};
+use crate::walk::Behind;
 use std::alloc::{AllocError, Global};
 use std::cmp::Ordering;
 use std::marker::Model;
@@ -120,6 +123,14 @@ impl<E: Element> Tree<E> {
                 },
             },
         }
+    }
+
+    /// The first element behind this one in the order, or the first one of all: the next step of a walk.
+    pub fn following(&self, after: Option<&E>) -> Option<&E>
+        requires { Ascends E.cmp self.now }
+        ensures { option_copied result ≡ following E.cmp (option_copied after.entry) self.now }
+    {
+        self.next(&Behind { after })
     }
 
     /// The first element as `Element::first` says, found by the summaries.

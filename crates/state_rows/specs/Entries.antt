@@ -63,3 +63,13 @@ after_op actor now (Delete key) rows = without (at_row actor key) rows
 abbrev pub after_ops : ActorKey → ℕ → List StateOp → List StateEntry → List StateEntry
 after_ops actor now [] rows = rows
 after_ops actor now (op ∷ ops) rows = after_ops actor now ops (after_op actor now op rows)
+
+-- ---- rows that were kept
+
+abbrev pub restored_over : Option StateEntry → StateEntry → List StateEntry → Option (List StateEntry)
+restored_over None e rows = Some (with_put row_cmp e rows)
+restored_over (Some there) e rows = None
+
+-- the entries with one that was kept as it is; None if its actor and key have one already
+abbrev pub restored : StateEntry → List StateEntry → Option (List StateEntry)
+restored e rows = restored_over (entry_at e.actor e.key rows) e rows

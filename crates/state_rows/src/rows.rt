@@ -1,9 +1,10 @@
 // The state of actors.
-ghost use Rattle.std.specs.Prelude.{◌≡◌, ◌<◌, [], List, IfOk, IfErr, IfSome, option_copied};
+ghost use Rattle.std.specs.Prelude.{◌≡◌, ◌<◌, [], List, false, Some, None, if◌then◌else◌, IfOk, IfErr, IfSome, OnErr, option_copied};
 ghost use Rattle.search_tree.specs.Orders.{Ascends};
+ghost use Rattle.search_tree.specs.Walks.{following};
 ghost use Rattle.state_rows.specs.declared.entry.StateEntry.{StateEntry};
 ghost use Rattle.state_rows.specs.Checks.{ops_fault, or_memory};
-ghost use Rattle.state_rows.specs.Entries.{row_cmp, value_at, after_ops};
+ghost use Rattle.state_rows.specs.Entries.{row_cmp, value_at, after_ops, restored};
 ghost use Rattle.state_rows.specs.Prepared.{after_tx};
 
 use crate::check::ops_fault;
@@ -12,8 +13,8 @@ use crate::error::StateError;
 use crate::op::StateOp;
 use crate::prepared::{PreparedTx, make, prepared};
 use crate::standing::RowPlace;
-use actor_names::ActorKey;
-use search_tree::Tree;
+use actor_names::{ActorKey, OutOfMemory};
+use search_tree::{Tree, leaf};
 use std::alloc::Global;
 use std::marker::Model;
 
@@ -108,5 +109,32 @@ impl StateRows {
             }
         }
         Some(entry.value.as_slice())
+    }
+
+    /// The first entry behind this one in the order, or the first one of all: the next step of a walk over the entries,
+    /// also those whose time is over. It takes no memory.
+    pub fn following(&self, after: Option<&StateEntry>) -> Option<&StateEntry>
+        ensures { option_copied result ≡ following row_cmp (option_copied after.entry) self.now }
+    {
+        self.tree.following(after)
+    }
+
+    /// Takes in an entry that was kept, as it is. Answers false if its actor and key have one already; then, and after
+    /// `OutOfMemory`, nothing has changed.
+    pub fn restore(&mut self, entry: StateEntry) -> Result<bool, OutOfMemory>
+        ensures done { IfOk result (λ done. restored entry self.old ≡ (if done then Some self.new else None)) }
+        ensures refused { IfOk result (λ done. done ≡ false → self.new ≡ self.old) }
+        ensures err { OnErr result (self.new ≡ self.old) }
+    {
+        let place = RowPlace {
+            actor: &entry.actor,
+            key: entry.key.as_str(),
+        };
+        if self.tree.get(&place).is_some() {
+            return Ok(false);
+        }
+        let node = leaf(self.alloc, entry)?;
+        self.tree.put(node);
+        Ok(true)
     }
 }

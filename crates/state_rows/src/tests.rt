@@ -157,3 +157,29 @@ fn texts_and_values_are_given_back(rt: HostRuntime) -> Result<(), Fail> {
     assert_eq!(rt; value.into_vec().as_slice(), b"aa".as_slice());
     Ok(())
 }
+
+// An entry as a row keeps it.
+fn kept(alloc: Global, actor: &[u8], text: &str, absent: Option<u64>) -> Result<StateEntry, Fail> {
+    Ok(StateEntry {
+        actor: read_key(alloc, actor)?,
+        key: key(alloc, text)?,
+        value: StateValue::from_vec(bytes(alloc, 1)?),
+        absent,
+    })
+}
+
+#[test]
+fn kept_entries_are_restored_once_and_walked_in_order(rt: HostRuntime) -> Result<(), Fail> {
+    let alloc = rt.alloc();
+    let mut rows = StateRows::new(alloc);
+    assert_eq!(rt; rows.restore(kept(alloc, b"cart/2", "a", None)?)?, true);
+    assert_eq!(rt; rows.restore(kept(alloc, b"cart/1", "b", Some(7))?)?, true);
+    assert_eq!(rt; rows.restore(kept(alloc, b"cart/1", "b", None)?)?, false);
+    let first = rows.following(None).ok_or("no first entry")?;
+    assert_eq!(rt; first.key.as_str(), "b");
+    assert_eq!(rt; first.absent, Some(7));
+    let second = rows.following(Some(first)).ok_or("no second entry")?;
+    assert_eq!(rt; second.key.as_str(), "a");
+    assert_eq!(rt; rows.following(Some(second)).is_none(), true);
+    Ok(())
+}
