@@ -1,0 +1,8 @@
+mod Maps
+mod Every
+mod LaneFacts
+mod NodeFacts
+mod Draws
+mod Spent
+mod Rows
+mod Examples
