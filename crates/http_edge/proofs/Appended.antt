@@ -1,5 +1,5 @@
 -- Texts that were appended piece by piece.
-use Rattle.std.proofs.Common.{◌≡◌, ◌∙◌, ◌<◌, ◌+◌, refl, ap, sym, ℕ, suc, add-one, true, false, List, [], ◌∷◌, ◌++◌, length, get_or, drop, Result, Ok, Err, OnOk, append_assoc}
+use Rattle.std.proofs.Common.{◌≡◌, ◌∙◌, ◌<◌, ◌+◌, refl, ap, sym, ℕ, add-one, true, false, List, ◌∷◌, ◌++◌, length, get_or, drop, Result, Ok, Err, OnOk, append_assoc}
 use Rattle.std.proofs.Math.Seq.{drop-cons}
 use Rattle.http_edge.specs.declared.message.HttpField.{HttpField}
 use Rattle.http_edge.specs.Texts.{is_framing, field_line, field_lines}

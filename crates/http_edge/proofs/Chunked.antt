@@ -1,19 +1,19 @@
 -- Chunks, one after the other.
-use Rattle.std.proofs.Common.{refl, sym, ap, subst, ◌∙◌, ◌≡◌, ◌<◌, ◌≤◌, ◌+◌, ◌*◌, ◌-◌, ◌⊎◌, inl, inr, min, ℕ, List, [], ◌∷◌, ◌++◌, length, take, drop, All, Option, Result, Ok, Err, true, false, append_assoc, length-append, arith}
-use Rattle.std.proofs.lemmas.List.{append-nil, take-append-drop, length-take-le, length-drop}
+use Rattle.std.proofs.Common.{refl, sym, ap, subst, ◌∙◌, ◌≡◌, ◌<◌, ◌≤◌, ◌+◌, ◌*◌, ◌-◌, inl, inr, min, ℕ, List, [], ◌∷◌, ◌++◌, length, take, drop, Option, Ok, Err, true, false, append_assoc, length-append, arith}
+use Rattle.std.proofs.lemmas.List.{append-nil, take-append-drop, length-take-le}
 use Rattle.std.proofs.lemmas.List.Elements.{All-push}
 use Rattle.actor_ports.specs.Traffic.{Traffic}
 use Rattle.httparse.specs.Ascii.{crlf_bytes}
-use Rattle.httparse.specs.Grammar.{Field, ChunkLine, print_chunk_line, print_section, chunk_size, ReadsChunkLine}
+use Rattle.httparse.specs.Grammar.{ChunkLine, print_chunk_line, print_section, chunk_size, ReadsChunkLine}
 use Rattle.http_edge.specs.declared.parts.Part.TheVariants.{Line, DataEnd, Trailer}
-use Rattle.http_edge.specs.declared.form.BodyForm.TheVariants.{BySize, ByChunks, ToEnd}
+use Rattle.http_edge.specs.declared.form.BodyForm.TheVariants.{ByChunks}
 use Rattle.http_edge.specs.declared.error.EdgeError.{EdgeError}
 use Rattle.http_edge.specs.declared.error.EdgeError.TheVariants.{BadHead, HeadTooLong, TooManyFields, Chunked, BadLength, BodyTooLong, CutShort, ConnFault, OutOfMemory}
 use Rattle.http_edge.specs.Fields.{most_head, most_body}
-use Rattle.http_edge.specs.Replies.{Chunk, IsChunk, print_chunk, print_chunks, joined, IsChunkedText, IsCutEnd, NeverEndsLine, BreaksTrailer, BreaksData, BreaksBehindLine, BreaksChunk, BreaksChunks, BreaksBody, Fails}
+use Rattle.http_edge.specs.Replies.{Chunk, IsChunk, print_chunk, print_chunks, joined, IsCutEnd, NeverEndsLine, BreaksTrailer, BreaksData, BreaksBehindLine, BreaksChunk, BreaksBody, Fails}
 use Rattle.http_edge.specs.Arrivals.{Arrived, Extends, AwaitsPart, BreaksEnd}
-use Rattle.http_edge.specs.Content.{IsShort, TakesData, ReadsData, IsLastPart, ReadsChunk, HasChunks, ReadsBody}
-use Rattle.http_edge.proofs.Extended.{extends_none, extends_then, fails_then, fails_because}
+use Rattle.http_edge.specs.Content.{TakesData, ReadsData, ReadsChunk, HasChunks, ReadsBody}
+use Rattle.http_edge.proofs.Extended.{extends_none, extends_then, fails_then}
 
 -- ---- the bytes of a chunk
 
@@ -240,8 +240,9 @@ chunks_end x old mid new body more a b d small h r =
       ),
     )
 
-pub chunks_fail : (T : Type 0) (old mid new : Arrived) (body more : List ℕ) (a b d : Option Traffic) (e : EdgeError) → HasChunks old mid body a b → ReadsChunk mid new body more b d (Err e) → ReadsBody {T = T} ByChunks old more a d (Err e)
-chunks_fail T old mid new body more a b d e h r =
+pub chunks_fail : (T : Type 0) (old mid new : Arrived) (body more : List ℕ) (a b d : Option Traffic) (e : EdgeError)
+    → length body ≤ most_body → HasChunks old mid body a b → ReadsChunk mid new body more b d (Err e) → ReadsBody {T = T} ByChunks old more a d (Err e)
+chunks_fail T old mid new body more a b d e small h r =
     let front = print_chunks h.0 in
     let one = length-append front r.0 in
     let two : mid.taken ≡ old.taken + length front = h.6 in
@@ -249,7 +250,7 @@ chunks_fail T old mid new body more a b d e h r =
       front ++ r.0,
       extends_then old.rest h.1 front mid.rest r.0 a b d h.3 h.4 r.1,
       fails_then (BreaksChunk (length body) r.0) (BreaksBody ByChunks (front ++ r.0)) (mid.taken + length r.0) (old.taken + length (front ++ r.0)) old.rest h.1 a b d e h.3
-          (λ x f. (h.0, r.0, h.2, refl, subst (λ n. BreaksChunk n r.0 x) have f)) (omega arith) r.2,
+          (λ x f. (h.0, r.0, h.2, refl, subst (λ n. BreaksChunk n r.0 x) have f, subst (λ n. n ≤ most_body) have small)) (omega arith) r.2,
     )
 
 -- how many bytes were taken, bounded by those of the body, after one more chunk

@@ -1,16 +1,14 @@
 -- Streams that grow, and the causes of errors that hold of them.
-use Rattle.std.proofs.Common.{refl, sym, ap, subst, ◌∙◌, ◌≡◌, ◌<◌, ◌≤◌, ◌+◌, ◌⊎◌, inl, inr, ℕ, List, [], ◌∷◌, ◌++◌, length, take, drop, Option, Some, None, Result, Ok, Err, append_assoc, length-append, arith}
+use Rattle.std.proofs.Common.{refl, sym, ap, subst, ◌∙◌, ◌≡◌, ◌<◌, ◌≤◌, ◌+◌, inl, inr, ℕ, List, [], ◌++◌, length, Option, Err, append_assoc, arith}
 use Rattle.std.proofs.lemmas.List.{append-nil}
 use Rattle.actor_ports.specs.Traffic.{Traffic}
 use Rattle.http_edge.specs.declared.parts.Part.{Part}
 use Rattle.http_edge.specs.declared.parts.Part.TheVariants.{Line, DataEnd, Trailer}
-use Rattle.http_edge.specs.declared.replies.ReplyHead.{ReplyHead}
 use Rattle.http_edge.specs.declared.error.EdgeError.{EdgeError}
 use Rattle.http_edge.specs.declared.error.EdgeError.TheVariants.{BadHead, HeadTooLong, TooManyFields, Chunked, BadLength, BodyTooLong, CutShort, ConnFault, OutOfMemory}
-use Rattle.http_edge.specs.Carry.{Over, AtEnd, Reads}
 use Rattle.http_edge.specs.Fields.{most_head}
 use Rattle.http_edge.specs.Replies.{IsCutEnd, Fails}
-use Rattle.http_edge.specs.Arrivals.{Arrived, Extends, FetchGives, Fetches, LooksAtReply, BreaksAtHead, HasPart, MayHavePart, RefusesPart, LooksAtPart, BreaksPart}
+use Rattle.http_edge.specs.Arrivals.{Arrived, Extends, FetchGives, Fetches, LooksAtReply, BreaksAtHead, MayHavePart, LooksAtPart, BreaksPart}
 use Rattle.http_edge.proofs.Carried.{over_nothing, over_then, end_told}
 
 pub extends_none : (old : List ℕ) (a : Option Traffic) → Extends old a a old
@@ -78,7 +76,7 @@ pub look_fails : (stream : List ℕ) (n : ℕ) (a b : Option Traffic) (e : EdgeE
 look_fails stream n a b BadHead short (inl f) = inl (short, f)
 look_fails stream n a b BadHead short (inr f) = inr f
 look_fails stream n a b HeadTooLong short f = absurd f
-look_fails stream n a b TooManyFields short f = inl (short, f)
+look_fails stream n a b TooManyFields short f = inl (short, f.0, f.1)
 look_fails stream n a b Chunked short f = inr f
 look_fails stream n a b BadLength short f = inr f
 look_fails stream n a b (BodyTooLong k) short f = inr f
@@ -109,7 +107,7 @@ part_fails DataEnd stream n a b ConnFault short f = absurd f
 part_fails DataEnd stream n a b OutOfMemory short f = absurd f
 part_fails Trailer stream n a b BadHead short f = (short, f)
 part_fails Trailer stream n a b HeadTooLong short f = absurd f
-part_fails Trailer stream n a b TooManyFields short f = (short, f)
+part_fails Trailer stream n a b TooManyFields short f = (short, f.0, f.1)
 part_fails Trailer stream n a b Chunked short f = absurd f
 part_fails Trailer stream n a b BadLength short f = absurd f
 part_fails Trailer stream n a b (BodyTooLong k) short f = absurd f

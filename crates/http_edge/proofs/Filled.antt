@@ -1,14 +1,13 @@
 -- The bytes of a body that had come before, and those that are read straight into it.
-use Rattle.std.proofs.Common.{refl, sym, ap, subst, ◌∙◌, ◌≡◌, ◌<◌, ◌≤◌, ◌+◌, ◌-◌, ◌⊎◌, inl, inr, ⊎_elim, min, ℕ, List, [], ◌++◌, length, take, drop, Option, Result, Ok, Err, append_assoc, length-append, arith}
-use Rattle.std.proofs.lemmas.List.{append-nil, take-append-drop, length-take-le, length-take, length-drop, drop_all}
+use Rattle.std.proofs.Common.{refl, sym, ap, ◌∙◌, ◌≡◌, ◌<◌, ◌≤◌, ◌+◌, ◌-◌, ⊎_elim, min, ℕ, List, [], ◌++◌, length, take, drop, Option, Ok, Err, append_assoc, length-append, arith}
+use Rattle.std.proofs.lemmas.List.{append-nil, take-append-drop, length-take, drop_all}
 use Rattle.std.proofs.lemmas.Bool.{cases_lt as order}
 use Rattle.actor_ports.specs.Traffic.{Traffic}
 use Rattle.http_edge.specs.declared.error.EdgeError.{EdgeError}
 use Rattle.http_edge.specs.declared.error.EdgeError.TheVariants.{BadHead, HeadTooLong, TooManyFields, Chunked, BadLength, BodyTooLong, CutShort, ConnFault, OutOfMemory}
-use Rattle.http_edge.specs.Carry.{Over, AtEnd}
 use Rattle.http_edge.specs.Replies.{Fails}
 use Rattle.http_edge.specs.Steps.{Fills, FillsOver}
-use Rattle.http_edge.specs.Arrivals.{Arrived, Extends}
+use Rattle.http_edge.specs.Arrivals.{Arrived}
 use Rattle.http_edge.specs.Content.{IsShort, TakesData}
 use Rattle.http_edge.proofs.Received.{empty_list}
 

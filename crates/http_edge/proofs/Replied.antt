@@ -1,8 +1,8 @@
 -- A reply: first its head, then its body.
-use Rattle.std.proofs.Common.{refl, sym, ap, subst, ◌∙◌, ◌≡◌, ◌<◌, ◌≤◌, ◌+◌, ◌⊎◌, inl, inr, ℕ, List, [], ◌∷◌, ◌++◌, length, take, drop, map, Option, Result, Ok, Err, length-append, arith}
-use Rattle.std.proofs.lemmas.List.{append-nil, take-append-drop, length-take-le, drop_all}
+use Rattle.std.proofs.Common.{refl, sym, ap, subst, ◌∙◌, ◌≡◌, ◌+◌, inl, inr, ℕ, List, [], ◌++◌, length, take, drop, map, Option, Result, Ok, Err, length-append, arith}
+use Rattle.std.proofs.lemmas.List.{take-append-drop, length-take-le}
 use Rattle.actor_ports.specs.Traffic.{Traffic}
-use Rattle.httparse.specs.Grammar.{ResponseHead, print_response, status_code}
+use Rattle.httparse.specs.Grammar.{print_response}
 use Rattle.http_edge.specs.declared.form.BodyForm.{BodyForm}
 use Rattle.http_edge.specs.declared.form.BodyForm.TheVariants.{BySize, ByChunks, ToEnd}
 use Rattle.http_edge.specs.declared.message.HttpResponse.{HttpResponse}
@@ -11,7 +11,7 @@ use Rattle.http_edge.specs.declared.error.EdgeError.{EdgeError}
 use Rattle.http_edge.specs.declared.error.EdgeError.TheVariants.{BadHead, HeadTooLong, TooManyFields, Chunked, BadLength, BodyTooLong, CutShort, ConnFault, OutOfMemory}
 use Rattle.http_edge.specs.Carry.{Over, AtEnd}
 use Rattle.http_edge.specs.Requests.{pair_of}
-use Rattle.http_edge.specs.Replies.{HasBody, HasReply, BreaksBody, Breaks, Fails}
+use Rattle.http_edge.specs.Replies.{HasBody, BreaksBody, Breaks}
 use Rattle.http_edge.specs.Arrivals.{Arrived, nothing_arrived, skipped, Extends, BreaksAtHead, AwaitsReply}
 use Rattle.http_edge.specs.Content.{IsShort, TakesData, ReadsBody, ReadsReply}
 use Rattle.http_edge.proofs.Carried.{end_told}

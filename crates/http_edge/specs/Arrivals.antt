@@ -1,10 +1,9 @@
 -- The bytes of a reply as they come, and what each step of reading it gives: own definitions.
-use Rattle.std.specs.Prelude.{◌≡◌, ◌<◌, ◌≤◌, ◌+◌, ◌⊎◌, ℕ, List, [], ◌++◌, length, map, take, drop, All, Option, Some, None, Result, Ok, Err}
+use Rattle.std.specs.Prelude.{◌≡◌, ◌<◌, ◌≤◌, ◌+◌, ◌⊎◌, ℕ, List, [], ◌++◌, length, map, drop, Option, Some, None, Result, Ok, Err}
 use Rattle.actor_ports.specs.Traffic.{Traffic}
 use Rattle.httparse.specs.Ascii.{crlf_bytes}
 use Rattle.httparse.specs.Grammar.{Field, LineEnd, print_section, ReadsSection, HasNoSection, NeverHasSection, MayBecomeSection, ResponseHead, print_response, status_code, HasNoResponse, NeverHasResponse, MayBecomeResponse, ChunkLine, HasNoChunkLine, NeverHasChunkLine, MayBecomeChunkLine}
-use Rattle.httparse.specs.Spans.{IsChunkLineAt, ResponseExceeds, SectionExceeds}
-use Rattle.http_edge.specs.declared.form.BodyForm.{BodyForm}
+use Rattle.httparse.specs.Spans.{IsChunkLineAt, ResponseExceeds, ResponseOverflows, SectionExceeds, SectionOverflows}
 use Rattle.http_edge.specs.declared.replies.ReplyHead.{ReplyHead}
 use Rattle.http_edge.specs.declared.parts.Part.{Part}
 use Rattle.http_edge.specs.declared.parts.Part.TheVariants.{Line, DataEnd, Trailer}
@@ -66,7 +65,7 @@ abbrev pub LooksAtReply : List ℕ → Result (Option ReplyHead) EdgeError → T
 LooksAtReply stream (Ok (Some h)) = IsReplyHead stream h
 LooksAtReply stream (Ok None) = HasNoResponse stream × MayBecomeResponse stream
 LooksAtReply stream (Err BadHead) = NeverHasResponse stream ⊎ HasRefusedHead stream BadHead
-LooksAtReply stream (Err TooManyFields) = ResponseExceeds most_fields stream
+LooksAtReply stream (Err TooManyFields) = ResponseExceeds most_fields stream × ResponseOverflows most_fields stream
 LooksAtReply stream (Err HeadTooLong) = ⊥
 LooksAtReply stream (Err (CutShort n)) = ⊥
 LooksAtReply stream (Err ConnFault) = ⊥
@@ -104,7 +103,7 @@ abbrev pub RefusesPart : Part → List ℕ → EdgeError → Type 0
 RefusesPart Line stream BadLength = NeverHasChunkLine stream
 RefusesPart DataEnd stream BadLength = NeverEndsLine stream
 RefusesPart Trailer stream BadHead = NeverHasSection stream
-RefusesPart Trailer stream TooManyFields = SectionExceeds most_fields stream
+RefusesPart Trailer stream TooManyFields = SectionExceeds most_fields stream × SectionOverflows most_fields stream
 RefusesPart part stream e = ⊥
 
 -- what a look at a part gives

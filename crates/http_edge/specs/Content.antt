@@ -4,14 +4,13 @@ use Rattle.actor_ports.specs.Traffic.{Traffic}
 use Rattle.httparse.specs.Ascii.{crlf_bytes}
 use Rattle.httparse.specs.Grammar.{Field, IsField, LineEnd, print_section, ChunkLine, IsChunkLine, print_chunk_line, chunk_size}
 use Rattle.http_edge.specs.declared.form.BodyForm.{BodyForm}
-use Rattle.http_edge.specs.declared.form.BodyForm.TheVariants.{ToEnd}
 use Rattle.http_edge.specs.declared.message.HttpResponse.{HttpResponse}
 use Rattle.http_edge.specs.declared.error.EdgeError.{EdgeError}
 use Rattle.http_edge.specs.declared.error.EdgeError.TheVariants.{CutShort}
-use Rattle.http_edge.specs.Carry.{Over, AtEnd}
+use Rattle.http_edge.specs.Carry.{Over}
 use Rattle.http_edge.specs.Fields.{most_head, most_fields, most_body}
 use Rattle.http_edge.specs.Replies.{Chunk, IsChunk, print_chunk, print_chunks, joined, HasBody, HasReply, BreaksData, BreaksChunk, BreaksBody, Fails, HasNoReading}
-use Rattle.http_edge.specs.Arrivals.{Arrived, Extends, skipped}
+use Rattle.http_edge.specs.Arrivals.{Arrived, Extends}
 
 -- fewer bytes came than the size
 abbrev pub IsShort : ℕ → List ℕ → EdgeError → Type 0

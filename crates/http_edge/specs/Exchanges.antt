@@ -6,6 +6,7 @@ use Rattle.http_edge.specs.declared.error.EdgeError.{EdgeError}
 use Rattle.http_edge.specs.declared.error.EdgeError.TheVariants.{ConnFault, OutOfMemory}
 use Rattle.http_edge.specs.Carry.{Carried, IsFront, Over}
 use Rattle.http_edge.specs.Replies.{HasReply, HasNoReading}
+use Rattle.http_edge.specs.Settled.{Settles}
 
 -- a prefix of the text was written, and nothing was read before all of it was written
 abbrev pub IsCutExchange : List ℕ → Carried → Type 0
@@ -18,5 +19,6 @@ ExchangeGives text c before after (Err ConnFault) = IsCutExchange text c
 ExchangeGives text c before after (Err OutOfMemory) = IsCutExchange text c
 ExchangeGives text c before after (Err e) = (c.written ≡ text) × HasNoReading c.read before after e
 
+-- what went over the connection gives the answer, and leaves no other one
 abbrev pub Exchanges : List ℕ → Option Traffic → Option Traffic → Result HttpResponse EdgeError → Type 0
-Exchanges text before after result = (c : Carried) × Over before after c × ExchangeGives text c before after result
+Exchanges text before after result = (c : Carried) × Over before after c × ExchangeGives text c before after result × Settles c.read result

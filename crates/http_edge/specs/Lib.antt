@@ -4,6 +4,8 @@ pub mod Requests
 pub mod Steps
 pub mod Texts
 pub mod Replies
+pub mod Settled
+pub mod Inputs
 pub mod Arrivals
 pub mod Content
 pub mod Exchanges

@@ -1,10 +1,9 @@
 -- A reply on a connection: heads and chunk lines as `httparse` states them (RFC 9112, sections 6 and 7.1).
 use Rattle.std.specs.Prelude.{◌≡◌, ◌≢◌, ◌<◌, ◌≤◌, ◌+◌, ◌⊎◌, ◌==◌, ◌||◌, if◌then◌else◌, ℕ, List, [], ◌∷◌, ◌++◌, length, map, drop, All, Option, Result, Ok, Err, codes, min}
-use Rattle.std.specs.List.{flat_map}
 use Rattle.actor_ports.specs.Traffic.{Traffic}
 use Rattle.httparse.specs.Ascii.{crlf_bytes}
-use Rattle.httparse.specs.Grammar.{Field, IsField, LineEnd, print_section, ReadsSection, HasNoSection, NeverHasSection, MayBecomeSection, ResponseHead, print_response, status_code, ReadsResponse, HasNoResponse, NeverHasResponse, MayBecomeResponse, ChunkLine, IsChunkLine, print_chunk_line, chunk_size, ReadsChunkLine, HasNoChunkLine, NeverHasChunkLine, MayBecomeChunkLine}
-use Rattle.httparse.specs.Spans.{name_and_value, ResponseExceeds, SectionExceeds}
+use Rattle.httparse.specs.Grammar.{Field, IsField, LineEnd, print_section, HasNoSection, NeverHasSection, MayBecomeSection, ResponseHead, print_response, status_code, ReadsResponse, HasNoResponse, NeverHasResponse, MayBecomeResponse, ChunkLine, IsChunkLine, print_chunk_line, chunk_size, ReadsChunkLine, HasNoChunkLine, NeverHasChunkLine, MayBecomeChunkLine}
+use Rattle.httparse.specs.Spans.{name_and_value, ResponseExceeds, ResponseOverflows, SectionExceeds, SectionOverflows}
 use Rattle.http_edge.specs.declared.message.HttpResponse.{HttpResponse}
 use Rattle.http_edge.specs.declared.form.BodyForm.{BodyForm}
 use Rattle.http_edge.specs.declared.form.BodyForm.TheVariants.{BySize, ByChunks, ToEnd}
@@ -114,11 +113,11 @@ pub record HasReply (stream : List ℕ) (before after : Option Traffic) (r : Htt
 
 -- ---- why there is none: the stream breaks off, or what stands there has no reading
 
--- in its head
+-- in its head; too many fields are there, and whatever follows, a head has too many
 abbrev pub BreaksHead : List ℕ → EdgeError → Type 0
 BreaksHead stream BadHead = (length stream ≤ most_head) × NeverHasResponse stream
 BreaksHead stream HeadTooLong = (length stream ≡ most_head) × HasNoResponse stream × MayBecomeResponse stream
-BreaksHead stream TooManyFields = (length stream ≤ most_head) × ResponseExceeds most_fields stream
+BreaksHead stream TooManyFields = (length stream ≤ most_head) × ResponseExceeds most_fields stream × ResponseOverflows most_fields stream
 BreaksHead stream (CutShort n) = (length stream < most_head) × HasNoResponse stream × MayBecomeResponse stream
 BreaksHead stream e = ⊥
 
@@ -138,7 +137,7 @@ BreaksLine rest e = ⊥
 abbrev pub BreaksTrailer : List ℕ → EdgeError → Type 0
 BreaksTrailer rest BadHead = (length rest ≤ most_head) × NeverHasSection rest
 BreaksTrailer rest HeadTooLong = (length rest ≡ most_head) × HasNoSection rest × MayBecomeSection rest
-BreaksTrailer rest TooManyFields = (length rest ≤ most_head) × SectionExceeds most_fields rest
+BreaksTrailer rest TooManyFields = (length rest ≤ most_head) × SectionExceeds most_fields rest × SectionOverflows most_fields rest
 BreaksTrailer rest (CutShort n) = (length rest < most_head) × HasNoSection rest × MayBecomeSection rest
 BreaksTrailer rest e = ⊥
 
@@ -167,10 +166,10 @@ BreaksChunk have rest e =
     BreaksLine rest e
     ⊎ ((line : ChunkLine) × (behind : List ℕ) × ReadsChunkLine rest line behind × (length (print_chunk_line line) ≤ most_head) × BreaksBehindLine have (chunk_size line) behind e)
 
--- behind whole chunks
+-- behind whole chunks, which have no more bytes than a body may have
 abbrev pub BreaksChunks : ℕ → List ℕ → EdgeError → Type 0
 BreaksChunks have stream e =
-    (chunks : List Chunk) × (rest : List ℕ) × All IsChunk chunks × (stream ≡ print_chunks chunks ++ rest) × BreaksChunk (have + length (joined chunks)) rest e
+    (chunks : List Chunk) × (rest : List ℕ) × All IsChunk chunks × (stream ≡ print_chunks chunks ++ rest) × BreaksChunk (have + length (joined chunks)) rest e × (have + length (joined chunks) ≤ most_body)
 
 -- in a body
 abbrev pub BreaksBody : BodyForm → List ℕ → EdgeError → Type 0

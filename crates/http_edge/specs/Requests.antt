@@ -4,7 +4,7 @@ use Rattle.actor_ports.specs.declared.port.PortError.{PortError}
 use Rattle.actor_ports.specs.declared.port.PortError.TheVariants as ports
 use Rattle.actor_ports.specs.Traffic.{Traffic}
 use Rattle.httparse.specs.Grammar.{RequestHead, IsRequestHead, ReadsRequest, HasNoRequest, NeverHasRequest, MayBecomeRequest, print_request}
-use Rattle.httparse.specs.Spans.{name_and_value, RequestExceeds}
+use Rattle.httparse.specs.Spans.{name_and_value, RequestExceeds, RequestOverflows}
 use Rattle.http_edge.specs.declared.message.HttpField.{HttpField}
 use Rattle.http_edge.specs.declared.message.HttpRequest.{HttpRequest}
 use Rattle.http_edge.specs.declared.error.EdgeError.{EdgeError}
@@ -56,11 +56,12 @@ IsCutBody stream =
 abbrev pub RefusesBody : List ℕ → EdgeError → Type 0
 RefusesBody stream e = (head : RequestHead) × (behind : List ℕ) × StartsWithHead stream head behind × (body_told (pairs_of head) ≡ Err e)
 
--- Why a stream gives no request. The stream is all bytes that have come, from the request's first one on.
+-- Why a stream gives no request. The stream is all bytes that have come, from the request's first one on. Too many
+-- fields are there, and whatever follows, a head has too many.
 abbrev pub Refuses : List ℕ → Option Traffic → Option Traffic → EdgeError → Type 0
 Refuses stream before after BadHead = (length stream ≤ most_head) × NeverHasRequest stream
 Refuses stream before after HeadTooLong = (length stream ≡ most_head) × HasNoRequest stream × MayBecomeRequest stream
-Refuses stream before after TooManyFields = (length stream ≤ most_head) × RequestExceeds most_fields stream
+Refuses stream before after TooManyFields = (length stream ≤ most_head) × RequestExceeds most_fields stream × RequestOverflows most_fields stream
 Refuses stream before after (CutShort n) = (n ≡ length stream) × (0 < n) × AtEnd before after × (IsCutHead stream ⊎ IsCutBody stream)
 Refuses stream before after ConnFault = Unit {0}
 Refuses stream before after OutOfMemory = Unit {0}

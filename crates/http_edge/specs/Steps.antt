@@ -3,7 +3,7 @@ use Rattle.std.specs.Prelude.{◌≡◌, ◌<◌, ◌+◌, ℕ, List, [], ◌∷
 use Rattle.actor_ports.specs.Traffic.{Traffic}
 use Rattle.httparse.specs.declared.spans.Span.{Span}
 use Rattle.httparse.specs.Grammar.{RequestHead, HasNoRequest, NeverHasRequest, MayBecomeRequest, print_request}
-use Rattle.httparse.specs.Spans.{span_bytes, IsWithin, RequestExceeds}
+use Rattle.httparse.specs.Spans.{span_bytes, IsWithin, RequestExceeds, RequestOverflows}
 use Rattle.http_edge.specs.declared.fields.Told.{Told}
 use Rattle.http_edge.specs.declared.fields.Told.TheVariants.{Absent, Once, Often}
 use Rattle.http_edge.specs.declared.head.Head.{Head}
@@ -41,7 +41,7 @@ abbrev pub Looks : List ℕ → Result (Option Head) EdgeError → Type 0
 Looks stream (Ok (Some h)) = IsHeadOf stream h
 Looks stream (Ok None) = HasNoRequest stream × MayBecomeRequest stream
 Looks stream (Err BadHead) = NeverHasRequest stream
-Looks stream (Err TooManyFields) = RequestExceeds most_fields stream
+Looks stream (Err TooManyFields) = RequestExceeds most_fields stream × RequestOverflows most_fields stream
 Looks stream (Err HeadTooLong) = ⊥
 Looks stream (Err (CutShort n)) = ⊥
 Looks stream (Err ConnFault) = ⊥

@@ -1,8 +1,9 @@
 // One exchange over a connection.
-ghost use Rattle.std.specs.Prelude.{◌≡◌};
+ghost use Rattle.std.specs.Prelude.{◌≡◌, IfSome};
 ghost use Rattle.http_edge.specs.Content.{ReadsReply};
 ghost use Rattle.http_edge.specs.Exchanges.{Exchanges};
 ghost use Rattle.http_edge.specs.Requests.{EdgeCause};
+ghost use Rattle.http_edge.specs.Settled.{Decides};
 ghost use Rattle.http_edge.specs.Texts.{request_text};
 
 use crate::arrivals::Arrivals;
@@ -49,6 +50,7 @@ pub fn exchange<C: Conn>(
     conn: &mut C,
 ) -> Result<HttpResponse, EdgeError>
     ensures exchanges { Exchanges (request_text request.now) (C.read_traffic conn.old) (C.read_traffic conn.new) result }
+    ensures decides { IfSome (C.read_traffic conn.old) (λ t. Decides t.left result) }
     ensures cause { EdgeCause (C.read_faults conn.old) (C.read_faults conn.new) result }
 {
     if let Err(error) = write_request(alloc, request, conn) {

@@ -2,6 +2,7 @@
 ghost use Rattle.std.specs.Prelude.{◌≡◌, ◌≤◌, ◌<◌, ◌+◌, ◌++◌, Ok, Err, Some, None, [], length, take, drop, IfOk, IfSome, OnOk, vec_len};
 ghost use Rattle.std.specs.Result.{result_err};
 ghost use Rattle.http_edge.specs.Fields.{most_head};
+ghost use Rattle.http_edge.specs.Inputs.{IsAnswerTo};
 ghost use Rattle.http_edge.specs.Requests.{ReadsNext, EdgeCause, ReaderState, new_reader, pair_of};
 ghost use Rattle.http_edge.specs.Steps.{IsHeadOf, AwaitsHead, FillsOver, EndsAt};
 
@@ -54,6 +55,7 @@ impl RequestReader {
     /// error again, and leaves the connection alone.
     pub fn read<C: Conn>(&mut self, conn: &mut C) -> Result<Option<HttpRequest>, EdgeError>
         ensures reads { self.old.failed ≡ None → ReadsNext self.old.kept self.new.kept (C.read_traffic conn.old) (C.read_traffic conn.new) result }
+        ensures decides { self.old.failed ≡ None → IfSome (C.read_traffic conn.old) (λ t. IsAnswerTo (self.old.kept ++ t.left) result) }
         ensures cause { self.old.failed ≡ None → EdgeCause (C.read_faults conn.old) (C.read_faults conn.new) result }
         ensures failed { self.old.failed ≡ None → self.new.failed ≡ result_err result }
         ensures again { IfSome self.old.failed (λ error. (result ≡ Err error) × (self.new ≡ self.old) × (conn.new ≡ conn.old)) }

@@ -1,4 +1,4 @@
-use Rattle.std.proofs.Common.{rules, ◌≡◌, ◌<◌, arith}
+use Rattle.std.proofs.Common.{rules, ◌<◌}
 use Rattle.http_edge.proofs.Chunked.{trailer_fails, last_part, chunk_fails, one_chunk}
 use Rattle.http_edge.proofs.content.read_chunk.Goals as goal
 

@@ -1,11 +1,11 @@
-use Rattle.std.proofs.Common.{rules, subst, Ok, true, false, arith}
+use Rattle.std.proofs.Common.{rules, subst, Ok, true, false}
 use Rattle.http_edge.specs.Content.{ReadsChunk}
 use Rattle.http_edge.proofs.Chunked.{more_chunks, chunk_counts, chunks_end, chunks_fail}
 use Rattle.http_edge.proofs.content.read_chunks.Goals as goal
 
 pub returns-in-Err-clause-reads : goal.returns-in-Err-clause-reads
 returns-in-Err-clause-reads g c =
-    chunks_fail (Unit {0}) c.args.arrivals.now c.chunks.arrivals c.read_chunk.new.arrivals c.chunks.body.items c.read_chunk.new.body.items _ _ _ c.in-Err.error c.chunks.invariant.chunks c.in-Err.ensures.reads
+    chunks_fail (Unit {0}) c.args.arrivals.now c.chunks.arrivals c.read_chunk.new.arrivals c.chunks.body.items c.read_chunk.new.body.items _ _ _ c.in-Err.error c.chunks.invariant.small c.chunks.invariant.chunks c.in-Err.ensures.reads
 
 pub chunks-preserved : goal.chunks-preserved
 chunks-preserved g c =

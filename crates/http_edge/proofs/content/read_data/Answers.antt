@@ -1,4 +1,4 @@
-use Rattle.std.proofs.Common.{rules, ◌≡◌, ◌<◌, ◌≤◌, ◌+◌, ◌-◌, min, length, arith}
+use Rattle.std.proofs.Common.{rules, ◌≡◌, ◌<◌, ◌≤◌, ◌+◌, ◌-◌, min, length}
 use Rattle.http_edge.specs.Fields.{most_body}
 use Rattle.http_edge.proofs.Extended.{extends_none}
 use Rattle.http_edge.proofs.Chunked.{long_data, end_fails, data_ended}

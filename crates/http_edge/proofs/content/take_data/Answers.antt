@@ -1,4 +1,4 @@
-use Rattle.std.proofs.Common.{rules, sym, ap, ◌∙◌, ◌≡◌, ◌+◌, ◌-◌, ◌++◌, min, length, take, drop, arith}
+use Rattle.std.proofs.Common.{rules, ap, ◌∙◌, ◌≡◌, ◌+◌, ◌-◌, length, drop}
 use Rattle.http_edge.proofs.Extended.{extends_none}
 use Rattle.http_edge.specs.Arrivals.{Arrived}
 use Rattle.http_edge.proofs.Filled.{data_whole, data_cut, front_counted}

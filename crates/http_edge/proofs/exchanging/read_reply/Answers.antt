@@ -1,4 +1,4 @@
-use Rattle.std.proofs.Common.{rules, refl, sym, subst, ◌≡◌, [], Ok, Err}
+use Rattle.std.proofs.Common.{refl, subst, Ok, Err}
 use Rattle.http_edge.specs.Arrivals.{nothing_arrived, skipped, AwaitsReply}
 use Rattle.http_edge.specs.Content.{ReadsBody}
 use Rattle.http_edge.proofs.Replied.{head_failed, whole_reply, body_failed}

@@ -1,4 +1,4 @@
-use Rattle.std.proofs.Common.{subst, ◌≡◌, ◌≤◌, ◌+◌, length, Ok, Err, None}
+use Rattle.std.proofs.Common.{subst, ◌≤◌, ◌+◌, length, Ok, Err, None}
 use Rattle.http_edge.specs.Arrivals.{LooksAtPart, BreaksPart}
 use Rattle.http_edge.proofs.Extended.{part_fails, part_full, part_cut, wait_fails}
 use Rattle.http_edge.proofs.parts.await_part.Goals as goal

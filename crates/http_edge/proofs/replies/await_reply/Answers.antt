@@ -1,4 +1,4 @@
-use Rattle.std.proofs.Common.{ap, subst, ◌∙◌, ◌≡◌, ◌≤◌, ◌+◌, ℕ, List, length, Ok, Err, None, inl}
+use Rattle.std.proofs.Common.{subst, ◌≤◌, ◌+◌, length, Ok, Err, None, inl}
 use Rattle.http_edge.specs.Arrivals.{LooksAtReply, BreaksAtHead}
 use Rattle.http_edge.proofs.Extended.{look_fails, wait_fails}
 use Rattle.http_edge.proofs.replies.await_reply.Goals as goal
