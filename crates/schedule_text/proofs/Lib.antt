@@ -1,3 +1,11 @@
+pub mod Sums
+pub mod Outcomes
+pub mod MomentFields
+pub mod MomentTexts
+pub mod Digits
+pub mod MomentLaws
+pub mod GoTerms
+pub mod GoTexts
 pub mod Jumps
 pub mod Walks
 pub mod Calendars

@@ -13,7 +13,7 @@ use Rattle.jiff_core.proofs.SignedLemmas.{signed_arith}
 use Rattle.jiff_span.specs.Add.{datetime_add, CanAddToDateTime}
 use Rattle.jiff_span.specs.Months.{add_months, shifted_year}
 use Rattle.schedule_text.specs.Range.{end_of_time}
-use Rattle.schedule_text.specs.Calendar.{CivilDate, day_nanos, days_to_1970, days_to, date_of, date_after, months_on}
+use Rattle.schedule_text.specs.Calendar.{CivilDate, day_nanos, days_to_1970, days_to, date_of, date_after, IsMonthsAfter, months_on}
 use Rattle.schedule_text.proofs.Calendars.{date_of-date}
 use Rattle.schedule_text.proofs.CivilDates.{days_from_civil-days_to, epoch_day-date_of, civil_nanos-day}
 use Rattle.schedule_text.proofs.Progress.{later_month}
@@ -30,6 +30,12 @@ date_after-is date months some =
     let number = date.year * 12 + (date.month - 1) + months in
     let most = days_in_month_bounds (pos (number / 12)) (number % 12 + 1) in
     record { month = omega arith; day = omega (arith, most); year = omega arith }
+
+-- the date that many months later is in the month that is counted on to, with its day cut to that month
+pub date_after-months : (date : CivilDate) (months : ℕ) → 1 ≤ date.month → IsMonthsAfter date months (date_after date months)
+unfolding date_after
+date_after-months date months some =
+    record { month = omega arith; counted = omega arith; same_day = λ there. omega arith; last_day = λ lacking. omega arith }
 
 -- the first day that is past the last moment
 last_day : days_to 9998 12 31 ≡ 2932531 + days_to_1970
@@ -75,6 +81,13 @@ module _ (nanos months : ℕ) (low : nanos < end_of_time) where
       let civil : IsCivilDate (pos 1969) 12 31 = (omega (arith, signed_arith), (omega arith, omega arith), (omega arith, omega arith)) in
       let later = later_month 1969 12 31 after.year after.month after.day civil is.month.0 is.month.1 is.day.0 (omega (arith, is.year)) in
       omega (arith, later, day_before_1970)
+
+  -- a sum of months is at the same time of the day, on the day of that date
+  pub months_on-day : (months_on nanos months / day_nanos + days_to_1970 ≡ days_to after.year after.month after.day) × (months_on nanos months % day_nanos ≡ nanos % day_nanos)
+  unfolding months_on
+  months_on-day =
+      let since = days_to_after in
+      (omega arith, omega arith)
 
   -- from the year 9999 on, a sum is past the last moment
   pub months_on-end : 9999 ≤ after.year → end_of_time ≤ months_on nanos months

@@ -11,18 +11,18 @@ use Rattle.schedule_text.specs.Numbers.{is_digit, begins_with_digit, billionths_
 use Rattle.schedule_text.specs.Moments.{two_at, year_at, date_at, minutes_at, clock_at, subsecond_at, instant_at, moment_at, read_moment, two_digits, nine_digits, date_text, clock_text, subsecond_text, moment_text}
 use Rattle.schedule_text.proofs.Calendars.{date_of-date}
 
-digit : (d : ℕ) → d ≤ 9 → is_digit (48 + d) ≡ true
+pub digit : (d : ℕ) → d ≤ 9 → is_digit (48 + d) ≡ true
 digit d low = rw (le-leb 48 (48 + d) (omega arith), le-leb (48 + d) 57 (omega arith)) refl
 
 -- two digits read as their number
-two_at-two : (low high n : ℕ) (rest : List ℕ) → low ≤ n → n ≤ high → high ≤ 99 → two_at low high (two_digits n ++ rest) ≡ Ok (n, rest)
+pub two_at-two : (low high n : ℕ) (rest : List ℕ) → low ≤ n → n ≤ high → high ≤ 99 → two_at low high (two_digits n ++ rest) ≡ Ok (n, rest)
 two_at-two low high n rest above below small =
     let tens : 48 + n / 10 - 48 ≡ n / 10 = omega arith in
     let ones : 48 + n % 10 - 48 ≡ n % 10 = omega arith in
     let whole : n / 10 * 10 + n % 10 ≡ n = omega arith in
     rw (digit (n / 10) (omega arith), digit (n % 10) (omega arith), tens, ones, whole, le-leb (n / 10) (high / 10) (omega arith), le-leb low n above, le-leb n high below) refl
 
-date_at-text : (date : CivilDate) (rest : List ℕ) → date.year ≤ 9999 → IsInRange 1 12 date.month → IsInRange 1 (days_in_month (pos date.year) date.month) date.day → date_at (date_text date ++ rest) ≡ Ok (date, rest)
+pub date_at-text : (date : CivilDate) (rest : List ℕ) → date.year ≤ 9999 → IsInRange 1 12 date.month → IsInRange 1 (days_in_month (pos date.year) date.month) date.day → date_at (date_text date ++ rest) ≡ Ok (date, rest)
 unfolding date_at year_at
 date_at-text date rest year month day =
     let whole : date.year / 100 * 100 + date.year % 100 ≡ date.year = omega arith in

@@ -1,6 +1,6 @@
 -- Dates and days of the Gregorian calendar of ISO 8601, computed with years that begin on 1 March, so that a leap
 -- day comes last. Days are counted from 1970-01-01 unless something else is said.
-use Rattle.std.specs.Prelude.{ℕ, ◌+◌, ◌-◌, ◌*◌, ◌/◌, ◌%◌, min, nat_lt, if◌then◌else◌, pos, unsigned_abs}
+use Rattle.std.specs.Prelude.{◌≡◌, ℕ, ◌+◌, ◌-◌, ◌*◌, ◌/◌, ◌%◌, ◌<◌, ◌≤◌, min, nat_lt, if◌then◌else◌, pos, unsigned_abs}
 use Rattle.jiff_core.specs.declared.civil.date.Date.{Date}
 use Rattle.jiff_core.specs.Calendar.{days_in_month}
 
@@ -56,6 +56,14 @@ unfoldable pub date_after : CivilDate → ℕ → CivilDate
 date_after date months =
     let number = date.year * 12 + (date.month - 1) + months in
     record { year = number / 12; month = number % 12 + 1; day = min date.day (days_in_month (pos (number / 12)) (number % 12 + 1)) }
+
+-- A date is that many months after another: its month is counted on from the other's, twelve to a year, and its day is
+-- the other's, or the last one of its month if the month lacks that day.
+pub record IsMonthsAfter (date : CivilDate) (months : ℕ) (after : CivilDate) : Type 0 where
+  pub month : (1 ≤ after.month) × (after.month ≤ 12)
+  pub counted : date.year * 12 + date.month + months ≡ after.year * 12 + after.month
+  pub same_day : date.day ≤ days_in_month (pos after.year) after.month → after.day ≡ date.day
+  pub last_day : days_in_month (pos after.year) after.month < date.day → after.day ≡ days_in_month (pos after.year) after.month
 
 -- nanoseconds since 1970 that many months later, at the same time of the day
 unfoldable pub months_on : ℕ → ℕ → ℕ

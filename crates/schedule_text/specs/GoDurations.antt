@@ -3,7 +3,7 @@
 use Rattle.std.specs.Prelude.{ℕ, zero, suc, ◌+◌, ◌-◌, ◌*◌, ◌/◌, Bool, false, not, ◌&&◌, ◌||◌, ◌==◌, nat_le, if◌then◌else◌, List, [], ◌∷◌, length, Result, Ok, Err}
 use Rattle.schedule_text.specs.declared.error.ScheduleError.{ScheduleError}
 use Rattle.schedule_text.specs.declared.error.ScheduleError.TheVariants.{BadDuration, Negative, OutOfRange}
-use Rattle.schedule_text.specs.Numbers.{capped, begins_with_digit, number_from, behind_digits, billionths_from, behind_billionths, first_weight, billionth}
+use Rattle.schedule_text.specs.Numbers.{kept, begins_with_digit, number_from, behind_digits, billionths_from, behind_billionths, first_weight, billionth}
 use Rattle.schedule_text.specs.Reading.{◌>>=◌}
 
 -- 2^63 - 1, the most nanoseconds of a duration
@@ -55,28 +55,28 @@ fraction_at before whole text =
     else Err (length text)
 
 -- a literal: its whole part and its billionths
-abbrev pub literal_at : List ℕ → Result ((ℕ × ℕ) × List ℕ) ℕ
-literal_at text =
+abbrev pub literal_at : Bool → List ℕ → Result ((ℕ × ℕ) × List ℕ) ℕ
+literal_at cut text =
     if begins_with_point (behind_digits text)
-    then fraction_at (begins_with_digit text) (number_from 0 text) (behind_first (behind_digits text))
-    else (if begins_with_digit text then Ok ((number_from 0 text, 0), behind_digits text) else Err (length text))
+    then fraction_at (begins_with_digit text) (number_from cut 0 text) (behind_first (behind_digits text))
+    else (if begins_with_digit text then Ok ((number_from cut 0 text, 0), behind_digits text) else Err (length text))
 
 -- a literal times its unit, cut down to whole nanoseconds
-abbrev pub term_nanos : ℕ × ℕ → ℕ → ℕ
-term_nanos literal unit = capped (capped (literal.0 * unit) + literal.1 * unit / billionth)
+abbrev pub term_nanos : Bool → ℕ × ℕ → ℕ → ℕ
+term_nanos cut literal unit = kept cut (kept cut (literal.0 * unit) + literal.1 * unit / billionth)
 
 -- a literal and its unit
-unfoldable pub term_at : List ℕ → Result (ℕ × List ℕ) ℕ
-term_at text =
-    literal_at text >>= λ literal.
+unfoldable pub term_at : Bool → List ℕ → Result (ℕ × List ℕ) ℕ
+term_at cut text =
+    literal_at cut text >>= λ literal.
     unit_at literal.1 >>= λ unit.
-    Ok (term_nanos literal.0 unit.0, unit.1)
+    Ok (term_nanos cut literal.0 unit.0, unit.1)
 
 -- The sum of the terms up to the text's end. A term has at least one byte, so there are no more terms than bytes.
-unfoldable pub terms_from : ℕ → ℕ → List ℕ → Result ℕ ℕ
-terms_from most sum [] = Ok sum
-terms_from zero sum (b ∷ bs) = Err (length (b ∷ bs))
-terms_from (suc most) sum (b ∷ bs) = term_at (b ∷ bs) >>= λ term. terms_from most (capped (sum + term.0)) term.1
+unfoldable pub terms_from : Bool → ℕ → ℕ → List ℕ → Result ℕ ℕ
+terms_from cut most sum [] = Ok sum
+terms_from cut zero sum (b ∷ bs) = Err (length (b ∷ bs))
+terms_from cut (suc most) sum (b ∷ bs) = term_at cut (b ∷ bs) >>= λ term. terms_from cut most (kept cut (sum + term.0)) term.1
 
 -- `0` alone
 abbrev pub is_zero_alone : List ℕ → Bool
@@ -84,8 +84,8 @@ is_zero_alone [] = false
 is_zero_alone (b ∷ bs) = (b == 48) && (length bs == 0)
 
 -- `0` alone, or at least one term
-abbrev pub sum_at : List ℕ → Result ℕ ℕ
-sum_at text = if is_zero_alone text then Ok 0 else (if length text == 0 then Err 0 else terms_from (length text) 0 text)
+abbrev pub sum_at : Bool → List ℕ → Result ℕ ℕ
+sum_at cut text = if is_zero_alone text then Ok 0 else (if length text == 0 then Err 0 else terms_from cut (length text) 0 text)
 
 -- what is behind the sign, if there is one
 abbrev pub behind_sign : List ℕ → List ℕ
@@ -109,4 +109,4 @@ signed_sum negative sum =
 
 -- the nanoseconds of a duration
 unfoldable pub go_nanos : List ℕ → Result ℕ ScheduleError
-go_nanos text = placed text (sum_at (behind_sign text)) >>= λ sum. signed_sum (is_negative text) sum
+go_nanos text = placed text (sum_at false (behind_sign text)) >>= λ sum. signed_sum (is_negative text) sum

@@ -6,4 +6,5 @@ pub mod Reading
 pub mod GoDurations
 pub mod IsoDurations
 pub mod Moments
+pub mod Grammar
 pub mod Schedules

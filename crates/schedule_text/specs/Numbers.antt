@@ -1,9 +1,11 @@
 -- Numbers in texts: digits, which may have leading zeros. Own.
-use Rattle.std.specs.Prelude.{ℕ, ◌+◌, ◌-◌, ◌*◌, ◌/◌, Bool, false, not, ◌&&◌, ◌==◌, nat_le, min, if◌then◌else◌, List, [], ◌∷◌}
+use Rattle.std.specs.Prelude.{ℕ, ◌+◌, ◌-◌, ◌*◌, ◌/◌, Bool, true, false, not, ◌&&◌, ◌==◌, nat_le, min, if◌then◌else◌, List, [], ◌∷◌}
 
--- A number above 2^64 - 1 counts as 2^64 - 1, which is past each range that a schedule has.
-abbrev pub capped : ℕ → ℕ
-capped n = min n 18446744073709551615
+-- A number as it is; or, if it is cut, as the code keeps it: one above 2^64 - 1 counts as 2^64 - 1, which is past
+-- each range that a schedule has. What a text means is said of numbers as they are.
+abbrev pub kept : Bool → ℕ → ℕ
+kept false n = n
+kept true n = min n 18446744073709551615
 
 -- `0` to `9`
 abbrev pub is_digit : ℕ → Bool
@@ -14,13 +16,13 @@ begins_with_digit [] = false
 begins_with_digit (b ∷ bs) = is_digit b
 
 -- the number with one more digit
-abbrev pub with_digit : ℕ → ℕ → ℕ
-with_digit n b = capped (n * 10 + (b - 48))
+abbrev pub with_digit : Bool → ℕ → ℕ → ℕ
+with_digit cut n b = kept cut (n * 10 + (b - 48))
 
 -- the number that the digits of n and then those at the start of a text spell
-abbrev pub number_from : ℕ → List ℕ → ℕ
-number_from n [] = n
-number_from n (b ∷ bs) = if is_digit b then number_from (with_digit n b) bs else n
+abbrev pub number_from : Bool → ℕ → List ℕ → ℕ
+number_from cut n [] = n
+number_from cut n (b ∷ bs) = if is_digit b then number_from cut (with_digit cut n b) bs else n
 
 -- what is behind the digits at the start of a text
 abbrev pub behind_digits : List ℕ → List ℕ

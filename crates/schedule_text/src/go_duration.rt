@@ -1,5 +1,5 @@
 // Durations as Go writes them.
-ghost use Rattle.std.specs.Prelude.{◌≡◌, ◌≤◌, ◌-◌, ◌*◌, ◌/◌, IfOk, length};
+ghost use Rattle.std.specs.Prelude.{◌≡◌, ◌≤◌, ◌-◌, ◌*◌, ◌/◌, true, IfOk, length};
 ghost use Rattle.schedule_text.specs.declared.error.ScheduleError.TheVariants.{BadDuration};
 ghost use Rattle.schedule_text.specs.Numbers.{billionth};
 ghost use Rattle.schedule_text.specs.Reading.{Gives};
@@ -109,7 +109,7 @@ fn fraction_at(before: bool, whole: u64, text: &[u8]) -> Result<(Literal, &[u8])
 
 // A literal.
 fn literal_at(text: &[u8]) -> Result<(Literal, &[u8]), usize>
-    ensures reading { Gives (λ x. (x.0, x.1.now)) result (literal_at text.now) }
+    ensures reading { Gives (λ x. (x.0, x.1.now)) result (literal_at true text.now) }
     ensures bound { IfOk result (λ x. x.0.1 ≤ billionth) }
 {
     let before = begins_with_digit(text);
@@ -136,7 +136,7 @@ fn part_of(billionths: u64, unit: u64) -> u64
 fn term_nanos(literal: Literal, unit: u64) -> u64
     requires billionths { literal.1 ≤ billionth }
     requires unit { unit ≤ 3600000000000 }
-    ensures { result ≡ term_nanos literal unit }
+    ensures { result ≡ term_nanos true literal unit }
 {
     let (whole, billionths) = literal;
     let part = part_of(billionths, unit);
@@ -146,7 +146,7 @@ fn term_nanos(literal: Literal, unit: u64) -> u64
 // A literal and its unit.
 #[tactic(auto, unfolding(crate::specs::GoDurations::term_at))]
 fn term_at(text: &[u8]) -> Result<(u64, &[u8]), usize>
-    ensures { Gives (λ x. (x.0, x.1.now)) result (term_at text.now) }
+    ensures { Gives (λ x. (x.0, x.1.now)) result (term_at true text.now) }
 {
     let (literal, behind) = literal_at(text)?;
     let (unit, behind) = unit_at(behind)?;
@@ -156,7 +156,7 @@ fn term_at(text: &[u8]) -> Result<(u64, &[u8]), usize>
 // The sum of the terms up to the text's end. A term has at least one byte.
 #[tactic(auto, unfolding(crate::specs::GoDurations::terms_from))]
 fn terms_at(text: &[u8]) -> Result<u64, usize>
-    ensures { result ≡ terms_from (length text.now) 0 text.now }
+    ensures { result ≡ terms_from true (length text.now) 0 text.now }
 {
     let mut sum: u64 = 0;
     let mut rest = text;
@@ -175,7 +175,7 @@ fn terms_at(text: &[u8]) -> Result<u64, usize>
 
 // `0` alone, or at least one term.
 fn sum_at(text: &[u8]) -> Result<u64, usize>
-    ensures { result ≡ sum_at text.now }
+    ensures { result ≡ sum_at true text.now }
 {
     if text.len() == 1 && text[0] == b'0' {
         return Ok(0);
@@ -226,9 +226,9 @@ fn signed_sum(negative: bool, sum: u64) -> Result<u64, ScheduleError>
     Ok(sum)
 }
 
-/// The nanoseconds of a duration as Go writes it.
-#[tactic(auto, unfolding(crate::specs::GoDurations::go_nanos))]
-pub(crate) fn go_nanos(text: &[u8]) -> Result<u64, ScheduleError>
+/// Reads a duration as Go writes it, in nanoseconds; takes no memory.
+#[tactic(auto, using(crate::proofs::Sums::go_nanos_ok, crate::proofs::Sums::go_nanos_err))]
+pub fn go_nanos(text: &[u8]) -> Result<u64, ScheduleError>
     ensures { result ≡ go_nanos text.now }
 {
     match sum_at(behind_sign(text)) {

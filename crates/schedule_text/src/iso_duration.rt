@@ -1,5 +1,5 @@
 // Durations of ISO 8601, and their repetitions.
-ghost use Rattle.std.specs.Prelude.{◌≡◌};
+ghost use Rattle.std.specs.Prelude.{◌≡◌, true};
 ghost use Rattle.schedule_text.specs.Reading.{Gives};
 ghost use Rattle.schedule_text.specs.IsoDurations.{begins_with, has_field, field_number, behind_field, left_at, time_at, amounts_at, duration_at, ranged, iso_duration, count_at, counted, repeated, iso_period};
 
@@ -39,7 +39,7 @@ pub(crate) fn begins_with(byte: u8, text: &[u8]) -> bool
 // The number and the letter at the start of a text.
 fn field_at(letter: u8, text: &[u8]) -> Field<'_>
     ensures found { result.found ≡ has_field letter text.now }
-    ensures number { result.number ≡ field_number letter text.now }
+    ensures number { result.number ≡ field_number true letter text.now }
     ensures behind { result.behind.now ≡ behind_field letter text.now }
 {
     let (number, behind) = number_at(text);
@@ -70,7 +70,7 @@ fn left_at(last: bool, text: &[u8]) -> usize
 // Hours, minutes and seconds up to the text's end, in nanoseconds.
 #[tactic(auto, unfolding(crate::specs::IsoDurations::time_at))]
 fn time_at(text: &[u8]) -> Result<u64, usize>
-    ensures { result ≡ time_at text.now }
+    ensures { result ≡ time_at true text.now }
 {
     let hours = field_at(b'H', text);
     let minutes = field_at(b'M', hours.behind);
@@ -86,7 +86,7 @@ fn time_at(text: &[u8]) -> Result<u64, usize>
 // Months and nanoseconds up to the text's end.
 #[tactic(auto, unfolding(crate::specs::IsoDurations::amounts_at))]
 fn amounts_at(text: &[u8]) -> Result<(u64, u64), usize>
-    ensures { result ≡ amounts_at text.now }
+    ensures { result ≡ amounts_at true text.now }
 {
     let years = field_at(b'Y', text);
     let months = field_at(b'M', years.behind);
@@ -110,7 +110,7 @@ fn amounts_at(text: &[u8]) -> Result<(u64, u64), usize>
 
 // A `P` and then the amounts.
 fn duration_at(text: &[u8]) -> Result<(u64, u64), usize>
-    ensures { result ≡ duration_at text.now }
+    ensures { result ≡ duration_at true text.now }
 {
     if !begins_with(b'P', text) {
         return Err(text.len());
@@ -133,7 +133,7 @@ fn ranged(amounts: (u64, u64)) -> Result<Period, ScheduleError>
 }
 
 /// The duration of ISO 8601 that the whole text is.
-#[tactic(auto, unfolding(crate::specs::IsoDurations::iso_duration))]
+#[tactic(auto, using(crate::proofs::Sums::iso_duration_ok, crate::proofs::Sums::iso_duration_err))]
 pub(crate) fn iso_duration(text: &[u8]) -> Result<Period, ScheduleError>
     ensures { result ≡ iso_duration text.now }
 {
@@ -145,7 +145,7 @@ pub(crate) fn iso_duration(text: &[u8]) -> Result<Period, ScheduleError>
 
 // The number of some digits, which a `/` follows.
 fn count_at(text: &[u8]) -> Result<(u64, &[u8]), usize>
-    ensures { Gives (λ x. (x.0, x.1.now)) result (count_at text.now) }
+    ensures { Gives (λ x. (x.0, x.1.now)) result (count_at true text.now) }
 {
     let (count, behind) = number_at(text);
     if begins_with_digit(text) && begins_with(b'/', behind) {
@@ -166,6 +166,7 @@ fn counted(count: u64, amounts: (u64, u64)) -> Result<(Period, Option<u32>), Sch
 }
 
 // A count, and the duration behind it.
+#[tactic(auto, using(crate::proofs::Sums::repeated_ok, crate::proofs::Sums::repeated_err))]
 fn repeated(text: &[u8], count: u64, behind: &[u8]) -> Result<(Period, Option<u32>), ScheduleError>
     ensures { result ≡ repeated text.now (count, behind.now) }
 {
@@ -179,7 +180,7 @@ fn repeated(text: &[u8], count: u64, behind: &[u8]) -> Result<(Period, Option<u3
 }
 
 /// A duration, and how often it is repeated if the text begins with an `R`.
-#[tactic(auto, unfolding(crate::specs::IsoDurations::iso_period))]
+#[tactic(auto, using(crate::proofs::Sums::iso_period_ok, crate::proofs::Sums::iso_period_err), unfolding(crate::specs::IsoDurations::iso_period))]
 pub(crate) fn iso_period(text: &[u8]) -> Result<(Period, Option<u32>), ScheduleError>
     ensures { result ≡ iso_period text.now }
 {

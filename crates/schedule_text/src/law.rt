@@ -1,10 +1,13 @@
 // What the definitions mean, in terms of the calendar and of the moments that follow one another.
-ghost use Rattle.std.specs.Prelude.{◌≡◌, ◌<◌, ◌≤◌, ◌+◌, ℕ, false, Some, None, pos};
+ghost use Rattle.std.specs.Prelude.{◌≡◌, ◌<◌, ◌≤◌, ◌+◌, ◌/◌, ◌%◌, ℕ, Bool, false, List, Some, None, pos};
 ghost use Rattle.jiff_core.specs.Calendar.{IsCivilDate, day_count};
 ghost use Rattle.schedule_text.specs.declared.advance.Period.{Period};
 ghost use Rattle.schedule_text.specs.Range.{end_of_time};
-ghost use Rattle.schedule_text.specs.Calendar.{date_of, days_to, days_to_1970};
+ghost use Rattle.schedule_text.specs.Calendar.{CivilDate, date_of, date_after, day_nanos, days_to, days_to_1970, months_on, IsMonthsAfter};
 ghost use Rattle.schedule_text.specs.Firing.{following, is_zero, FiresAt, FiringEnds};
+ghost use Rattle.schedule_text.specs.Moments.{moment_at, read_moment};
+ghost use Rattle.schedule_text.specs.GoDurations.{signed_sum, go_nanos};
+ghost use Rattle.schedule_text.specs.Grammar.{MomentText, AnswersMoment, GoText, AnswersGo};
 
 /// What `Schedule::advance` finds is the first moment after now among those that follow by one period each. If it
 /// finds none, the next of them would be past the last moment.
@@ -14,9 +17,28 @@ pub fn firing_law()
 {}
 
 /// Days and dates are those of the Gregorian calendar, which counts the days to a date by adding up its years and
-/// months.
+/// months. A date some months after another is in the month that is counted on to, with its day cut to that month, and
+/// a moment some months after another is on that date, at the same time of the day.
 pub fn calendar_law()
     ensures days { (y m d : ℕ) → 1 ≤ m → m ≤ 12 → 1 ≤ d → days_to y m d ≡ day_count (pos y) m d }
     ensures dates { (day : ℕ) → day < 2932532 → IsCivilDate (pos (date_of day).year) (date_of day).month (date_of day).day }
     ensures days_of_dates { (day : ℕ) → day < 2932532 → days_to (date_of day).year (date_of day).month (date_of day).day ≡ day + days_to_1970 }
+    ensures months { (date : CivilDate) (months : ℕ) → 1 ≤ date.month → IsMonthsAfter date months (date_after date months) }
+    ensures sums { (moment months : ℕ) → moment < end_of_time → months_on moment months / day_nanos + days_to_1970 ≡ days_to (date_after (date_of (moment / day_nanos)) months).year (date_after (date_of (moment / day_nanos)) months).month (date_after (date_of (moment / day_nanos)) months).day }
+    ensures times { (moment months : ℕ) → moment < end_of_time → months_on moment months % day_nanos ≡ moment % day_nanos }
+{}
+
+/// A text that has the form of a moment reads as the moment that its fields spell, and no other text is read. A fault
+/// is at the first byte that no text of a moment has there: some text of a moment has the bytes before it, and none has
+/// that byte as well. If two digits are a field out of its range, the fault is at the first of them.
+pub fn moment_law()
+    ensures form { (instant : ℕ × ℕ) (text : List ℕ) → MomentText instant text → read_moment text ≡ moment_at instant }
+    ensures answers { (text : List ℕ) → AnswersMoment text (read_moment text) }
+{}
+
+/// A text that has the form of a duration as Go writes it reads as the sum of its terms, each cut down to whole
+/// nanoseconds, with its sign. No text that is refused for its grammar has this form.
+pub fn go_duration_law()
+    ensures form { (negative : Bool) (sum : ℕ) (text : List ℕ) → GoText negative sum text → go_nanos text ≡ signed_sum negative sum }
+    ensures answers { (text : List ℕ) → AnswersGo text (go_nanos text) }
 {}

@@ -12,7 +12,7 @@ pub(crate) fn begins_with_digit(text: &[u8]) -> bool
 // The number with one more digit.
 fn with_digit(number: u64, byte: u8) -> u64
     requires { is_digit byte ≡ true }
-    ensures { result ≡ with_digit number byte }
+    ensures { result ≡ with_digit true number byte }
 {
     let digit = (byte - b'0') as u64;
     number.saturating_mul(10).saturating_add(digit)
@@ -20,7 +20,7 @@ fn with_digit(number: u64, byte: u8) -> u64
 
 /// The number at the start of a text, 0 if there is no digit, and what is behind it.
 pub(crate) fn number_at(text: &[u8]) -> (u64, &[u8])
-    ensures number { result.0 ≡ number_from 0 text.now }
+    ensures number { result.0 ≡ number_from true 0 text.now }
     ensures behind { result.1.now ≡ behind_digits text.now }
 {
     let mut number = 0;
