@@ -1,3 +1,6 @@
+mod Durable
+mod Orders
+mod Replays
 pub mod Settling
 pub mod Spaces
 mod Steps

@@ -1,4 +1,6 @@
 pub mod Placement
+pub mod Entries
+pub mod Restores
 pub mod Kept
 pub mod Views
 pub mod Runs

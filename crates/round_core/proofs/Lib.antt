@@ -4,7 +4,7 @@ pub mod Hosts
 pub mod Memory
 pub mod Openings
 pub mod Reached
-mod Replays
+pub mod Replays
 mod Rows
 pub mod Settling
 pub mod Versions

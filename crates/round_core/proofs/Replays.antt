@@ -173,12 +173,12 @@ record_is : (b : Bool) (x r : RecordOf) → cond b (Some x) None ≡ Some r → 
 record_is true x r e = cc
 record_is false x r e = absurd (cc)
 
-same_on : (s t u : RoomState) → SameDurableState s t → SameDurableState s u → SameDurableState u t
+pub same_on : (s t u : RoomState) → SameDurableState s t → SameDurableState s u → SameDurableState u t
 same_on s t u a b =
     record { next_version = a.next_version ∙ sym b.next_version; boots = a.boots ∙ sym b.boots; members = a.members ∙ sym b.members }
 
 -- if there is no record, nothing that a restart keeps has changed
-event_kept : (s : RoomState) (e : RunEvent) → IsReached s → record_after s e ≡ None → SameDurableState s (state_after s e)
+pub event_kept : (s : RoomState) (e : RunEvent) → IsReached s → record_after s e ≡ None → SameDurableState s (state_after s e)
 event_kept s (Steps event now) r n = (recorded_durable s event now).0 n
 event_kept s (Restarts now) r n =
     let u = room_restarted s now in
@@ -187,12 +187,12 @@ event_kept s (Restarts now) r n =
     record { next_version = eqb-true u.next_version s.next_version p.2; boots = k.boots; members = k.hosts }
 
 -- the state after the record is the same as after the event in what a restart keeps
-record Follows (t u : RoomState) (r : RecordOf) : Type 0 where
-  after : RoomState
-  is : after_record t r ≡ Some after
-  same : SameDurableState u after
+pub record Follows (t u : RoomState) (r : RecordOf) : Type 0 where
+  pub after : RoomState
+  pub is : after_record t r ≡ Some after
+  pub same : SameDurableState u after
 
-event_replayed : (s t : RoomState) (e : RunEvent) (r : RecordOf) → IsReached s → SameDurableState s t → record_after s e ≡ Some r → Follows t (state_after s e) r
+pub event_replayed : (s t : RoomState) (e : RunEvent) (r : RecordOf) → IsReached s → SameDurableState s t → record_after s e ≡ Some r → Follows t (state_after s e) r
 event_replayed s t (Steps event now) r reached d e =
     let m = apply_membership s event now in
     let u = (conclude m.state m.conclusion).state in
