@@ -1,5 +1,6 @@
 mod Places
 mod Maps
+mod Same
 mod Firsts
 mod Actors
 mod Fires

@@ -104,6 +104,18 @@ fn timer_period_counts_from_callback_end(rt: HostRuntime) -> Result<(), Fail> {
 }
 
 #[test]
+fn copies_have_the_same_texts(rt: HostRuntime) -> Result<(), Fail> {
+    let original = timer(rt.alloc(), "1s", "5s", "")?;
+    let copy = original.copy(rt.alloc())?;
+    assert_eq!(rt; copy.schedule, original.schedule);
+    assert_eq!(rt; copy.callback.as_str(), "ring");
+    assert_eq!(rt; copy.due.as_str(), "1s");
+    let period = copy.period.copy(rt.alloc())?;
+    assert_eq!(rt; period.as_str(), "5s");
+    Ok(())
+}
+
+#[test]
 fn old_registration_changes_nothing(rt: HostRuntime) -> Result<(), Fail> {
     let mut book = TimerBook::new(rt.alloc());
     assert_eq!(rt; set(rt.alloc(), &mut book, "1s", "5s", "")?, 1);

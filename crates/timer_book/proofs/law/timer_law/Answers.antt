@@ -3,12 +3,15 @@ use Rattle.timer_book.specs.declared.entry.TimerEntry.{TimerEntry}
 use Rattle.timer_book.specs.Entries.{timer_place, is_of}
 use Rattle.timer_book.proofs.Maps.{put-there, put-others, without-gone, without-others, filter-gone, filter-others}
 use Rattle.timer_book.proofs.Actors.{at_of, at_other}
+use Rattle.timer_book.proofs.Same.{place-of, place-same, entry_at-is}
 use Rattle.timer_book.proofs.Firsts.{due-first, none_waits}
 use Rattle.timer_book.proofs.law.timer_law.Goals as goal
 
 pub returns : goal.returns
 returns c = record {
   order = c.in_order.ensures;
+  places = λ key other name another. (place-of key other name another, place-same key other name another);
+  found = entry_at-is;
   put = put-there;
   put_others = put-others;
   removed = without-gone;
