@@ -6,6 +6,9 @@ pub mod Digits
 pub mod MomentLaws
 pub mod GoTerms
 pub mod GoTexts
+pub mod IsoFields
+pub mod IsoTexts
+pub mod IsoPeriods
 pub mod Jumps
 pub mod Walks
 pub mod Calendars

@@ -7,4 +7,5 @@ pub mod GoDurations
 pub mod IsoDurations
 pub mod Moments
 pub mod Grammar
+pub mod IsoGrammar
 pub mod Schedules

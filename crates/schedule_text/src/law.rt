@@ -1,13 +1,16 @@
 // What the definitions mean, in terms of the calendar and of the moments that follow one another.
-ghost use Rattle.std.specs.Prelude.{◌≡◌, ◌<◌, ◌≤◌, ◌+◌, ◌/◌, ◌%◌, ℕ, Bool, false, List, Some, None, pos};
+ghost use Rattle.std.specs.Prelude.{◌≡◌, ◌<◌, ◌≤◌, ◌+◌, ◌/◌, ◌%◌, ℕ, Bool, false, List, Option, Some, None, Err, pos};
 ghost use Rattle.jiff_core.specs.Calendar.{IsCivilDate, day_count};
 ghost use Rattle.schedule_text.specs.declared.advance.Period.{Period};
+ghost use Rattle.schedule_text.specs.declared.error.ScheduleError.TheVariants.{ZeroRepeats};
 ghost use Rattle.schedule_text.specs.Range.{end_of_time};
 ghost use Rattle.schedule_text.specs.Calendar.{CivilDate, date_of, date_after, day_nanos, days_to, days_to_1970, months_on, IsMonthsAfter};
 ghost use Rattle.schedule_text.specs.Firing.{following, is_zero, FiresAt, FiringEnds};
 ghost use Rattle.schedule_text.specs.Moments.{moment_at, read_moment};
 ghost use Rattle.schedule_text.specs.GoDurations.{signed_sum, go_nanos};
+ghost use Rattle.schedule_text.specs.IsoDurations.{ranged, iso_duration, iso_period};
 ghost use Rattle.schedule_text.specs.Grammar.{MomentText, AnswersMoment, GoText, AnswersGo};
+ghost use Rattle.schedule_text.specs.IsoGrammar.{IsoText, AnswersIso, PeriodText, ranged_period, BeginsZero, AnswersPeriod};
 
 /// What `Schedule::advance` finds is the first moment after now among those that follow by one period each. If it
 /// finds none, the next of them would be past the last moment.
@@ -41,4 +44,19 @@ pub fn moment_law()
 pub fn go_duration_law()
     ensures form { (negative : Bool) (sum : ℕ) (text : List ℕ) → GoText negative sum text → go_nanos text ≡ signed_sum negative sum }
     ensures answers { (text : List ℕ) → AnswersGo text (go_nanos text) }
+{}
+
+/// A text that has the form of a duration of ISO 8601 reads as its months and nanoseconds, if they are in range. No text
+/// that is refused for its grammar has this form.
+pub fn iso_duration_law()
+    ensures form { (amounts : ℕ × ℕ) (text : List ℕ) → IsoText amounts text → iso_duration text ≡ ranged amounts }
+    ensures answers { (text : List ℕ) → AnswersIso text (iso_duration text) }
+{}
+
+/// A text that has the form of a period of ISO 8601 reads as its count and its amounts, if they are in range; a count of
+/// 0 is refused, whatever follows it. No other text that is refused for its grammar has this form.
+pub fn iso_period_law()
+    ensures form { (count : Option ℕ) (amounts : ℕ × ℕ) (text : List ℕ) → PeriodText count amounts text → iso_period text ≡ ranged_period count amounts }
+    ensures zero { (text : List ℕ) → BeginsZero text → iso_period text ≡ Err ZeroRepeats }
+    ensures answers { (text : List ℕ) → AnswersPeriod text (iso_period text) }
 {}

@@ -19,7 +19,9 @@ mod reading;
 pub use advance::{Next, Period, Schedule, add_period};
 pub use error::ScheduleError;
 pub use go_duration::go_nanos;
-pub use law::{calendar_law, firing_law, go_duration_law, moment_law};
+pub use law::{
+    calendar_law, firing_law, go_duration_law, iso_duration_law, iso_period_law, moment_law,
+};
 pub use moment::Moment;
 pub use moment_printing::print_moment;
 pub use moment_reading::read_moment;
