@@ -1,32 +1,20 @@
 -- A text of a duration as Go writes it is read as its sum, and no other text is read.
-use Rattle.std.proofs.Common.{◌≡◌, ℕ, zero, suc, ◌+◌, ◌-◌, ◌<◌, ◌≤◌, ◌==◌, ◌&&◌, not, Bool, true, false, if◌then◌else◌, inl, inr, List, [], ◌∷◌, ◌++◌, length, length-append, arith, refl, sym, ap, ◌∙◌, subst, append_assoc, append-nil, Result, Ok, Err}
+use Rattle.std.proofs.Common.{◌≡◌, ℕ, zero, suc, ◌+◌, ◌-◌, ◌<◌, ◌≤◌, ◌==◌, ◌&&◌, not, Bool, true, false, if◌then◌else◌, inl, inr, ◌⊎◌, List, [], ◌∷◌, ◌++◌, length, length-append, arith, refl, sym, ap, ◌∙◌, subst, append_assoc, append-nil, Result, Ok, Err}
 use Rattle.std.specs.Prelude.{nat_le}
 use Rattle.std.proofs.lemmas.Bool.{eqb-true, ne_eqb}
 use Rattle.schedule_text.specs.declared.error.ScheduleError.{ScheduleError}
 use Rattle.schedule_text.specs.declared.error.ScheduleError.TheVariants.{BadMoment, BadDuration, Negative, ZeroRepeats, OutOfRange, OutOfMemory}
 use Rattle.schedule_text.specs.Numbers.{is_digit}
 use Rattle.schedule_text.specs.GoDurations.{most_nanos, term_at, terms_from, sum_at, behind_sign, is_negative, signed_sum, go_nanos}
-use Rattle.schedule_text.specs.Grammar.{AreDigits, LiteralText, Plain, Pointed, TermText, TermsText, Last, More, SignText, NoSign, Plus, Minus, GoText, Zero, Terms, AnswersGo}
+use Rattle.schedule_text.specs.Faults.{FirstFault}
+use Rattle.schedule_text.specs.Grammar.{AreDigits, LiteralText, Plain, Pointed, TermText, TermsText, Last, More, SignText, NoSign, Plus, Minus, GoText, Zero, Terms, IsGo, AnswersGo}
 use Rattle.schedule_text.proofs.Sums.{is_or}
 use Rattle.schedule_text.proofs.MomentFields.{digit_range}
+use Rattle.schedule_text.proofs.Places.{not_both, fault_place}
+use Rattle.schedule_text.proofs.GoPlaces.{terms_step, terms_stop, terms_end, go_at, go_placed}
 use Rattle.schedule_text.proofs.GoTerms.{Reads, Fails, TermView, term_view, term_read, term_length, terms_start, nothing_from}
 
 -- ---- sums
-
-terms_step : (most sum : ℕ) (text : List ℕ) (nanos : ℕ) (rest : List ℕ) → 0 < length text → term_at false text ≡ Ok (nanos, rest) → terms_from false (suc most) sum text ≡ terms_from false most (sum + nanos) rest
-unfolding terms_from
-terms_step most sum [] nanos rest some is = absurd (omega arith)
-terms_step most sum (b ∷ bs) nanos rest some is = rw is refl
-
-terms_stop : (most sum : ℕ) (text : List ℕ) (left : ℕ) → 0 < length text → term_at false text ≡ Err left → terms_from false (suc most) sum text ≡ Err left
-unfolding terms_from
-terms_stop most sum [] left some is = absurd (omega arith)
-terms_stop most sum (b ∷ bs) left some is = rw is refl
-
-terms_end : (most sum : ℕ) → terms_from false most sum [] ≡ Ok sum
-unfolding terms_from
-terms_end zero sum = refl
-terms_end (suc most) sum = refl
 
 data SumView (most sum : ℕ) (text : List ℕ) : Type 0 where
   Sums : (rest : ℕ) → TermsText rest text → terms_from false most sum text ≡ Ok (sum + rest) → SumView most sum text
@@ -145,7 +133,7 @@ go_text negative sum sign body text signed is (Several terms) = Terms sign body 
 
 data GoView (text : List ℕ) : Type 0 where
   Duration : (negative : Bool) (sum : ℕ) → GoText negative sum text → go_nanos text ≡ signed_sum negative sum → GoView text
-  NoDuration : (at : ℕ) → go_nanos text ≡ Err (BadDuration at) → GoView text
+  NoDuration : (left : ℕ) → go_at text ≡ Err left → go_nanos text ≡ Err (BadDuration (length text - left)) → GoView text
 
 go_nanos-sum : (text body : List ℕ) (negative : Bool) (sum : ℕ) → behind_sign text ≡ body → is_negative text ≡ negative → sum_at false body ≡ Ok sum → go_nanos text ≡ signed_sum negative sum
 unfolding go_nanos
@@ -157,7 +145,7 @@ go_nanos-fault text body left behind is = rw (behind, is) refl
 
 go_by : (text sign body : List ℕ) (negative : Bool) → SignText negative sign → text ≡ sign ++ body → behind_sign text ≡ body → is_negative text ≡ negative → BodyView body → GoView text
 go_by text sign body negative signed is behind negative_is (Sum sum form read) = Duration negative sum (go_text negative sum sign body text signed is form) (go_nanos-sum text body negative sum behind negative_is read)
-go_by text sign body negative signed is behind negative_is (Fault left fault) = NoDuration (length text - left) (go_nanos-fault text body left behind fault)
+go_by text sign body negative signed is behind negative_is (Fault left fault) = NoDuration left (ap (sum_at false) behind ∙ fault) (go_nanos-fault text body left behind fault)
 
 go_view : (text : List ℕ) → GoView text
 go_view [] = go_by [] [] [] false (NoSign refl refl) refl refl refl (body_view [])
@@ -223,8 +211,24 @@ signed_by false false sum at is = cc
 signed-no_fault : (negative : Bool) (sum at : ℕ) → signed_sum negative sum ≡ Err (BadDuration at) → ⊥
 signed-no_fault negative sum at is = signed_by (negative && not (sum == 0)) (nat_le sum most_nanos) sum at is
 
-no_form : (text : List ℕ) (at : ℕ) → go_nanos text ≡ Err (BadDuration at) → (negative : Bool) (sum : ℕ) → GoText negative sum text → ⊥
-no_form text at fault negative sum form = signed-no_fault negative sum at (sym (go_nanos-form negative sum text form) ∙ fault)
+-- ---- the place of a fault
+
+sound_by : (text : List ℕ) (sum : ℕ) → go_at text ≡ Ok sum → GoView text → IsGo text
+sound_by text sum ok (Duration negative value form is) = (negative, value, form)
+sound_by text sum ok (NoDuration left fault is) = absurd (not_both sum left (go_at text) ok fault)
+
+go_or : (r : Result ℕ ℕ) → ((sum : ℕ) × (r ≡ Ok sum)) ⊎ ((left : ℕ) × (r ≡ Err left))
+go_or (Ok sum) = inl (sum, refl)
+go_or (Err left) = inr (left, refl)
+
+complete : (text : List ℕ) → IsGo text → (sum : ℕ) × (go_at text ≡ Ok sum)
+complete text form = elim (go_or (go_at text)) [
+  | inl ok ↦ ok
+  | inr fault ↦ absurd (signed-no_fault form.0 form.1 (length text - fault.0) (sym (go_nanos-form form.0 form.1 text form.2) ∙ go_nanos-fault text (behind_sign text) fault.0 refl fault.1))
+]
+
+fault_at : (text : List ℕ) (left : ℕ) → go_at text ≡ Err left → FirstFault IsGo text (length text - left)
+fault_at text left fault = fault_place go_at IsGo (λ text sum ok. sound_by text sum ok (go_view text)) complete text left fault (go_placed text)
 
 answered : (text : List ℕ) (negative : Bool) (sum : ℕ) (answer : Result ℕ ScheduleError) → GoText negative sum text → answer ≡ signed_sum negative sum → AnswersGo text answer
 answered text negative sum (Ok n) form is = (negative, sum, form, is)
@@ -237,7 +241,7 @@ answered text negative sum (Err OutOfMemory) form is = (negative, sum, form, is)
 
 answers_by : (text : List ℕ) → GoView text → AnswersGo text (go_nanos text)
 answers_by text (Duration negative sum form is) = answered text negative sum (go_nanos text) form is
-answers_by text (NoDuration at fault) = rw fault (no_form text at fault)
+answers_by text (NoDuration left fault is) = rw is (fault_at text left fault)
 
 pub go_nanos-answers : (text : List ℕ) → AnswersGo text (go_nanos text)
 go_nanos-answers text = answers_by text (go_view text)

@@ -9,9 +9,12 @@ use Rattle.schedule_text.specs.Numbers.{behind_digits}
 use Rattle.schedule_text.specs.Reading.{◌>>=◌}
 use Rattle.schedule_text.specs.GoDurations.{most_nanos, behind_first}
 use Rattle.schedule_text.specs.IsoDurations.{begins_with, has_field, field_number, behind_field, duration_at, most_months, ranged, iso_duration, count_at, counted, repeated, iso_period}
-use Rattle.schedule_text.specs.IsoGrammar.{FieldText, NoField, Field, IsoText, CountText, Count, PeriodText, Alone, Counted, BeginsZero, ranged_period, AnswersPeriod}
+use Rattle.schedule_text.specs.Faults.{FirstFault}
+use Rattle.schedule_text.specs.IsoGrammar.{FieldText, NoField, Field, IsoText, CountText, Count, PeriodText, Alone, Counted, BeginsZero, ranged_period, IsPeriod, AnswersPeriod}
 use Rattle.schedule_text.proofs.Sums.{is_or}
 use Rattle.schedule_text.proofs.IsoFields.{begins_is, field_read, field_is_there}
+use Rattle.schedule_text.proofs.IsoPlaces.{period_at, period_placed}
+use Rattle.schedule_text.proofs.Places.{not_both, fault_place}
 use Rattle.schedule_text.proofs.IsoTexts.{duration_read, duration_sound, amounts_or}
 
 -- ---- a count
@@ -119,10 +122,20 @@ iso_period-zero text zeros =
 
 -- ---- every answer
 
+-- where the place of a fault is read from
+period_at-there : (text : List ℕ) → begins_with 82 text ≡ true → has_field 47 (behind_first text) ≡ true → period_at text ≡ duration_at false (behind_count text)
+period_at-there text first there = rw (first, there) refl
+
+period_at-none : (text : List ℕ) → begins_with 82 text ≡ true → has_field 47 (behind_first text) ≡ false → period_at text ≡ Err (length (behind_digits (behind_first text)))
+period_at-none text first none = rw (first, none) refl
+
+period_at-alone : (text : List ℕ) → begins_with 82 text ≡ false → period_at text ≡ duration_at false text
+period_at-alone text other = rw other refl
+
 pub data PeriodView (text : List ℕ) : Type 0 where
   Reads : (count : Option ℕ) (amounts : ℕ × ℕ) → PeriodText count amounts text → (ranged_period count amounts ≡ Err ZeroRepeats → ⊥) → iso_period text ≡ ranged_period count amounts → PeriodView text
   Zeros : BeginsZero text → iso_period text ≡ Err ZeroRepeats → PeriodView text
-  Fails : (at : ℕ) → iso_period text ≡ Err (BadDuration at) → PeriodView text
+  Fails : (left : ℕ) → period_at text ≡ Err left → iso_period text ≡ Err (BadDuration (length text - left)) → PeriodView text
 
 -- the answer for amounts and an optional count
 abbrev answer_by : Bool → Period → Option ℕ → Result (Period × Option ℕ) ScheduleError
@@ -177,7 +190,7 @@ counted_view text first there =
             Reads (Some (count_of text)) ok.0 (Counted (count_of text) parts.front (behind_count text) parts.is_count (duration_sound (behind_count text) ok.0 ok.1) parts.text_is refl)
             (λ zeros. zero_is_no_range (several_fault (count_of text) ok.0 ZeroRepeats some zeros))
             (step ∙ repeated-ok text (count_of text) (behind_count text) ok.0 some ok.1)
-        | inr fault ↦ Fails (length text - fault.0) (step ∙ repeated-fault text (count_of text) (behind_count text) fault.0 some fault.1)
+        | inr fault ↦ Fails fault.0 (period_at-there text first there ∙ fault.1) (step ∙ repeated-fault text (count_of text) (behind_count text) fault.0 some fault.1)
       ]
     ]
 
@@ -185,11 +198,11 @@ pub period_view : (text : List ℕ) → PeriodView text
 period_view text = elim (is_or (begins_with 82 text)) [
   | inl first ↦ elim (is_or (has_field 47 (behind_first text))) [
     | inl there ↦ counted_view text first there
-    | inr none ↦ Fails (length text - length (behind_digits (behind_first text))) (iso_period-no_count text first none)
+    | inr none ↦ Fails (length (behind_digits (behind_first text))) (period_at-none text first none) (iso_period-no_count text first none)
   ]
   | inr other ↦ elim (amounts_or (duration_at false text)) [
     | inl ok ↦ Reads None ok.0 (Alone refl (duration_sound text ok.0 ok.1)) (λ zeros. zero_is_no_range (alone_fault ok.0 ZeroRepeats zeros)) (iso_period-alone text ok.0 other ok.1)
-    | inr fault ↦ Fails (length text - fault.0) (iso_period-alone_fault text fault.0 other fault.1)
+    | inr fault ↦ Fails fault.0 (period_at-alone text other ∙ fault.1) (iso_period-alone_fault text fault.0 other fault.1)
   ]
 ]
 
@@ -210,13 +223,33 @@ answered text count amounts (Err ZeroRepeats) form no_zero is = absurd (no_zero 
 answered text count amounts (Err OutOfRange) form no_zero is = (count, amounts, form, is)
 answered text count amounts (Err OutOfMemory) form no_zero is = (count, amounts, form, is)
 
-no_form : (text : List ℕ) (at : ℕ) → iso_period text ≡ Err (BadDuration at) → (count : Option ℕ) (amounts : ℕ × ℕ) → PeriodText count amounts text → ⊥
-no_form text at fault count amounts form = ranged_period-no_fault count amounts at (sym (iso_period-form count amounts text form) ∙ fault)
+-- ---- the place of a fault
+
+period_sound : (text : List ℕ) (a : ℕ × ℕ) → period_at text ≡ Ok a → IsPeriod text
+period_sound text a ok = elim (is_or (begins_with 82 text)) [
+  | inl first ↦ elim (is_or (has_field 47 (behind_first text))) [
+    | inl there ↦
+        let parts = splits text first there in
+        (Some (count_of text), a, Counted (count_of text) parts.front (behind_count text) parts.is_count (duration_sound (behind_count text) a (sym (period_at-there text first there) ∙ ok)) parts.text_is refl)
+    | inr none ↦ absurd (let none_read = period_at-none text first none in not_both a (length (behind_digits (behind_first text))) (period_at text) ok none_read)
+  ]
+  | inr other ↦ (None, a, Alone refl (duration_sound text a (sym (period_at-alone text other) ∙ ok)))
+]
+
+period_complete_by : (text : List ℕ) (count : Option ℕ) (amounts : ℕ × ℕ) → PeriodText count amounts text → period_at text ≡ Ok amounts
+period_complete_by text count amounts (Alone none form) = let first : begins_with 82 text ≡ false = ap (begins_with 82) form.text_is in period_at-alone text first ∙ duration_read amounts text form
+period_complete_by text count amounts (Counted n front duration is_count form is value) =
+    let at = count_is n front duration text is_count is in
+    period_at-there text at.first at.there ∙ ap (duration_at false) at.behind ∙ duration_read amounts duration form
+
+fault_at : (text : List ℕ) (left : ℕ) → period_at text ≡ Err left → FirstFault IsPeriod text (length text - left)
+fault_at text left fault =
+    fault_place period_at IsPeriod period_sound (λ text form. (form.1, period_complete_by text form.0 form.1 form.2)) text left fault (period_placed text)
 
 answers_by : (text : List ℕ) → PeriodView text → AnswersPeriod text (iso_period text)
 answers_by text (Reads count amounts form no_zero is) = answered text count amounts (iso_period text) form no_zero is
 answers_by text (Zeros begins is) = rw is begins
-answers_by text (Fails at is) = rw is (no_form text at is)
+answers_by text (Fails left fault is) = rw is (fault_at text left fault)
 
 pub iso_period-answers : (text : List ℕ) → AnswersPeriod text (iso_period text)
 iso_period-answers text = answers_by text (period_view text)

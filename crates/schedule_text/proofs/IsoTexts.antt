@@ -7,8 +7,11 @@ use Rattle.schedule_text.specs.declared.error.ScheduleError.TheVariants.{BadMome
 use Rattle.schedule_text.specs.declared.advance.Period.{Period}
 use Rattle.schedule_text.specs.GoDurations.{most_nanos, behind_first}
 use Rattle.schedule_text.specs.IsoDurations.{begins_with, has_field, field_number, behind_field, left_at, time_at, amounts_at, duration_at, most_months, ranged, iso_duration}
-use Rattle.schedule_text.specs.IsoGrammar.{FieldText, TimeText, NoTime, Time, IsoText, AnswersIso}
+use Rattle.schedule_text.specs.Faults.{FirstFault}
+use Rattle.schedule_text.specs.IsoGrammar.{FieldText, TimeText, NoTime, Time, IsoText, IsIso, AnswersIso}
 use Rattle.schedule_text.proofs.Sums.{is_or}
+use Rattle.schedule_text.proofs.Places.{fault_place}
+use Rattle.schedule_text.proofs.IsoPlaces.{duration_placed}
 use Rattle.schedule_text.proofs.IsoFields.{begins_is, and_both, and_first, and_second, or_first, or_second, true_false, either_there, either_some, field_read, field_is, no_field}
 
 -- ---- a time
@@ -302,11 +305,12 @@ answered text amounts (Err ZeroRepeats) form is = (amounts, form, is)
 answered text amounts (Err OutOfRange) form is = (amounts, form, is)
 answered text amounts (Err OutOfMemory) form is = (amounts, form, is)
 
-no_form : (text : List ℕ) (left : ℕ) → duration_at false text ≡ Err left → (amounts : ℕ × ℕ) → IsoText amounts text → ⊥
-no_form text left fault amounts form = no_amounts amounts left (duration_at false text) (duration_read amounts text form) fault
+fault_at : (text : List ℕ) (left : ℕ) → duration_at false text ≡ Err left → FirstFault IsIso text (length text - left)
+fault_at text left fault =
+    fault_place (duration_at false) IsIso (λ text a ok. (a, duration_sound text a ok)) (λ text form. (form.0, duration_read form.0 text form.1)) text left fault (duration_placed text)
 
 pub iso_duration-answers : (text : List ℕ) → AnswersIso text (iso_duration text)
 iso_duration-answers text = elim (amounts_or (duration_at false text)) [
   | inl ok ↦ answered text ok.0 (iso_duration text) (duration_sound text ok.0 ok.1) (iso_duration-ok text ok.0 ok.1)
-  | inr fault ↦ rw (iso_duration-fault text fault.0 fault.1) (no_form text fault.0 fault.1)
+  | inr fault ↦ rw (iso_duration-fault text fault.0 fault.1) (fault_at text fault.0 fault.1)
 ]

@@ -5,9 +5,12 @@ pub mod MomentTexts
 pub mod Digits
 pub mod MomentLaws
 pub mod GoTerms
+pub mod Places
+pub mod GoPlaces
 pub mod GoTexts
 pub mod IsoFields
 pub mod IsoTexts
+pub mod IsoPlaces
 pub mod IsoPeriods
 pub mod Jumps
 pub mod Walks

@@ -6,6 +6,7 @@ use Rattle.schedule_text.specs.declared.error.ScheduleError.{ScheduleError}
 use Rattle.schedule_text.specs.declared.error.ScheduleError.TheVariants.{BadMoment, BadDuration}
 use Rattle.schedule_text.specs.Calendar.{CivilDate, days_to}
 use Rattle.schedule_text.specs.Numbers.{is_digit}
+use Rattle.schedule_text.specs.Faults.{FirstFault}
 use Rattle.schedule_text.specs.GoDurations.{signed_sum}
 use Rattle.schedule_text.specs.Moments.{two_digits, date_text, utc_seconds, moment_at}
 
@@ -131,7 +132,12 @@ pub data GoText (negative : Bool) (sum : ℕ) (text : List ℕ) : Type 0 where
   Zero : (sign : List ℕ) → SignText negative sign → text ≡ sign ++ 48 ∷ [] → sum ≡ 0 → GoText negative sum text
   Terms : (sign terms : List ℕ) → SignText negative sign → TermsText sum terms → text ≡ sign ++ terms → GoText negative sum text
 
--- What is answered to a text: no text with a fault is a duration; anything else is the answer for its sign and its sum.
+-- a text of a duration
+abbrev pub IsGo : List ℕ → Type 0
+IsGo text = (negative : Bool) × (sum : ℕ) × GoText negative sum text
+
+-- What is answered to a text: a fault is placed at the first byte that no text of a duration has there; anything else is
+-- the answer for its sign and its sum.
 abbrev pub AnswersGo : List ℕ → Result ℕ ScheduleError → Type 0
-AnswersGo text (Err (BadDuration at)) = (negative : Bool) (sum : ℕ) → GoText negative sum text → ⊥
+AnswersGo text (Err (BadDuration at)) = FirstFault IsGo text at
 AnswersGo text answer = (negative : Bool) × (sum : ℕ) × GoText negative sum text × (answer ≡ signed_sum negative sum)

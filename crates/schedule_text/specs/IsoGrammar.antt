@@ -6,6 +6,7 @@ use Rattle.schedule_text.specs.declared.error.ScheduleError.TheVariants.{BadDura
 use Rattle.schedule_text.specs.declared.advance.Period.{Period}
 use Rattle.schedule_text.specs.Reading.{◌>>=◌}
 use Rattle.schedule_text.specs.IsoDurations.{ranged, counted}
+use Rattle.schedule_text.specs.Faults.{FirstFault}
 use Rattle.schedule_text.specs.Grammar.{AreDigits, value_of}
 
 -- ---- durations
@@ -42,9 +43,14 @@ pub record IsoText (amounts : ℕ × ℕ) (text : List ℕ) : Type 0 where
   pub text_is : text ≡ 80 ∷ (y ++ m ++ w ++ d ++ t)
   pub amounts_is : amounts ≡ (years * 12 + months, weeks * 604800000000000 + days * 86400000000000 + time)
 
--- What is answered to a text: no text with a fault is a duration; anything else is the answer for its amounts.
+-- a text of a duration
+abbrev pub IsIso : List ℕ → Type 0
+IsIso text = (amounts : ℕ × ℕ) × IsoText amounts text
+
+-- What is answered to a text: a fault is placed at the first byte that no text of a duration has there; anything else is
+-- the answer for its amounts.
 abbrev pub AnswersIso : List ℕ → Result Period ScheduleError → Type 0
-AnswersIso text (Err (BadDuration at)) = (amounts : ℕ × ℕ) → IsoText amounts text → ⊥
+AnswersIso text (Err (BadDuration at)) = FirstFault IsIso text at
 AnswersIso text answer = (amounts : ℕ × ℕ) × IsoText amounts text × (answer ≡ ranged amounts)
 
 -- ---- periods
@@ -67,9 +73,13 @@ abbrev pub ranged_period : Option ℕ → ℕ × ℕ → Result (Period × Optio
 ranged_period None amounts = ranged amounts >>= λ period. Ok (period, None)
 ranged_period (Some count) amounts = if count == 0 then Err ZeroRepeats else counted count amounts
 
--- What is answered to a text: no text with a fault is a period; a count of 0 is refused whatever follows it; anything
--- else is the answer for its count and its amounts.
+-- a text of a period
+abbrev pub IsPeriod : List ℕ → Type 0
+IsPeriod text = (count : Option ℕ) × (amounts : ℕ × ℕ) × PeriodText count amounts text
+
+-- What is answered to a text: a fault is placed at the first byte that no text of a period has there; a count of 0 is
+-- refused whatever follows it; anything else is the answer for its count and its amounts.
 abbrev pub AnswersPeriod : List ℕ → Result (Period × Option ℕ) ScheduleError → Type 0
-AnswersPeriod text (Err (BadDuration at)) = (count : Option ℕ) (amounts : ℕ × ℕ) → PeriodText count amounts text → ⊥
+AnswersPeriod text (Err (BadDuration at)) = FirstFault IsPeriod text at
 AnswersPeriod text (Err ZeroRepeats) = BeginsZero text
 AnswersPeriod text answer = (count : Option ℕ) × (amounts : ℕ × ℕ) × PeriodText count amounts text × (answer ≡ ranged_period count amounts)

@@ -6,6 +6,7 @@ pub mod Reading
 pub mod GoDurations
 pub mod IsoDurations
 pub mod Moments
+pub mod Faults
 pub mod Grammar
 pub mod IsoGrammar
 pub mod Schedules

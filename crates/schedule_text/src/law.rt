@@ -40,21 +40,23 @@ pub fn moment_law()
 {}
 
 /// A text that has the form of a duration as Go writes it reads as the sum of its terms, each cut down to whole
-/// nanoseconds, with its sign. No text that is refused for its grammar has this form.
+/// nanoseconds, with its sign, and no other text is read. A fault is at the first byte that no text of a duration has
+/// there: some text of a duration has the bytes before it, and none has that byte as well.
 pub fn go_duration_law()
     ensures form { (negative : Bool) (sum : ℕ) (text : List ℕ) → GoText negative sum text → go_nanos text ≡ signed_sum negative sum }
     ensures answers { (text : List ℕ) → AnswersGo text (go_nanos text) }
 {}
 
-/// A text that has the form of a duration of ISO 8601 reads as its months and nanoseconds, if they are in range. No text
-/// that is refused for its grammar has this form.
+/// A text that has the form of a duration of ISO 8601 reads as its months and nanoseconds, if they are in range, and no
+/// other text is read. A fault is at the first byte that no text of a duration has there.
 pub fn iso_duration_law()
     ensures form { (amounts : ℕ × ℕ) (text : List ℕ) → IsoText amounts text → iso_duration text ≡ ranged amounts }
     ensures answers { (text : List ℕ) → AnswersIso text (iso_duration text) }
 {}
 
-/// A text that has the form of a period of ISO 8601 reads as its count and its amounts, if they are in range; a count of
-/// 0 is refused, whatever follows it. No other text that is refused for its grammar has this form.
+/// A text that has the form of a period of ISO 8601 reads as its count and its amounts, if they are in range, and no
+/// other text is read; a count of 0 is refused, whatever follows it. A fault is at the first byte that no text of a
+/// period has there.
 pub fn iso_period_law()
     ensures form { (count : Option ℕ) (amounts : ℕ × ℕ) (text : List ℕ) → PeriodText count amounts text → iso_period text ≡ ranged_period count amounts }
     ensures zero { (text : List ℕ) → BeginsZero text → iso_period text ≡ Err ZeroRepeats }
