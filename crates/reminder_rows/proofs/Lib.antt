@@ -1,0 +1,6 @@
+mod Maps
+mod Sorted
+mod Dues
+mod Newest
+mod Examples
+mod Timely

@@ -1,0 +1,3 @@
+pub mod Reminders
+pub mod Filing
+pub mod Orders
