@@ -1,5 +1,6 @@
 mod Durable
 mod Orders
+mod Refusals
 mod Replays
 pub mod Settling
 pub mod Spaces

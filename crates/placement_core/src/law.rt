@@ -3,6 +3,7 @@ ghost use Rattle.std.specs.Prelude.{◌≡◌, ◌↔◌, ℕ, List, []};
 ghost use Rattle.std.specs.declared.result.Result.TheVariants.{Ok};
 ghost use Rattle.round_core.specs.declared.event.PlaceEvent.{PlaceEvent};
 ghost use Rattle.round_core.specs.Runs.{RunEvent};
+ghost use Rattle.round_core.specs.Settled.{IsRefusal};
 ghost use Rattle.placement_core.specs.Entries.{placement_record};
 ghost use Rattle.placement_core.specs.Placement.{PlacementState, new_placement, placement_step, placement_restarted};
 ghost use Rattle.placement_core.specs.Restores.{placement_restored};
@@ -24,4 +25,9 @@ pub fn replayed_law()
 /// every placement are in order (clause `order` of `Placement::rooms`).
 pub fn durable_law()
     ensures { (s : PlacementState) (event : PlaceEvent) (now : ℕ) → AreRooms s.rooms → (placement_record s event now ≡ []) ↔ SameRooms s.rooms (placement_step s event now).state.rooms }
+{}
+
+/// A refused event changes nothing, in any rooms that are in order.
+pub fn placement_refused_law()
+    ensures { (s : PlacementState) (event : PlaceEvent) (now : ℕ) → AreRooms s.rooms → IsRefusal (placement_step s event now).reply → (placement_step s event now).state ≡ s }
 {}

@@ -9,7 +9,7 @@ mod placement;
 mod rooms;
 mod sweep;
 
-pub use law::{durable_law, replayed_law, rooms_settled_law};
+pub use law::{durable_law, placement_refused_law, replayed_law, rooms_settled_law};
 pub use placement::Placement;
 pub use round_core::{AckStage, PlaceEvent, PlaceReply};
 
