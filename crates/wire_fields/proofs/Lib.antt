@@ -1,0 +1,5 @@
+pub mod FieldLaws
+pub mod PartLaws
+pub mod RecordLaws
+pub mod Loops
+mod TextLaws
