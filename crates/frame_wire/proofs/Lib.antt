@@ -1,0 +1,7 @@
+mod KindLaws
+mod RefusalLaws
+mod StoreLaws
+mod FrameLaws
+mod LookLaws
+mod Taking
+mod StreamLaws

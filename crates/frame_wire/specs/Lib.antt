@@ -1,0 +1,7 @@
+pub mod Kinds
+pub mod Refusals
+pub mod StoreParts
+pub mod Store
+pub mod Frames
+pub mod Streams
+pub mod Laws

@@ -1,0 +1,34 @@
+// Why the store refuses a command.
+use schedule_text::Moment;
+
+/// Why the store refuses a command. `op` is the index of an operation, counted from 0.
+#[derive(Clone, Copy, Debug, PartialEq, Eq)]
+pub enum StoreRefusal {
+    /// The boot of the stamp isn't `greatest`, the greatest one of its node, which is at most 2^62, and 0 for an
+    /// unknown node.
+    OtherBoot { greatest: u64 },
+    /// The number of the stamp isn't above `floor`, and its answer isn't kept any more.
+    OldSeq { floor: u64 },
+    /// There are already as many nodes as there may be.
+    NodesFull { nodes: u32 },
+    /// The last boot, 2^62, was drawn.
+    Spent,
+    /// There are `n` operations, too many.
+    TooManyOps { n: u64 },
+    /// The key has `n` bytes: none, or too many.
+    KeyTooLong { op: u64, n: u64 },
+    /// The value has `n` bytes, too many.
+    ValueTooLong { op: u64, n: u64 },
+    /// The reminder is due at another moment, `next`.
+    OtherMoment { next: Moment },
+    /// The journal has `len` bytes and no room for more.
+    Full { len: u64 },
+    /// The disk failed.
+    DiskFault,
+    /// The disk failed before; the store must be opened again.
+    Reopen,
+    /// There was no memory; the store is as before.
+    OutOfMemory,
+    /// The command has `n` bytes in the journal, more than a record may have.
+    CommandTooLong { n: u64 },
+}
