@@ -1,6 +1,9 @@
 mod AddressParts
+mod AddressTexts
+mod DecimalPieces
 mod FirstBad
 mod Examples
+mod MemberTexts
 mod Numerals
 mod PaddingLemmas
 pub mod Slashes

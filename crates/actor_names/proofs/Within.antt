@@ -1,12 +1,12 @@
 -- A fault's place is within its text.
-use Rattle.std.proofs.Common.{◌≡◌, ℕ, zero, suc, ◌+◌, ◌-◌, ◌<◌, ◌≤◌, ◌==◌, nat_lt, nat_le, Bool, true, false, List, [], ◌∷◌, length, take, drop, add-one, arith, length-drop, Option, Some, None, option_map, if◌then◌else◌, refl, sym, ap, subst, ◌∙◌, inl, inr}
+use Rattle.std.proofs.Common.{◌≡◌, ℕ, zero, suc, ◌+◌, ◌-◌, ◌<◌, ◌≤◌, ◌==◌, nat_lt, nat_le, Bool, List, [], ◌∷◌, length, take, drop, arith, length-drop, Option, Some, None, option_map, subst, inl, inr}
 use Rattle.std.proofs.lemmas.Bool.{cond_both, cases_lt}
 use Rattle.actor_names.specs.declared.error.NameError.{NameError}
 use Rattle.actor_names.specs.declared.error.NameError.TheVariants.{Empty, TooLong, BadByte, OutOfMemory}
-use Rattle.actor_names.specs.Names.{first_bad, text_fault, placed_from, first_of_two, second_fault, before_slash, after_slash, is_type_byte, is_node_byte, is_id_byte, actor_type_fault, actor_id_fault, node_fault, local_key_fault}
+use Rattle.actor_names.specs.Names.{first_bad, text_fault, placed_from, first_of_two, second_fault, before_slash, after_slash, is_type_byte, is_node_byte, is_id_byte, actor_id_fault, local_key_fault}
 use Rattle.lists_and_limits.specs.Decimals.{number_of}
 use Rattle.lists_and_limits.specs.Limits.{last_number}
-use Rattle.actor_names.specs.Numerals.{numeral_of, ended_fault, number_fault, boot_fault, local_member_fault}
+use Rattle.actor_names.specs.Numerals.{numeral_of, ended_fault, boot_fault, local_member_fault}
 use Rattle.actor_names.proofs.Slashes.{after_slash-some, after_slash-none, length-before_slash-le}
 use Rattle.actor_names.proofs.Numerals.{take-numeral_of}
 

@@ -5,3 +5,4 @@ pub mod Numerals
 pub mod Padding
 pub mod NameLengths
 pub mod Same
+pub mod Forms

@@ -10,6 +10,7 @@ mod byte_class;
 mod chain_id;
 mod error;
 mod forms;
+mod law;
 mod member;
 mod name;
 mod numeral;
@@ -27,6 +28,7 @@ pub use forms::{
     actor_id_fault, actor_type_fault, app_id_fault, node_fault, read_actor_id, read_actor_type,
     read_app_id, read_node, read_record_name, read_space, record_name_fault, space_fault,
 };
+pub use law::{address_law, member_law};
 pub use lists_and_limits::{OutOfMemory, read_decimal};
 pub use member::{MOST_BOOT, Member, member_fault, read_member};
 pub use name::{Name, NameForm};
