@@ -1,0 +1,114 @@
+// HTTP messages over a connection in memory, as a program whose runs can be timed.
+//
+//     serve COUNT     reads COUNT requests of a method call with a body of 200 bytes, and writes a response to each
+//     copy COUNT      reads the bytes of as many requests in pieces and writes them back, without messages
+//
+// It prints how many requests or bytes there were. It has no contracts of its own. It depends on http_edge and
+// actor_ports.
+#![tactic(auto)]
+
+use actor_ports::{MemConn, Sink, Source};
+use http_edge::{
+    Bytes, HttpField, HttpFields, HttpRequest, HttpResponse, RequestReader, write_response,
+};
+use std::alloc::Global;
+use std::rt::Env;
+use std::{env, io};
+
+const HEAD: &[u8] =
+    b"PUT /v1.0/actors/cart/42/method/add HTTP/1.1\r\nHost: 127.0.0.1:3500\r\nContent-Type: application/json\r\nContent-Length: 200\r\n\r\n";
+
+const BODY: [u8; 200] = [b'7'; 200];
+
+fn main(rt: HostRuntime) -> io::Result<()> {
+    let Some((mode, count)) = words(&rt)? else {
+        println!(rt; "http_trial serve|copy COUNT")?;
+        return Ok(());
+    };
+    match run(rt.alloc(), mode.as_str(), count) {
+        Some(done) => println!(rt; "{done}"),
+        None => println!(rt; "memory ran out, or the words are wrong"),
+    }
+}
+
+/// The two words after the program's name; `None` if there are fewer, or the second isn't a number.
+fn words<R: Env + AllocGlobal>(rt: &R) -> io::Result<Option<(String, u64)>> {
+    let mut words = env::args(rt)?;
+    let _name = words.next();
+    let (Some(mode), Some(count)) = (words.next(), words.next()) else {
+        return Ok(None);
+    };
+    match count.as_str().parse::<u64>() {
+        Ok(count) => Ok(Some((mode, count))),
+        Err(_) => Ok(None),
+    }
+}
+
+/// Does what `mode` says and answers the count; `None` if memory ran out, or if `mode` is neither of the two.
+fn run(alloc: Global, mode: &str, count: u64) -> Option<u64> {
+    let conn = connection(alloc, count)?;
+    match mode {
+        "serve" => serve_all(alloc, conn),
+        "copy" => copy_all(alloc, conn),
+        _ => None,
+    }
+}
+
+/// A connection over which so many requests come.
+fn connection(alloc: Global, count: u64) -> Option<MemConn> {
+    let mut text = Vec::new(alloc);
+    for _ in 0..count {
+        text.extend_from_slice(HEAD).ok()?;
+        text.extend_from_slice(&BODY).ok()?;
+    }
+    MemConn::new(alloc, text.as_slice(), &[]).ok()
+}
+
+fn serve_all(alloc: Global, conn: MemConn) -> Option<u64> {
+    let mut conn = conn;
+    let mut reader = RequestReader::new(alloc);
+    for served in 0..u64::MAX {
+        match reader.read(&mut conn) {
+            Ok(Some(request)) => {
+                answer(alloc, request, &mut conn)?;
+            }
+            Ok(None) => return Some(served),
+            Err(_) => return None,
+        }
+    }
+    None
+}
+
+/// Writes a response that has the body of the request.
+fn answer(alloc: Global, request: HttpRequest, conn: &mut MemConn) -> Option<()> {
+    let response = HttpResponse {
+        status: 200,
+        fields: content_type(alloc)?,
+        body: request.body,
+    };
+    write_response(alloc, &response, conn).ok()
+}
+
+fn content_type(alloc: Global) -> Option<HttpFields> {
+    let name = Bytes::from_slice(alloc, b"Content-Type").ok()?;
+    let value = Bytes::from_slice(alloc, b"application/json").ok()?;
+    let mut fields = Vec::new(alloc);
+    fields.push(HttpField { name, value }).ok()?;
+    Some(HttpFields::from_vec(fields))
+}
+
+fn copy_all(alloc: Global, conn: MemConn) -> Option<u64> {
+    let mut conn = conn;
+    let mut piece = Vec::new(alloc);
+    let mut done = 0u64;
+    for _ in 0..u64::MAX {
+        piece.clear();
+        match conn.read(&mut piece, 16_384) {
+            Ok(0) => return Some(done),
+            Ok(got) => done = done.saturating_add(got as u64),
+            Err(_) => return None,
+        }
+        conn.write(piece.as_slice()).ok()?;
+    }
+    None
+}
