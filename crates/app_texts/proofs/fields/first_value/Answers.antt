@@ -1,0 +1,18 @@
+use Rattle.std.proofs.Common.{◌≡◌, ◌∙◌, ◌<◌, ap, sym, subst, ℕ, length, Some, arith, rules}
+use Rattle.http_edge.specs.declared.message.HttpField.{HttpField}
+use Rattle.http_edge.specs.Fields.{is_same_word}
+use Rattle.std.proofs.Common.{true, false}
+use Rattle.app_texts.proofs.FieldLines.{first_at, not_first_at}
+use Rattle.app_texts.proofs.fields.first_value.Goals as goal
+
+pub returns-then-eq_ignore_ascii_case : goal.returns-then-eq_ignore_ascii_case
+returns-then-eq_ignore_ascii_case c =
+    let within : c.loop-field.field-index < length c.args.fields.now = c.loop-field-test.true in
+    let same : is_same_word c.field-item.result.name c.args.name.now ≡ true = search rules in
+    ap Some c.as_slice-then-eq_ignore_ascii_case.ensures ∙ sym (first_at c.args.name.now c.args.fields.now c.loop-field.field-index c.field-item.result within c.field-item.is same) ∙ c.loop-field.invariant
+
+pub loop-field-preserved : goal.loop-field-preserved
+loop-field-preserved c =
+    let within : c.loop-field.field-index < length c.args.fields.now = c.loop-field-test.true in
+    let other : is_same_word c.field-item.result.name c.args.name.now ≡ false = search rules in
+    sym (not_first_at c.args.name.now c.args.fields.now c.loop-field.field-index c.field-item.result within c.field-item.is other) ∙ c.loop-field.invariant

@@ -1,0 +1,9 @@
+pub mod Answers
+pub mod Config
+pub mod Forms
+pub mod Groups
+pub mod Keys
+pub mod PeerReplies
+pub mod Texts
+pub mod TypeGroups
+pub mod Words
