@@ -1,0 +1,4 @@
+pub mod Elements
+mod Examples
+pub mod Loops
+pub mod Utf8
