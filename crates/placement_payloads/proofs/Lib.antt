@@ -1,0 +1,3 @@
+mod Examples
+pub mod PayloadLaws
+pub mod Fitting
