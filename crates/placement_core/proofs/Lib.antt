@@ -1,7 +1,10 @@
 mod Durable
 mod Orders
+mod Recorded
 mod Refusals
 mod Replays
+mod Restored
+mod Searched
 pub mod Settling
 pub mod Spaces
 mod Steps

@@ -10,7 +10,7 @@ use Rattle.round_core.specs.Room.{RoomState}
 use Rattle.round_core.proofs.Hosts.{same_bytes}
 use Rattle.placement_core.specs.Placement.{SpaceRoom, room_at, put_room, each_room}
 use Rattle.placement_core.specs.Runs.{space_of}
-use Rattle.placement_core.proofs.Spaces.{same_space}
+use Rattle.placement_core.proofs.Searched.{same_space}
 
 -- no room of the space stands behind one whose space is greater
 pub absent : (first space : List ℕ) (rs : List SpaceRoom) → cmp first space ≡ Greater → IsBelowAll space_of first rs → room_at rs space ≡ None

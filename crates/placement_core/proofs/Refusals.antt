@@ -15,7 +15,7 @@ use Rattle.round_core.proofs.Durable.{recorded_durable}
 use Rattle.round_core.proofs.Settling.{refused_stays}
 use Rattle.placement_core.specs.Placement.{SpaceRoom, PlacementState, PlacementStep, most_spaces, room_at, put_room, in_room, joins_room, placement_step}
 use Rattle.placement_core.specs.Runs.{space_of}
-use Rattle.placement_core.proofs.Spaces.{same_space}
+use Rattle.placement_core.proofs.Searched.{same_space}
 use Rattle.placement_core.proofs.Orders.{absent}
 use Rattle.placement_core.proofs.Replays.{joined_record}
 

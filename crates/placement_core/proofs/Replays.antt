@@ -24,7 +24,7 @@ use Rattle.placement_core.specs.Placement.{SpaceRoom, PlacementState, new_placem
 use Rattle.placement_core.specs.Restores.{put_found, after_change, and_on, after_entries, go_on, rooms_after, restarted_of, placement_restored}
 use Rattle.placement_core.specs.Runs.{space_of, SameRooms, state_after, record_after, and_then, run_state, run_records}
 use Rattle.placement_core.proofs.Orders.{absent, ascends_put, ascends_each, AllBehind, none_behind, more_behind, room_behind, put_behind, one_more_on, other_space}
-use Rattle.placement_core.proofs.Spaces.{same_space}
+use Rattle.placement_core.proofs.Searched.{same_space}
 
 -- ---- each room is one that a run of its own reaches
 

@@ -5,13 +5,12 @@ use Rattle.std.proofs.lemmas.Bool.{cond_both}
 use Rattle.place_table.specs.declared.host.HostInfo.{HostInfo}
 use Rattle.round_core.specs.declared.event.PlaceEvent.{PlaceEvent}
 use Rattle.round_core.specs.declared.event.PlaceEvent.TheVariants as events
-use Rattle.round_core.specs.declared.event.PlaceReply.{PlaceReply}
 use Rattle.member_roster.specs.Members.{is_before}
-use Rattle.round_core.specs.Room.{RoomState, RoomStep, new_room, room_step}
+use Rattle.round_core.specs.Room.{RoomState, new_room, room_step}
 use Rattle.round_core.specs.Runs.{RunEvent, Steps, Restarts}
 use Rattle.round_core.specs.Settled.{IsSettled}
 use Rattle.round_core.proofs.Settling.{new_settled, step_settled, restart_settled}
-use Rattle.placement_core.specs.Placement.{SpaceRoom, PlacementState, PlacementStep, new_placement, most_spaces, room_at, put_room, each_room, ticked, restarted, in_room, joins_room, refused, room_stepped, placement_step, placement_restarted}
+use Rattle.placement_core.specs.Placement.{SpaceRoom, PlacementState, PlacementStep, new_placement, most_spaces, room_at, put_room, each_room, ticked, restarted, in_room, joins_room, placement_step}
 use Rattle.placement_core.specs.Runs.{AreSettled, state_after, run_state}
 
 at_settled : (rs : List SpaceRoom) (space : List ℕ) (room : RoomState) → AreSettled rs → room_at rs space ≡ Some room → IsSettled room

@@ -1,5 +1,5 @@
 -- Steps of the placement from steps in the room of a space.
-use Rattle.std.proofs.Common.{◌≡◌, ◌⊎◌, inl, inr, ℕ, ◌<◌, ◌≤◌, Bool, true, false, cond, List, [], ◌∷◌, length, map, Option, None, Some, refl, sym, ap, subst, ◌∙◌, arith}
+use Rattle.std.proofs.Common.{◌≡◌, ◌⊎◌, inl, inr, ℕ, ◌<◌, ◌≤◌, Bool, true, false, cond, List, [], ◌∷◌, length, None, Some, refl, sym, ap, subst, ◌∙◌, arith}
 use Rattle.std.specs.Prelude.{bytes_eq, nat_le, ◌==◌}
 use Rattle.std.specs.List.{slice_get}
 use Rattle.std.proofs.lemmas.Bool.{leb-true}
@@ -11,13 +11,14 @@ use Rattle.round_core.specs.declared.event.PlaceEvent.TheVariants as events
 use Rattle.round_core.specs.declared.event.PlaceReply.{PlaceReply}
 use Rattle.round_core.specs.declared.event.PlaceReply.TheVariants as replies
 use Rattle.member_roster.specs.Members.{is_before}
-use Rattle.round_core.specs.Room.{RoomState, RoomStep, new_room, room_step}
+use Rattle.round_core.specs.Room.{RoomState, new_room, room_step}
 use Rattle.round_core.specs.Views.{RoomView}
 use Rattle.round_core.specs.Views.{GivesStep as RoomGivesStep, GivesInMemory as RoomGivesInMemory, Gives as RoomGives}
 use Rattle.placement_core.specs.Kept.{shown}
 use Rattle.placement_core.specs.Placement.{SpaceRoom, PlacementState, PlacementStep, new_placement, room_at, put_room, in_room, joins_room, refused, placement_step, room_stepped, most_spaces}
 use Rattle.placement_core.specs.Views.{Gives, GivesInMemory, IsOfMember, IsMemberPlace, StepsRoom, StepsInMemory, StepsAny, HasStepped}
-use Rattle.placement_core.proofs.Spaces.{same_space, got}
+use Rattle.placement_core.proofs.Searched.{same_space}
+use Rattle.placement_core.proofs.Spaces.{got}
 
 -- ---- the room of a space steps
 

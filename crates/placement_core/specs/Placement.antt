@@ -1,5 +1,5 @@
 -- The placement: a room for each space, with members and rounds of its own. Own.
-use Rattle.std.specs.Prelude.{◌≡◌, ℕ, ◌+◌, ◌==◌, nat_le, if◌then◌else◌, List, [], ◌∷◌, ◌++◌, length, map, bytes_eq, Option, None, Some, unwrap_or}
+use Rattle.std.specs.Prelude.{ℕ, ◌==◌, nat_le, if◌then◌else◌, List, [], ◌∷◌, ◌++◌, length, map, bytes_eq, Option, None, Some, unwrap_or}
 use Rattle.actor_names.specs.Names.{default_space}
 use Rattle.actor_names.specs.declared.member.Member.{Member}
 use Rattle.place_table.specs.declared.host.HostInfo.{HostInfo}
@@ -8,7 +8,7 @@ use Rattle.round_core.specs.declared.event.PlaceEvent.{PlaceEvent}
 use Rattle.round_core.specs.declared.event.PlaceEvent.TheVariants as events
 use Rattle.round_core.specs.declared.event.PlaceReply.{PlaceReply}
 use Rattle.round_core.specs.declared.event.PlaceReply.TheVariants as replies
-use Rattle.round_core.specs.Room.{RoomState, RoomStep, new_room, room_step, room_restarted, last_version}
+use Rattle.round_core.specs.Room.{RoomState, RoomStep, new_room, room_step, room_restarted}
 
 -- a space and its room
 pub record SpaceRoom : Type 0 where

@@ -1,15 +1,23 @@
--- What contracts see of a placement: its state.
-use Rattle.std.specs.Prelude.{◌≡◌, ◌<◌, ℕ, List, length, Option, None, Some}
+-- What contracts see of a placement: its state, and what the last step has to record.
+use Rattle.std.specs.Prelude.{◌≡◌, ◌<◌, ℕ, List, [], length, Option, None, Some}
 use Rattle.std.specs.List.{slice_get}
 use Rattle.round_core.specs.declared.event.PlaceEvent.{PlaceEvent}
 use Rattle.round_core.specs.declared.event.PlaceEvent.TheVariants as events
 use Rattle.round_core.specs.declared.event.PlaceReply.{PlaceReply}
 use Rattle.round_core.specs.declared.event.PlaceReply.TheVariants as replies
 use Rattle.round_core.specs.Room.{RoomState, room_step}
-use Rattle.placement_core.specs.Placement.{SpaceRoom, PlacementState, PlacementStep, room_at, put_room, placement_step}
+use Rattle.round_core.specs.Records.{record_of, step_record}
+use Rattle.placement_core.specs.declared.entry.RoomEntry.{RoomEntry}
+use Rattle.placement_core.specs.Entries.{EntryOf, noted, placement_record}
+use Rattle.placement_core.specs.Placement.{SpaceRoom, PlacementState, room_at, put_room, placement_step}
 
 pub record PlacementView : Type 0 where
   pub state : PlacementState
+  pub recent : List EntryOf
+
+-- the entry that is lent
+abbrev pub lent_entry : RoomEntry → EntryOf
+lent_entry e = record { space = e.space; change = record_of e.change.now }
 
 -- what a step gives: the reply and the state of the definition
 abbrev pub Gives : PlaceEvent → ℕ → PlaceReply → PlacementState → PlacementState → Type 0
@@ -24,6 +32,22 @@ GivesInMemory event now reply old new = Gives event now reply old new
 abbrev pub GivesStep : PlaceEvent → ℕ → PlaceReply → PlacementState → PlacementState → Type 0
 GivesStep (events.Register host) now reply old new = GivesInMemory (events.Register host) now reply old new
 GivesStep event now reply old new = Gives event now reply old new
+
+-- ---- what a step has to record
+
+-- nothing, if memory ran out
+abbrev pub LeavesInMemory : PlaceReply → List EntryOf → List EntryOf → Type 0
+LeavesInMemory replies.OutOfMemory entries recent = recent ≡ []
+LeavesInMemory reply entries recent = recent ≡ entries
+
+-- only a Register may run out of memory
+abbrev pub LeavesAny : PlaceEvent → PlaceReply → List EntryOf → List EntryOf → Type 0
+LeavesAny (events.Register host) reply entries recent = LeavesInMemory reply entries recent
+LeavesAny event reply entries recent = recent ≡ entries
+
+-- the record of the definition
+abbrev pub LeavesRecord : PlaceEvent → ℕ → PlaceReply → PlacementState → List EntryOf → Type 0
+LeavesRecord event now reply old recent = LeavesAny event reply (placement_record old event now) recent
 
 -- an event of a member of this space, which makes no room
 abbrev pub IsOfMember : PlaceEvent → List ℕ → Type 0
@@ -69,3 +93,8 @@ pub record HasStepped (event : PlaceEvent) (now : ℕ) (space : List ℕ) (reply
 abbrev pub Steps : PlaceEvent → ℕ → List ℕ → Option PlaceReply → List SpaceRoom → List SpaceRoom → Type 0
 Steps event now space None old new = (room_at old space ≡ None) × (new ≡ old)
 Steps event now space (Some reply) old new = HasStepped event now space reply old new
+
+-- nothing to record without a room, otherwise what the room of the space has to
+abbrev pub LeavesEntry : PlaceEvent → ℕ → List ℕ → Option PlaceReply → List SpaceRoom → List EntryOf → Type 0
+LeavesEntry event now space None old recent = recent ≡ []
+LeavesEntry event now space (Some reply) old recent = (room : RoomState) → room_at old space ≡ Some room → LeavesAny event reply (noted space (step_record room event now)) recent

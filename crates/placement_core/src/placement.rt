@@ -1,15 +1,18 @@
 // The placement: one step at a time, each in the room of its space.
-ghost use Rattle.std.specs.Prelude.{◌≡◌, ◌<◌, ◌≤◌, Some, None, IfOk, OnOk, OnErr, length};
+ghost use Rattle.std.specs.Prelude.{◌≡◌, ◌↔◌, ◌<◌, ◌≤◌, [], Some, None, IfOk, OnOk, OnErr, length, map, option_map};
 ghost use Rattle.std.specs.List.{slice_get};
 ghost use Rattle.member_roster.specs.Members.{hosts_of, is_late, Joined};
 ghost use Rattle.member_roster.specs.Places.{Ascends, host_node};
 ghost use Rattle.round_core.specs.Room.{last_version};
-ghost use Rattle.placement_core.specs.Kept.{shown};
+ghost use Rattle.placement_core.specs.Entries.{placement_record, placement_restart_record};
+ghost use Rattle.placement_core.specs.Kept.{kept, kept_entries, kept_space, shown};
 ghost use Rattle.placement_core.specs.Placement.{SpaceRoom, new_placement, room_at, room_of, placement_restarted};
-ghost use Rattle.placement_core.specs.Runs.{AreRooms};
-ghost use Rattle.placement_core.specs.Views.{ActsIn, Gives, GivesInMemory, GivesStep, IsMemberPlace, IsOfMember};
+ghost use Rattle.placement_core.specs.Runs.{AreRooms, SameRooms};
+ghost use Rattle.placement_core.specs.Views.{ActsIn, Gives, GivesInMemory, GivesStep, IsMemberPlace, IsOfMember, LeavesRecord, lent_entry};
 
+use crate::entry::RoomEntry;
 use crate::rooms::Rooms;
+use crate::sweep::KeptRoom;
 use actor_names::{OutOfMemory, Space, default_space};
 use place_table::HostInfo;
 use round_core::{PlaceEvent, PlaceReply, Room};
@@ -33,13 +36,15 @@ impl Model for Placement {
 
     ghost Value = { PlacementView };
 
-    ghost view = { λ a. record { state = shown a.rooms } };
+    ghost view = { λ a. record { state = shown a.rooms.rooms; recent = a.rooms.recent } };
 }
 
 /// Keeps the room `default`, if no room is kept yet.
 fn keep_default(alloc: Global, rooms: &mut Rooms) -> Result<(), OutOfMemory>
-    ensures ok { OnOk result (rooms.new ≡ (shown rooms.old).rooms) }
-    ensures err { OnErr result (rooms.new ≡ rooms.old) }
+    requires quiet { rooms.old.recent ≡ [] }
+    ensures ok { OnOk result (rooms.new.rooms ≡ (shown rooms.old.rooms).rooms) }
+    ensures err { OnErr result (rooms.new.rooms ≡ rooms.old.rooms) }
+    ensures recent { rooms.new.recent ≡ [] }
 {
     if rooms.len() > 0 {
         return Ok(());
@@ -66,9 +71,11 @@ fn acting_space(event: &PlaceEvent) -> Option<Space>
 
 /// A host joins a space that has no room: the room is made, unless the host is refused.
 fn open_room(alloc: Global, rooms: &mut Rooms, host: HostInfo, now: u64) -> PlaceReply
-    requires kept { 0 < length rooms.old }
-    requires free { room_at rooms.old host.member.space ≡ None }
-    ensures { GivesInMemory (PlaceEvent.Register host) now result (shown rooms.old) (shown rooms.new) }
+    requires kept { 0 < length rooms.old.rooms }
+    requires free { room_at rooms.old.rooms host.member.space ≡ None }
+    requires quiet { rooms.old.recent ≡ [] }
+    ensures gives { GivesInMemory (PlaceEvent.Register host) now result (shown rooms.old.rooms) (shown rooms.new.rooms) }
+    ensures recent { LeavesRecord (PlaceEvent.Register host) now result (shown rooms.old.rooms) rooms.new.recent }
 {
     let spaces = rooms.len();
     if spaces >= MOST_SPACES {
@@ -93,11 +100,26 @@ fn open_room(alloc: Global, rooms: &mut Rooms, host: HostInfo, now: u64) -> Plac
 impl Placement {
     /// The opening state: the room `default`, without members. It takes no memory.
     pub fn new(alloc: Global) -> Placement
-        ensures { result.state ≡ new_placement }
+        ensures state { result.state ≡ new_placement }
+        ensures recent { result.recent ≡ [] }
     {
         Placement {
             alloc,
             rooms: Rooms::new(alloc),
+        }
+    }
+
+    /// A placement of rooms that were all restarted.
+    pub(crate) fn from_restarted(alloc: Global, rooms: Vec<KeptRoom>) -> Placement
+        requires order { Ascends kept_space rooms.items }
+        requires few { length rooms.items ≤ 64 }
+        requires kept { 0 < length rooms.items }
+        ensures state { result.state ≡ record { rooms = map kept rooms.items } }
+        ensures recent { result.recent ≡ kept_entries rooms.items }
+    {
+        Placement {
+            alloc,
+            rooms: Rooms::from_restarted(rooms),
         }
     }
 
@@ -190,10 +212,21 @@ impl Placement {
         self.rooms.room_at(at).is_late(member, now)
     }
 
+    /// The entry at this index, counted from 0, of what has to be on the disk before the reply of the last step or
+    /// restart goes out; lending it takes no memory. There is an entry for each room that has something to record, in
+    /// byte order of space; None behind the last one, so None at 0 if there is nothing to record.
+    pub fn entry(&self, at: usize) -> Option<RoomEntry<'_>>
+        ensures { option_map lent_entry result ≡ slice_get self.now.recent at }
+    {
+        self.rooms.entry(at)
+    }
+
     /// A host asks to join the room of its space, or is heard again.
     fn register(&mut self, host: HostInfo, now: u64) -> PlaceReply
-        ensures { GivesInMemory (PlaceEvent.Register host) now result self.old.state self.new.state }
+        ensures gives { GivesInMemory (PlaceEvent.Register host) now result self.old.state self.new.state }
+        ensures recent { LeavesRecord (PlaceEvent.Register host) now result self.old.state self.new.recent }
     {
+        self.rooms.forget();
         if keep_default(self.alloc, &mut self.rooms).is_err() {
             return PlaceReply::OutOfMemory;
         }
@@ -211,7 +244,8 @@ impl Placement {
     /// What a member does in the room of its space.
     fn act(&mut self, space: Space, event: PlaceEvent, now: u64) -> PlaceReply
         requires { IsOfMember event space }
-        ensures { Gives event now result self.old.state self.new.state }
+        ensures gives { Gives event now result self.old.state self.new.state }
+        ensures recent { LeavesRecord event now result self.old.state self.new.recent }
     {
         match self.rooms.step(&space, event, now) {
             Some(reply) => reply,
@@ -221,17 +255,17 @@ impl Placement {
 
     /// Time has passed in all rooms.
     fn tick(&mut self, now: u64) -> PlaceReply
-        ensures { Gives PlaceEvent.Tick now result self.old.state self.new.state }
+        ensures gives { Gives PlaceEvent.Tick now result self.old.state self.new.state }
+        ensures recent { LeavesRecord PlaceEvent.Tick now result self.old.state self.new.recent }
     {
         let dropped = self.rooms.tick(now);
         PlaceReply::Ticked { dropped }
     }
 
-    /// One step of the placement at the moment `now`, in milliseconds since 1970: in the room of the member's space, a
-    /// Tick in all rooms. A refused event changes nothing; only a Register may run out of memory, and then changes
-    /// nothing.
-    pub fn step(&mut self, event: PlaceEvent, now: u64) -> PlaceReply
+    /// One step, each event by the call that follows it.
+    fn change(&mut self, event: PlaceEvent, now: u64) -> PlaceReply
         ensures gives { GivesStep event now result self.old.state self.new.state }
+        ensures recent { LeavesRecord event now result self.old.state self.new.recent }
     {
         if let Some(space) = acting_space(&event) {
             return self.act(space, event, now);
@@ -239,15 +273,32 @@ impl Placement {
         match event {
             PlaceEvent::Register { host } => self.register(host, now),
             PlaceEvent::Tick => self.tick(now),
-            PlaceEvent::Look => PlaceReply::Looked,
+            PlaceEvent::Look => {
+                self.rooms.forget();
+                PlaceReply::Looked
+            }
             _ => unreachable!(),
         }
+    }
+
+    /// One step of the placement at the moment `now`, in milliseconds since 1970: in the room of the member's space, a
+    /// Tick in all rooms. A refused event changes nothing; only a Register may run out of memory, and then changes
+    /// nothing. What the step has to record is lent by `entry`: nothing exactly if next version, greatest boots and
+    /// members' hosts of each room are as before, and no room was made.
+    pub fn step(&mut self, event: PlaceEvent, now: u64) -> PlaceReply
+        ensures gives { GivesStep event now result self.old.state self.new.state }
+        ensures recent { LeavesRecord event now result self.old.state self.new.recent }
+        ensures durable { (self.new.recent ≡ []) ↔ SameRooms self.old.state.rooms self.new.state.rooms }
+    {
+        let _rooms = self.rooms();
+        self.change(event, now)
     }
 
     /// The restart of each room at the moment `now`; takes no memory. Next versions, greatest boots and members are
     /// kept, each member is heard now, and a round starts in each room that ever had one and has a version left.
     pub fn restarted(&mut self, now: u64)
         ensures state { self.new.state ≡ placement_restarted self.old.state now }
+        ensures recent { self.new.recent ≡ placement_restart_record self.old.state now }
     {
         self.rooms.restart(now);
     }

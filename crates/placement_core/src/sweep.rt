@@ -1,9 +1,12 @@
 // A room with its space, and what is done in all rooms, one after the other.
-ghost use Rattle.std.specs.Prelude.{◌≡◌, ◌≤◌, IfOk, length, map};
+ghost use Rattle.std.specs.Prelude.{◌≡◌, ◌≤◌, IfOk, length, map, option_map};
+ghost use Rattle.std.specs.List.{slice_get};
 ghost use Rattle.member_roster.specs.Members.{late_of};
-ghost use Rattle.placement_core.specs.Kept.{kept, kept_ticked, kept_restarted};
+ghost use Rattle.placement_core.specs.Kept.{kept, kept_entries, kept_ticked, kept_restarted};
 ghost use Rattle.placement_core.specs.Placement.{late_in};
+ghost use Rattle.placement_core.specs.Views.{lent_entry};
 
+use crate::entry::RoomEntry;
 use actor_names::{OutOfMemory, Space};
 use round_core::{PlaceEvent, PlaceReply, Room};
 use std::alloc::Global;
@@ -48,6 +51,25 @@ pub(crate) fn restart_rooms(rooms: &mut Vec<KeptRoom>, now: u64)
     for kept_room in rooms.iter_mut() {
         kept_room.room.restarted(now);
     }
+}
+
+/// The entry at this index, counted from 0, of what these rooms have to record.
+pub(crate) fn entry_in(rooms: &[KeptRoom], at: usize) -> Option<RoomEntry<'_>>
+    ensures { option_map lent_entry result ≡ slice_get (kept_entries rooms.now) at }
+{
+    let mut left = at;
+    for kept_room in rooms.iter() {
+        if let Some(change) = kept_room.room.record() {
+            if left == 0 {
+                return Some(RoomEntry {
+                    space: kept_room.space,
+                    change,
+                });
+            }
+            left -= 1;
+        }
+    }
+    None
 }
 
 /// Equal rooms.

@@ -1,6 +1,6 @@
 -- What the lists of members say about their hosts alone: nodes that differ, and who is one of them.
 use Rattle.std.proofs.Common.{◌≡◌, ◌⊎◌, ℕ, Bool, true, false, ◌||◌, cond, List, [], ◌∷◌, Some, refl, sym, ap, inl, inr}
-use Rattle.std.specs.Prelude.{◌==◌, is_some, bytes_eq}
+use Rattle.std.specs.Prelude.{is_some, bytes_eq}
 use Rattle.std.proofs.lemmas.Bool.{or_parts, or_from}
 use Rattle.std.proofs.lemmas.Slice.Eq.{bytes_eq-Decides}
 use Rattle.actor_names.specs.declared.member.Member.{Member}

@@ -4,7 +4,6 @@ use Rattle.std.specs.Prelude.{nat_lt, nat_le, ◌==◌}
 use Rattle.std.proofs.lemmas.Bool.{cond_both}
 use Rattle.place_table.specs.declared.host.HostInfo.{HostInfo}
 use Rattle.actor_names.specs.declared.member.Member.{Member}
-use Rattle.place_table.specs.declared.ack_stage.AckStage.{AckStage}
 use Rattle.place_table.specs.declared.ack_stage.AckStage.TheVariants as stages
 use Rattle.round_core.specs.declared.event.PlaceEvent.{PlaceEvent}
 use Rattle.round_core.specs.declared.event.PlaceEvent.TheVariants as events
@@ -13,7 +12,7 @@ use Rattle.round_core.specs.declared.event.PlaceReply.TheVariants as replies
 use Rattle.round_core.specs.declared.phase.RoundPhase.{RoundPhase}
 use Rattle.round_core.specs.declared.phase.RoundPhase.TheVariants.{Quiet, Running}
 use Rattle.member_roster.specs.Members.{Joined, any_pending, targeted, greatest_boot, of_node, is_here, is_pending, heard_at}
-use Rattle.round_core.specs.Room.{RoomState, RoomStep, Membership, Conclusion, Stays, Says, Tells, new_room, version_limit, is_quiet, next_stage, advance_round, may_start, start_round, advance_fully, settle_round, reply_for, phase_reply, stage_reply, last_version, apply_membership, with_member, not_member, join_node, remove_member, is_full, ack_change, conclude, room_step, awoken, room_restarted}
+use Rattle.round_core.specs.Room.{RoomState, Membership, Conclusion, Stays, Says, Tells, new_room, version_limit, is_quiet, next_stage, advance_round, may_start, start_round, advance_fully, settle_round, reply_for, phase_reply, last_version, apply_membership, with_member, not_member, join_node, remove_member, is_full, ack_change, conclude, room_step, awoken, room_restarted}
 use Rattle.round_core.specs.Runs.{RunEvent, Steps, Restarts, state_after, run_state}
 use Rattle.round_core.specs.Settled.{IsSettled, IsRefusal}
 

@@ -9,6 +9,7 @@ mod event;
 mod law;
 mod phase;
 mod record;
+mod replay;
 mod restore;
 mod room;
 mod rounds;
@@ -19,6 +20,7 @@ pub use member_roster::{Known, Mark, MemberList};
 pub use phase::RoundPhase;
 pub use place_table::AckStage;
 pub use record::RoomRecord;
+pub use replay::RoomReplay;
 pub use restore::RestoreError;
 pub use room::Room;
 

@@ -63,7 +63,7 @@ fn join_recorded(
 }
 
 /// Replays a record; false if it is bad.
-fn apply_record(
+pub(crate) fn apply_record(
     alloc: Global,
     rounds: &mut Rounds,
     removed: &mut MemberList,

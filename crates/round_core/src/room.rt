@@ -14,6 +14,7 @@ ghost use Rattle.round_core.specs.Views.{with_state, Gives, GivesInMemory, Gives
 use crate::admission::admit;
 use crate::event::{PlaceEvent, PlaceReply};
 use crate::record::RoomRecord;
+use crate::replay::RoomReplay;
 use crate::restore::{RestoreError, apply_records};
 use crate::rounds::Rounds;
 use actor_names::{Member, OutOfMemory};
@@ -149,6 +150,27 @@ impl Room {
                     recorded,
                 })
             }
+        }
+    }
+
+    /// The restart, at the moment `now`, of a room that was read from its records; takes no memory.
+    pub fn from_replay(replay: RoomReplay, now: u64) -> Room
+        ensures state { result.state ≡ room_restarted replay now }
+        ensures recent { result.recent ≡ restart_record replay now }
+    {
+        let (alloc, mut rounds, removed) = replay.into_parts();
+        let mut record_ = RoomRecord {
+            joined: None,
+            removed,
+            next_version: 1,
+        };
+        clear_record(&mut record_);
+        let recorded = restart(&mut rounds, &mut record_, now);
+        Room {
+            alloc,
+            rounds,
+            record: record_,
+            recorded,
         }
     }
 

@@ -1,11 +1,7 @@
-use Rattle.std.proofs.Common.{◌≡◌, ◌<◌, ◌≤◌, length, get_or, map, sym, ◌∙◌, ap, add-one, arith}
+use Rattle.std.proofs.Common.{◌<◌, length, get_or, arith}
 use Rattle.std.proofs.lemmas.List.{get_or_default}
 use Rattle.std.proofs.lemmas.List.Edits.{map_over_more}
-use Rattle.placement_core.specs.declared.sweep.KeptRoom.{KeptRoom}
-use Rattle.member_roster.specs.Members.{late_of}
-use Rattle.placement_core.specs.Kept.{kept, kept_ticked, kept_restarted}
-use Rattle.placement_core.proofs.Spaces.{read_at, late_more}
-use Rattle.round_core.specs.Views.{RoomView}
+use Rattle.placement_core.specs.Kept.{kept_restarted}
 use Rattle.placement_core.proofs.sweep.restart_rooms.Goals as goal
 
 pub loop-kept_room-preserved : goal.loop-kept_room-preserved

@@ -1,5 +1,4 @@
-use Rattle.std.proofs.Common.{◌≡◌, ℕ, length, ◌≤◌, sym, ◌∙◌, ap, arith}
-use Rattle.round_core.specs.declared.event.PlaceReply.{PlaceReply}
+use Rattle.std.proofs.Common.{◌≡◌, length, sym, ◌∙◌, arith}
 use Rattle.round_core.specs.declared.event.PlaceReply.TheVariants as replies
 use Rattle.member_roster.specs.Members.{late_of}
 use Rattle.placement_core.proofs.Spaces.{late_few}

@@ -1,9 +1,9 @@
-use Rattle.std.proofs.Common.{◌≡◌, ◌<◌, ◌≤◌, length, get_or, map, sym, ◌∙◌, ap, add-one, arith}
+use Rattle.std.proofs.Common.{◌<◌, length, get_or, ap, add-one, arith}
 use Rattle.std.proofs.lemmas.List.{get_or_default}
 use Rattle.std.proofs.lemmas.List.Edits.{map_over_more}
 use Rattle.placement_core.specs.declared.sweep.KeptRoom.{KeptRoom}
 use Rattle.member_roster.specs.Members.{late_of}
-use Rattle.placement_core.specs.Kept.{kept, kept_ticked, kept_restarted}
+use Rattle.placement_core.specs.Kept.{kept_ticked}
 use Rattle.placement_core.proofs.Spaces.{read_at, late_more}
 use Rattle.placement_core.proofs.sweep.tick_rooms.Goals as goal
 

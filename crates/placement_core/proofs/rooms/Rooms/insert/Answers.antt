@@ -1,14 +1,14 @@
-use Rattle.std.proofs.Common.{◌≡◌, ◌<◌, ◌≤◌, List, ◌∷◌, [], length, get_or, map, set, sym, ◌∙◌, ap, subst, refl, Ok, Err, Some, None, arith}
+use Rattle.std.proofs.Common.{◌≡◌, ◌<◌, [], length, map, sym, ◌∙◌, Ok, Err, None, arith}
 use Rattle.std.specs.List.{insert}
 use Rattle.std.proofs.lemmas.List.Edits.{length-insert}
 use Rattle.member_roster.specs.Places.{place_by}
-use Rattle.member_roster.proofs.Places.{err_within, ok_within}
+use Rattle.member_roster.proofs.Places.{err_within}
 use Rattle.member_roster.proofs.Ascending.{ascends_insert}
-use Rattle.round_core.specs.Room.{RoomState}
 use Rattle.placement_core.specs.declared.sweep.KeptRoom.{KeptRoom}
 use Rattle.placement_core.specs.Kept.{kept, kept_space}
-use Rattle.placement_core.specs.Placement.{SpaceRoom, room_at, put_room}
-use Rattle.placement_core.proofs.Spaces.{room_at-found, room_at-missing, put_room-found, put_room-same, put_room-at, ascends_set, kept_length}
+use Rattle.placement_core.specs.Placement.{room_at}
+use Rattle.placement_core.proofs.Spaces.{room_at-found, put_room-at}
+use Rattle.placement_core.proofs.Searched.{length_mapped}
 use Rattle.placement_core.proofs.rooms.Rooms.insert.Goals as goal
 
 pub unreachable-requires : goal.unreachable-requires
@@ -26,9 +26,10 @@ invariant_of-self-in-Err c =
     let new : KeptRoom = record { space = c.args.space; room = c.args.room } in
     let items : c.insert.new.self.items ≡ insert ks c.in-Err.at new = c.in_ok-insert-in-Err.ensures.items in
     let few : length (map kept ks) < 64 = rw (← c.self.view_is) at c.requires.few in
-    let count = kept_length ks in
-    let long = length-insert ks c.in-Err.at new (err_within kept_space c.args.space ks c.in-Err.at p) in
-    (rw items (ascends_insert kept_space new ks c.in-Err.at p c.self.invariant.0), rw items (omega arith))
+    let count = length_mapped kept ks in
+    let within = err_within kept_space c.args.space ks c.in-Err.at p in
+    let long = length-insert ks c.in-Err.at new within in
+    (rw items (ascends_insert kept_space new ks c.in-Err.at p c.self.invariant.0), rw items (omega arith), omega arith, rw items (omega arith))
 
 pub returns-clause-ok : goal.returns-clause-ok
 returns-clause-ok c =

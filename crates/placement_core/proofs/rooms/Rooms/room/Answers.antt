@@ -1,14 +1,8 @@
-use Rattle.std.proofs.Common.{◌≡◌, ◌<◌, ◌≤◌, List, ◌∷◌, [], length, get_or, map, set, sym, ◌∙◌, ap, subst, refl, Ok, Err, Some, None, arith}
-use Rattle.std.specs.List.{insert}
-use Rattle.std.proofs.lemmas.List.Edits.{length-insert}
+use Rattle.std.proofs.Common.{◌≡◌, sym, ◌∙◌, ap, Ok, Err, Some}
 use Rattle.member_roster.specs.Places.{place_by}
-use Rattle.member_roster.proofs.Places.{err_within, ok_within}
-use Rattle.member_roster.proofs.Ascending.{ascends_insert}
-use Rattle.round_core.specs.Room.{RoomState}
 use Rattle.placement_core.specs.declared.sweep.KeptRoom.{KeptRoom}
-use Rattle.placement_core.specs.Kept.{kept, kept_space}
-use Rattle.placement_core.specs.Placement.{SpaceRoom, room_at, put_room}
-use Rattle.placement_core.proofs.Spaces.{room_at-found, room_at-missing, put_room-found, put_room-same, put_room-at, ascends_set, kept_length}
+use Rattle.placement_core.specs.Kept.{kept_space}
+use Rattle.placement_core.proofs.Spaces.{room_at-found, room_at-missing}
 use Rattle.placement_core.proofs.rooms.Rooms.room.Goals as goal
 
 pub returns-in-Ok : goal.returns-in-Ok
