@@ -1,0 +1,10 @@
+// Who asks.
+
+/// On which port a request came.
+#[derive(Clone, Copy, Debug, PartialEq, Eq)]
+pub enum Side {
+    /// From an application, by the port for callers.
+    Caller,
+    /// From another sidecar, which passes a call on, by the port for peers.
+    Peer,
+}
