@@ -1,0 +1,6 @@
+mod KeptAnswers
+mod Calls
+mod Sizes
+mod Firings
+mod Preparing
+mod Examples

@@ -1,0 +1,5 @@
+pub mod Dues
+pub mod Tables
+pub mod Contents
+pub mod Prepared
+pub mod Runs
