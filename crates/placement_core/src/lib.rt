@@ -20,4 +20,6 @@ pub use replay::PlacementReplay;
 pub use round_core::{AckStage, PlaceEvent, PlaceReply, RestoreError, RoomRecord};
 
 #[cfg(test)]
+mod record_tests;
+#[cfg(test)]
 mod tests;

@@ -20,7 +20,11 @@ fn host(alloc: Global, member: &[u8]) -> Result<HostInfo, Fail> {
 }
 
 /// The answer to a Register at the moment 1,000.
-fn register(alloc: Global, placement: &mut Placement, member: &[u8]) -> Result<PlaceReply, Fail> {
+pub(crate) fn register(
+    alloc: Global,
+    placement: &mut Placement,
+    member: &[u8],
+) -> Result<PlaceReply, Fail> {
     let host = host(alloc, member)?;
     Ok(placement.step(PlaceEvent::Register { host }, 1000))
 }
