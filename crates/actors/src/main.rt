@@ -15,12 +15,9 @@ fn main(rt: HostRuntime) -> ExitCode {
 
 /// Runs the program over standard input and output. A word that isn't text is a usage error.
 fn status<R: Env + AllocGlobal + Input + Print>(rt: &R) -> u8 {
-    let words = match words(rt) {
+    let words = match read_words(rt) {
         Ok(words) => words,
-        Err(fault) if fault.kind() == io::ErrorKind::OutOfMemory => {
-            return Status::OutOfMemory as u8;
-        }
-        Err(_) => return Status::Usage as u8,
+        Err(refused) => return refused as u8,
     };
     let Ok(input) = ReaderSource::new(rt.alloc(), rt.reader()) else {
         return Status::OutOfMemory as u8;
@@ -28,6 +25,15 @@ fn status<R: Env + AllocGlobal + Input + Print>(rt: &R) -> u8 {
     let output = WriterSink::new(io::writer(rt));
     let mut outside = Outside { input, output };
     run(rt.alloc(), words.as_slice(), &mut outside)
+}
+
+/// The words after the program's name, or the status that the program ends with if they can't be read.
+fn read_words<R: Env + AllocGlobal>(rt: &R) -> Result<Vec<String>, Status> {
+    match words(rt) {
+        Ok(words) => Ok(words),
+        Err(fault) if fault.kind() == io::ErrorKind::OutOfMemory => Err(Status::OutOfMemory),
+        Err(_) => Err(Status::Usage),
+    }
 }
 
 /// The words after the program's name.
@@ -40,3 +46,6 @@ fn words<R: Env + AllocGlobal>(rt: &R) -> io::Result<Vec<String>> {
     }
     Ok(words)
 }
+
+#[cfg(test)]
+mod tests;

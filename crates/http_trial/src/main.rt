@@ -1,13 +1,16 @@
 // HTTP messages over a connection in memory, as a program whose runs can be timed.
 //
 //     serve COUNT     reads COUNT requests of a method call with a body of 200 bytes, and writes a response to each
+//     route COUNT     the same, and each request is read as a command of the actors API before it is answered
 //     copy COUNT      reads the bytes of as many requests in pieces and writes them back, without messages
 //
-// It prints how many requests or bytes there were. It has no contracts of its own. It depends on http_edge and
-// actor_ports.
+// It prints how many requests or bytes there were. It has no contracts of its own. It depends on actors_api, http_edge,
+// actor_ports and actor_names.
 #![tactic(auto)]
 
+use actor_names::default_space;
 use actor_ports::{MemConn, Sink, Source};
+use actors_api::{ApiCommand, ApiReply, Side, read_api, write_api};
 use http_edge::{
     Bytes, HttpField, HttpFields, HttpRequest, HttpResponse, RequestReader, write_response,
 };
@@ -22,7 +25,7 @@ const BODY: [u8; 200] = [b'7'; 200];
 
 fn main(rt: HostRuntime) -> io::Result<()> {
     let Some((mode, count)) = words(&rt)? else {
-        println!(rt; "http_trial serve|copy COUNT")?;
+        println!(rt; "http_trial serve|route|copy COUNT")?;
         return Ok(());
     };
     match run(rt.alloc(), mode.as_str(), count) {
@@ -44,11 +47,12 @@ fn words<R: Env + AllocGlobal>(rt: &R) -> io::Result<Option<(String, u64)>> {
     }
 }
 
-/// Does what `mode` says and answers the count; `None` if memory ran out, or if `mode` is neither of the two.
+/// Does what `mode` says and answers the count; `None` if memory ran out, or if `mode` is none of the three.
 fn run(alloc: Global, mode: &str, count: u64) -> Option<u64> {
     let conn = connection(alloc, count)?;
     match mode {
-        "serve" => serve_all(alloc, conn),
+        "serve" => serve_all(alloc, conn, false),
+        "route" => serve_all(alloc, conn, true),
         "copy" => copy_all(alloc, conn),
         _ => None,
     }
@@ -64,14 +68,13 @@ fn connection(alloc: Global, count: u64) -> Option<MemConn> {
     MemConn::new(alloc, text.as_slice(), &[]).ok()
 }
 
-fn serve_all(alloc: Global, conn: MemConn) -> Option<u64> {
+fn serve_all(alloc: Global, conn: MemConn, routes: bool) -> Option<u64> {
     let mut conn = conn;
     let mut reader = RequestReader::new(alloc);
     for served in 0..u64::MAX {
         match reader.read(&mut conn) {
-            Ok(Some(request)) => {
-                answer(alloc, request, &mut conn)?;
-            }
+            Ok(Some(request)) if routes => answer_routed(alloc, request, &mut conn)?,
+            Ok(Some(request)) => answer(alloc, request, &mut conn)?,
             Ok(None) => return Some(served),
             Err(_) => return None,
         }
@@ -86,6 +89,21 @@ fn answer(alloc: Global, request: HttpRequest, conn: &mut MemConn) -> Option<()>
         fields: content_type(alloc)?,
         body: request.body,
     };
+    write_response(alloc, &response, conn).ok()
+}
+
+/// Writes the response of an application that gives the request's body back, if the request is a call of a method.
+fn answer_routed(alloc: Global, request: HttpRequest, conn: &mut MemConn) -> Option<()> {
+    let Ok(ApiCommand::Invoke { .. }) = read_api(alloc, &default_space(), Side::Caller, &request, 0)
+    else {
+        return None;
+    };
+    let reply = HttpResponse {
+        status: 200,
+        fields: content_type(alloc)?,
+        body: request.body,
+    };
+    let response = write_api(alloc, Side::Caller, &ApiReply::Invoked { reply }).ok()?;
     write_response(alloc, &response, conn).ok()
 }
 
