@@ -4,6 +4,9 @@ use actor_ports::MemConn;
 use std::alloc::Global;
 use std::test::Fail;
 
+// Bytes that come, and the answer to them as a text.
+type Row = (&'static [u8], &'static [u8]);
+
 fn add_fields(fields: &[HttpField], text: &mut Vec<u8>) -> Result<(), Fail> {
     text.extend_from_slice(b" [")?;
     for field in fields {
@@ -50,6 +53,10 @@ fn first(alloc: Global, input: &[u8]) -> Result<Vec<u8>, Fail> {
     told(alloc, &answer)
 }
 
+fn is_first(alloc: Global, input: &[u8], wanted: &[u8]) -> Result<bool, Fail> {
+    Ok(first(alloc, input)?.as_slice() == wanted)
+}
+
 // Whether this input, cut after `n` bytes, gives the answer `wanted` or is reported as cut there.
 fn is_cut(alloc: Global, input: &[u8], n: usize, wanted: &[u8]) -> Result<bool, Fail> {
     let cut = first(alloc, &input[..n.min(input.len())])?;
@@ -61,25 +68,41 @@ fn is_cut(alloc: Global, input: &[u8], n: usize, wanted: &[u8]) -> Result<bool, 
     Ok(cut.as_slice() == wanted || cut.as_slice() == short.as_bytes())
 }
 
-// The first row whose input doesn't give its answer, whole or cut at some byte.
-fn first_wrong(alloc: Global, rows: &[(&[u8], &[u8])]) -> Result<Option<usize>, Fail> {
-    for (row, (input, wanted)) in rows.iter().enumerate() {
-        let whole = first(alloc, input)?;
-        if whole.as_slice() != *wanted {
-            return Ok(Some(row));
-        }
-        for n in 0..input.len() {
-            if !is_cut(alloc, input, n, wanted)? {
-                return Ok(Some(row));
-            }
+// Whether this input gives its answer, whole and cut at each byte.
+fn is_answered(alloc: Global, input: &[u8], wanted: &[u8]) -> Result<bool, Fail> {
+    let whole = first(alloc, input)?;
+    if whole.as_slice() != wanted {
+        return Ok(false);
+    }
+    for n in 0..input.len() {
+        if !is_cut(alloc, input, n, wanted)? {
+            return Ok(false);
         }
     }
-    Ok(None)
+    Ok(true)
 }
 
-#[test]
-fn request_lines_are_read(rt: HostRuntime) -> Result<(), Fail> {
-    let rows: [(&[u8], &[u8]); 20] = [
+// How many rows give their answers before one that doesn't.
+fn right_rows(alloc: Global, rows: &[(&[u8], &[u8])]) -> Result<usize, Fail> {
+    for (row, (input, wanted)) in rows.iter().enumerate() {
+        if !is_answered(alloc, input, wanted)? {
+            return Ok(row);
+        }
+    }
+    Ok(rows.len())
+}
+
+// Whether an answer is this error.
+fn is_error<T>(answer: &Result<T, EdgeError>, wanted: EdgeError) -> bool {
+    match answer {
+        Ok(_) => false,
+        Err(error) => *error == wanted,
+    }
+}
+
+// Heads with their first lines, and their answers.
+fn request_lines() -> [Row; 20] {
+    [
         (b"GET / HTTP/1.1\r\n\r\n", b"GET / [] "),
         (b"GET / HTTP/1.0\r\n\r\n", b"GET / []  close"),
         (b"GET / HTTP/1.1\n\n", b"GET / [] "),
@@ -100,14 +123,19 @@ fn request_lines_are_read(rt: HostRuntime) -> Result<(), Fail> {
         (b" GET / HTTP/1.1\r\n\r\n", b"malformed head"),
         (b"GET HTTP/1.1\r\n\r\n", b"malformed head"),
         (b"G@T / HTTP/1.1\r\n\r\n", b"malformed head"),
-    ];
-    assert_eq!(rt; first_wrong(rt.alloc(), rows.as_slice())?, None);
-    Ok(())
+    ]
 }
 
 #[test]
-fn fields_are_read(rt: HostRuntime) -> Result<(), Fail> {
-    let rows: [(&[u8], &[u8]); 22] = [
+fn request_lines_are_read(rt: HostRuntime) -> Result<(), Fail> {
+    let rows = request_lines();
+    assert_eq!(rt; right_rows(rt.alloc(), rows.as_slice())?, 20);
+    Ok(())
+}
+
+// Heads with fields, and their answers.
+fn field_lines() -> [Row; 22] {
+    [
         (b"GET / HTTP/1.1\r\nHost: a\r\n\r\n", b"GET / [Host=a;] "),
         (
             b"GET / HTTP/1.1\nHost:a\nHost:b\n\n",
@@ -154,14 +182,19 @@ fn fields_are_read(rt: HostRuntime) -> Result<(), Fail> {
         (b"GET / HTTP/1.1 \r\nA: b\r\n\r\n", b"malformed head"),
         (b"GET /\x7F HTTP/1.1\r\n\r\n", b"malformed head"),
         (b"GET /\xFF HTTP/1.1\r\n\r\n", b"malformed head"),
-    ];
-    assert_eq!(rt; first_wrong(rt.alloc(), rows.as_slice())?, None);
-    Ok(())
+    ]
 }
 
 #[test]
-fn bodies_are_read_by_length(rt: HostRuntime) -> Result<(), Fail> {
-    let rows: [(&[u8], &[u8]); 24] = [
+fn fields_are_read(rt: HostRuntime) -> Result<(), Fail> {
+    let rows = field_lines();
+    assert_eq!(rt; right_rows(rt.alloc(), rows.as_slice())?, 22);
+    Ok(())
+}
+
+// Requests with bodies, and their answers.
+fn bodies() -> [Row; 24] {
+    [
         (
             b"PUT /a HTTP/1.1\r\nContent-Length: 3\r\n\r\nabc",
             b"PUT /a [Content-Length=3;] abc",
@@ -258,8 +291,13 @@ fn bodies_are_read_by_length(rt: HostRuntime) -> Result<(), Fail> {
             b"PUT /a HTTP/1.1\r\nContent-Length: 999999999999999999\r\n\r\n",
             b"body of 999999999999999999 bytes",
         ),
-    ];
-    assert_eq!(rt; first_wrong(rt.alloc(), rows.as_slice())?, None);
+    ]
+}
+
+#[test]
+fn bodies_are_read_by_length(rt: HostRuntime) -> Result<(), Fail> {
+    let rows = bodies();
+    assert_eq!(rt; right_rows(rt.alloc(), rows.as_slice())?, 24);
     Ok(())
 }
 
@@ -271,7 +309,7 @@ fn cut_head_tells_its_length(rt: HostRuntime) -> Result<(), Fail> {
         let mut conn = MemConn::new(rt.alloc(), &head[..n], &[])?;
         let mut reader = RequestReader::new(rt.alloc());
         let answer = reader.read(&mut conn);
-        assert_eq!(rt; answer.err(), Some(EdgeError::CutShort { n: n as u64 }));
+        assert!(rt; is_error(&answer, EdgeError::CutShort { n: n as u64 }));
     }
     Ok(())
 }
@@ -282,11 +320,9 @@ fn long_head_is_refused(rt: HostRuntime) -> Result<(), Fail> {
     for _ in 0..16_383 {
         bytes.push(b'a')?;
     }
-    let short = first(rt.alloc(), bytes.as_slice())?;
-    assert_eq!(rt; short.as_slice(), b"cut short after 16383 bytes".as_slice());
+    assert!(rt; is_first(rt.alloc(), bytes.as_slice(), b"cut short after 16383 bytes")?);
     bytes.push(b'a')?;
-    let long = first(rt.alloc(), bytes.as_slice())?;
-    assert_eq!(rt; long.as_slice(), b"head above 16384 bytes".as_slice());
+    assert!(rt; is_first(rt.alloc(), bytes.as_slice(), b"head above 16384 bytes")?);
     Ok(())
 }
 
@@ -298,9 +334,7 @@ fn a_65th_field_is_refused(rt: HostRuntime) -> Result<(), Fail> {
             bytes.extend_from_slice(b"A:\r\n")?;
         }
         bytes.extend_from_slice(b"\r\n")?;
-        let answer = first(rt.alloc(), bytes.as_slice())?;
-        let told_many = answer.as_slice() == b"more than 64 fields".as_slice();
-        assert_eq!(rt; told_many, refused);
+        assert!(rt; is_first(rt.alloc(), bytes.as_slice(), b"more than 64 fields")? == refused);
     }
     Ok(())
 }
@@ -319,8 +353,7 @@ fn requests_follow_one_another_until_an_error(rt: HostRuntime) -> Result<(), Fai
     ];
     for text in wanted {
         let answer = reader.read(&mut conn);
-        let is = told(rt.alloc(), &answer)?;
-        assert_eq!(rt; is.as_slice(), text);
+        assert!(rt; told(rt.alloc(), &answer)?.as_slice() == text);
     }
     Ok(())
 }
@@ -332,7 +365,7 @@ fn fault_is_answered_again(rt: HostRuntime) -> Result<(), Fail> {
     let mut reader = RequestReader::new(rt.alloc());
     for _ in 0..3 {
         let answer = reader.read(&mut conn);
-        assert_eq!(rt; answer.err(), Some(EdgeError::ConnFault));
+        assert!(rt; is_error(&answer, EdgeError::ConnFault));
     }
     Ok(())
 }
@@ -366,9 +399,17 @@ fn written(
     Ok(Vec::from_slice(alloc, conn.written())?)
 }
 
-#[test]
-fn responses_are_written(rt: HostRuntime) -> Result<(), Fail> {
-    let rows: [(u16, &[u8], &[u8], &[u8], &[u8]); 6] = [
+// A status, a field, a body, and what is written of them.
+type Written = (
+    u16,
+    &'static [u8],
+    &'static [u8],
+    &'static [u8],
+    &'static [u8],
+);
+
+fn responses() -> [Written; 6] {
+    [
         (
             200,
             b"",
@@ -405,10 +446,18 @@ fn responses_are_written(rt: HostRuntime) -> Result<(), Fail> {
             b"",
             b"HTTP/1.1 599 \r\nContent-Length: 0\r\n\r\n",
         ),
-    ];
-    for (status, name, value, body, wanted) in rows.as_slice() {
-        let text = written(rt.alloc(), *status, name, value, body)?;
-        assert_eq!(rt; text.as_slice(), *wanted);
+    ]
+}
+
+fn is_written(alloc: Global, row: &Written) -> Result<bool, Fail> {
+    let (status, name, value, body, wanted) = *row;
+    Ok(written(alloc, status, name, value, body)?.as_slice() == wanted)
+}
+
+#[test]
+fn responses_are_written(rt: HostRuntime) -> Result<(), Fail> {
+    for row in responses().iter() {
+        assert!(rt; is_written(rt.alloc(), row)?);
     }
     Ok(())
 }
@@ -422,7 +471,7 @@ fn failed_write_is_a_fault(rt: HostRuntime) -> Result<(), Fail> {
     };
     let mut conn = MemConn::new(rt.alloc(), b"", &[1])?;
     let answer = write_response(rt.alloc(), &response, &mut conn);
-    assert_eq!(rt; answer.err(), Some(EdgeError::ConnFault));
+    assert!(rt; is_error(&answer, EdgeError::ConnFault));
     Ok(())
 }
 
@@ -467,25 +516,33 @@ fn is_cut_reply(alloc: Global, input: &[u8], n: usize, wanted: &[u8]) -> Result<
     Ok(cut.as_slice() == wanted || cut.as_slice() == short.as_bytes())
 }
 
-// The first row whose bytes don't give its answer, whole or cut at some byte.
-fn first_wrong_reply(alloc: Global, rows: &[(&[u8], &[u8])]) -> Result<Option<usize>, Fail> {
-    for (row, (input, wanted)) in rows.iter().enumerate() {
-        let whole = reply(alloc, input)?;
-        if whole.as_slice() != *wanted {
-            return Ok(Some(row));
-        }
-        for n in 0..input.len() {
-            if !is_cut_reply(alloc, input, n, wanted)? {
-                return Ok(Some(row));
-            }
+// Whether these bytes give their answer, whole and cut at each byte.
+fn is_replied(alloc: Global, input: &[u8], wanted: &[u8]) -> Result<bool, Fail> {
+    let whole = reply(alloc, input)?;
+    if whole.as_slice() != wanted {
+        return Ok(false);
+    }
+    for n in 0..input.len() {
+        if !is_cut_reply(alloc, input, n, wanted)? {
+            return Ok(false);
         }
     }
-    Ok(None)
+    Ok(true)
 }
 
-#[test]
-fn replies_are_read_by_length(rt: HostRuntime) -> Result<(), Fail> {
-    let rows: [(&[u8], &[u8]); 14] = [
+// How many rows give their answers before one that doesn't.
+fn right_replies(alloc: Global, rows: &[(&[u8], &[u8])]) -> Result<usize, Fail> {
+    for (row, (input, wanted)) in rows.iter().enumerate() {
+        if !is_replied(alloc, input, wanted)? {
+            return Ok(row);
+        }
+    }
+    Ok(rows.len())
+}
+
+// Responses with bodies of known lengths, and their answers.
+fn replies() -> [Row; 14] {
+    [
         (
             b"HTTP/1.1 200 OK\r\nContent-Length: 3\r\n\r\nabc",
             b"200 [Content-Length=3;] abc",
@@ -533,14 +590,19 @@ fn replies_are_read_by_length(rt: HostRuntime) -> Result<(), Fail> {
             b"HTTP/1.1 200 OK\r\nTransfer-Encoding: chunked\r\nTransfer-Encoding: chunked\r\n\r\n",
             b"chunked body",
         ),
-    ];
-    assert_eq!(rt; first_wrong_reply(rt.alloc(), rows.as_slice())?, None);
-    Ok(())
+    ]
 }
 
 #[test]
-fn chunks_are_joined(rt: HostRuntime) -> Result<(), Fail> {
-    let rows: [(&[u8], &[u8]); 11] = [
+fn replies_are_read_by_length(rt: HostRuntime) -> Result<(), Fail> {
+    let rows = replies();
+    assert_eq!(rt; right_replies(rt.alloc(), rows.as_slice())?, 14);
+    Ok(())
+}
+
+// Responses in chunks, and their answers.
+fn chunks() -> [Row; 11] {
+    [
         (
             b"HTTP/1.1 200 OK\r\nTransfer-Encoding: chunked\r\n\r\n3\r\nabc\r\n0A;b=c\r\n0123456789\r\n0\r\n\r\n",
             b"200 [Transfer-Encoding=chunked;] abc0123456789",
@@ -585,17 +647,22 @@ fn chunks_are_joined(rt: HostRuntime) -> Result<(), Fail> {
             b"HTTP/1.1 200 OK\r\nTransfer-Encoding: chunked\r\n\r\n1\r\na\r\nFFFFFFFFFFFFFFFF\r\n",
             b"body of 18446744073709551615 bytes",
         ),
-    ];
-    assert_eq!(rt; first_wrong_reply(rt.alloc(), rows.as_slice())?, None);
+    ]
+}
+
+#[test]
+fn chunks_are_joined(rt: HostRuntime) -> Result<(), Fail> {
+    let rows = chunks();
+    assert_eq!(rt; right_replies(rt.alloc(), rows.as_slice())?, 11);
     Ok(())
 }
 
 #[test]
 fn reply_ends_with_the_input(rt: HostRuntime) -> Result<(), Fail> {
     let some = reply(rt.alloc(), b"HTTP/1.1 200 OK\r\n\r\nab\r\n\r\n")?;
-    assert_eq!(rt; some.as_slice(), b"200 [] ab\r\n\r\n".as_slice());
+    assert!(rt; some.as_slice() == b"200 [] ab\r\n\r\n".as_slice());
     let none = reply(rt.alloc(), b"HTTP/1.0 500 \nA: b\n\n")?;
-    assert_eq!(rt; none.as_slice(), b"500 [A=b;] ".as_slice());
+    assert!(rt; none.as_slice() == b"500 [A=b;] ".as_slice());
     Ok(())
 }
 
@@ -604,10 +671,10 @@ fn request_is_written_before_its_reply(rt: HostRuntime) -> Result<(), Fail> {
     let input = b"HTTP/1.1 200 OK\r\nContent-Length: 1\r\n\r\n6";
     let mut conn = MemConn::new(rt.alloc(), input, &[])?;
     let response = exchange(rt.alloc(), &request(rt.alloc(), b"5")?, &mut conn)?;
-    assert_eq!(rt; response.body.as_slice(), b"6".as_slice());
+    assert!(rt; response.body.as_slice() == b"6".as_slice());
     let wanted =
         b"PUT /actors/order/42/method/add HTTP/1.1\r\nHost: 127.0.0.1:3000\r\nDapr-Reentrancy-Id: n1.1.0.1\r\nConnection: close\r\nContent-Length: 1\r\n\r\n5";
-    assert_eq!(rt; conn.written(), wanted.as_slice());
+    assert!(rt; conn.written() == wanted.as_slice());
     Ok(())
 }
 
@@ -617,7 +684,7 @@ fn exchange_over_a_failing_connection_is_a_fault(rt: HostRuntime) -> Result<(), 
     for call in [1, 2] {
         let mut conn = MemConn::new(rt.alloc(), input, &[call])?;
         let answer = exchange(rt.alloc(), &request(rt.alloc(), b"5")?, &mut conn);
-        assert_eq!(rt; answer.err(), Some(EdgeError::ConnFault));
+        assert!(rt; is_error(&answer, EdgeError::ConnFault));
     }
     Ok(())
 }

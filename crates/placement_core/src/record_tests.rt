@@ -1,6 +1,6 @@
 // The records of worked runs of several rooms, and restores from them.
 use super::*;
-use crate::tests::register;
+use crate::tests::{is_reply, register};
 use actor_names::read_space;
 use member_roster::copy_option;
 use std::alloc::Global;
@@ -27,45 +27,63 @@ fn recorded(alloc: Global, placement: &Placement) -> Result<PlacementRecord, Fai
     Ok(PlacementRecord { entries })
 }
 
-/// The index of the bad record, if there is one.
-fn bad_index(alloc: Global, records: &[PlacementRecord]) -> Option<u64> {
+/// Whether the record of this index is bad.
+fn is_bad_at(alloc: Global, records: &[PlacementRecord], wanted: u64) -> bool {
     match &Placement::restore(alloc, records, 5000) {
-        Ok(_) => None,
-        Err(RestoreError::BadRecord { index }) => Some(*index),
-        Err(RestoreError::OutOfMemory) => None,
+        Ok(_) => false,
+        Err(RestoreError::BadRecord { index }) => *index == wanted,
+        Err(RestoreError::OutOfMemory) => false,
     }
 }
 
-/// Two rooms with three members, whose joins are recorded, and a Tick that drops them all.
-#[test]
-fn records_of_two_rooms_restore_their_restart(rt: HostRuntime) -> Result<(), Fail> {
-    let mut placement = Placement::new(rt.alloc());
-    let mut records = Vec::new(rt.alloc());
+/// The records of the joins of three members in two rooms.
+fn records_of_joins(
+    alloc: Global,
+    placement: &mut Placement,
+) -> Result<Vec<PlacementRecord>, Fail> {
+    let mut records = Vec::new(alloc);
     for member in [
         b"a/1".as_slice(),
         b"blue:a/1".as_slice(),
         b"blue:b/1".as_slice(),
     ] {
-        let _reply = register(rt.alloc(), &mut placement, member)?;
-        records.push(recorded(rt.alloc(), &placement)?)?;
+        let _reply = register(alloc, placement, member)?;
+        records.push(recorded(alloc, placement)?)?;
     }
+    Ok(records)
+}
+
+/// Whether the records restore two rooms: `blue` with two members and `default` with one, both at version 2.
+fn are_restored(alloc: Global, records: &[PlacementRecord]) -> Result<bool, Fail> {
+    let restored = Placement::restore(alloc, records, 3000)?;
+    let blue = read_space(b"blue")?;
+    let default = read_space(b"default")?;
+    Ok(
+        restored.rooms() == 2
+            && restored.members(&blue).len() == 2
+            && restored.last_version(&blue) == 2
+            && restored.members(&default).len() == 1
+            && restored.last_version(&default) == 2,
+    )
+}
+
+/// Two rooms with three members, whose joins are recorded, and a Tick that drops them all.
+#[test]
+fn records_of_two_rooms_restore_their_restart(rt: HostRuntime) -> Result<(), Fail> {
+    let alloc = rt.alloc();
+    let mut placement = Placement::new(alloc);
+    let mut records = records_of_joins(alloc, &mut placement)?;
     let looked = placement.step(PlaceEvent::Look, 2000);
-    assert_eq!(rt; looked, PlaceReply::Looked);
+    assert!(rt; is_reply(looked, PlaceReply::Looked));
     assert!(rt; placement.entry(0).is_none());
-    let restored = Placement::restore(rt.alloc(), records.as_slice(), 3000)?;
-    assert_eq!(rt; restored.rooms(), 2);
-    for (space, hosts, version) in [(b"blue".as_slice(), 2, 2), (b"default".as_slice(), 1, 2)] {
-        let space = read_space(space)?;
-        assert_eq!(rt; restored.members(&space).len(), hosts);
-        assert_eq!(rt; restored.last_version(&space), version);
-    }
+    assert!(rt; are_restored(alloc, records.as_slice())?);
     let dropped = placement.step(PlaceEvent::Tick, 11_000);
-    assert_eq!(rt; dropped, PlaceReply::Ticked { dropped: 3 });
-    let record_ = recorded(rt.alloc(), &placement)?;
+    assert!(rt; is_reply(dropped, PlaceReply::Ticked { dropped: 3 }));
+    let record_ = recorded(alloc, &placement)?;
     assert_eq!(rt; record_.entries.len(), 2);
     records.push(record_)?;
-    assert_eq!(rt; bad_index(rt.alloc(), records.as_slice()), None);
-    records.push(recorded(rt.alloc(), &placement)?)?;
-    assert_eq!(rt; bad_index(rt.alloc(), records.as_slice()), Some(4));
+    assert!(rt; Placement::restore(alloc, records.as_slice(), 5000).is_ok());
+    records.push(recorded(alloc, &placement)?)?;
+    assert!(rt; is_bad_at(alloc, records.as_slice(), 4));
     Ok(())
 }

@@ -29,21 +29,49 @@ pub(crate) fn register(
     Ok(placement.step(PlaceEvent::Register { host }, 1000))
 }
 
-/// The answer to an acknowledgement at the moment 2,000.
-fn acknowledge(
+/// Whether a reply is the wanted one.
+pub(crate) fn is_reply(reply: PlaceReply, wanted: PlaceReply) -> bool {
+    reply == wanted
+}
+
+/// Whether a Register at the moment 1,000 is answered so.
+fn is_registered(
+    alloc: Global,
+    placement: &mut Placement,
+    member: &[u8],
+    wanted: PlaceReply,
+) -> Result<bool, Fail> {
+    Ok(is_reply(register(alloc, placement, member)?, wanted))
+}
+
+/// Whether an acknowledgement at the moment 2,000 is answered so.
+fn is_acknowledged(
     placement: &mut Placement,
     member: &[u8],
     stage: AckStage,
-) -> Result<PlaceReply, Fail> {
+    wanted: PlaceReply,
+) -> Result<bool, Fail> {
     let member = read_member(member)?;
-    Ok(placement.step(
-        PlaceEvent::Ack {
-            member,
-            stage,
-            version: 1,
+    let event = PlaceEvent::Ack {
+        member,
+        stage,
+        version: 1,
+    };
+    Ok(is_reply(placement.step(event, 2000), wanted))
+}
+
+const LOCK: PlaceReply = PlaceReply::Lock { version: 1 };
+
+/// The answer to the Register of a member of this number, from 0 on.
+fn answer_to(number: u32) -> PlaceReply {
+    match number {
+        0 => LOCK,
+        256 => PlaceReply::Full {
+            members: 256,
+            nodes: 256,
         },
-        2000,
-    ))
+        _ => PlaceReply::Idle,
+    }
 }
 
 #[test]
@@ -51,19 +79,10 @@ fn member_257_is_refused(rt: HostRuntime) -> Result<(), Fail> {
     let mut placement = Placement::new(rt.alloc());
     for i in 0..257u32 {
         let member = format!(in rt.alloc(); "m{i}/1")?;
-        let wanted = match i {
-            0 => PlaceReply::Lock { version: 1 },
-            256 => PlaceReply::Full {
-                members: 256,
-                nodes: 256,
-            },
-            _ => PlaceReply::Idle,
-        };
-        let reply = register(rt.alloc(), &mut placement, member.as_bytes())?;
-        assert_eq!(rt; reply, wanted);
+        let wanted = answer_to(i);
+        assert!(rt; is_registered(rt.alloc(), &mut placement, member.as_bytes(), wanted)?);
     }
-    let other = register(rt.alloc(), &mut placement, b"blue:m256/1")?;
-    assert_eq!(rt; other, PlaceReply::Lock { version: 1 });
+    assert!(rt; is_registered(rt.alloc(), &mut placement, b"blue:m256/1", LOCK)?);
     assert_eq!(rt; placement.members(&default_space()).len(), 256);
     Ok(())
 }
@@ -75,13 +94,11 @@ fn space_65_is_refused(rt: HostRuntime) -> Result<(), Fail> {
         let member = format!(in rt.alloc(); "s{i}:a/1")?;
         let wanted = match i {
             63 => PlaceReply::SpacesFull { spaces: 64 },
-            _ => PlaceReply::Lock { version: 1 },
+            _ => LOCK,
         };
-        let reply = register(rt.alloc(), &mut placement, member.as_bytes())?;
-        assert_eq!(rt; reply, wanted);
+        assert!(rt; is_registered(rt.alloc(), &mut placement, member.as_bytes(), wanted)?);
     }
-    let home = register(rt.alloc(), &mut placement, b"a/1")?;
-    assert_eq!(rt; home, PlaceReply::Lock { version: 1 });
+    assert!(rt; is_registered(rt.alloc(), &mut placement, b"a/1", LOCK)?);
     assert_eq!(rt; placement.rooms(), 64);
     Ok(())
 }
@@ -89,12 +106,11 @@ fn space_65_is_refused(rt: HostRuntime) -> Result<(), Fail> {
 #[test]
 fn silent_member_is_dropped_at_ten_seconds(rt: HostRuntime) -> Result<(), Fail> {
     let mut placement = Placement::new(rt.alloc());
-    let reply = register(rt.alloc(), &mut placement, b"m0/1")?;
-    assert_eq!(rt; reply, PlaceReply::Lock { version: 1 });
+    assert!(rt; is_registered(rt.alloc(), &mut placement, b"m0/1", LOCK)?);
     let early = placement.step(PlaceEvent::Tick, 10_999);
-    assert_eq!(rt; early, PlaceReply::Ticked { dropped: 0 });
+    assert!(rt; is_reply(early, PlaceReply::Ticked { dropped: 0 }));
     let late = placement.step(PlaceEvent::Tick, 11_000);
-    assert_eq!(rt; late, PlaceReply::Ticked { dropped: 1 });
+    assert!(rt; is_reply(late, PlaceReply::Ticked { dropped: 1 }));
     assert_eq!(rt; placement.last_version(&default_space()), 2);
     Ok(())
 }
@@ -103,20 +119,18 @@ fn silent_member_is_dropped_at_ten_seconds(rt: HostRuntime) -> Result<(), Fail> 
 fn rounds_of_two_rooms_run_beside_each_other(rt: HostRuntime) -> Result<(), Fail> {
     let mut placement = Placement::new(rt.alloc());
     let table: [(&[u8], PlaceReply); 3] = [
-        (b"a/1", PlaceReply::Lock { version: 1 }),
-        (b"blue:a/1", PlaceReply::Lock { version: 1 }),
+        (b"a/1", LOCK),
+        (b"blue:a/1", LOCK),
         (b"blue:b/1", PlaceReply::Idle),
     ];
     for (member, wanted) in table {
-        let reply = register(rt.alloc(), &mut placement, member)?;
-        assert_eq!(rt; reply, wanted);
+        assert!(rt; is_registered(rt.alloc(), &mut placement, member, wanted)?);
     }
-    let blue = acknowledge(&mut placement, b"blue:a/1", AckStage::Lock)?;
-    assert_eq!(rt; blue, PlaceReply::Update { version: 1 });
-    let early = acknowledge(&mut placement, b"a/1", AckStage::Update)?;
-    assert_eq!(rt; early, PlaceReply::Lock { version: 1 });
-    let stranger = acknowledge(&mut placement, b"red:a/1", AckStage::Lock)?;
-    assert_eq!(rt; stranger, PlaceReply::NotMember { greatest: 0 });
+    let update = PlaceReply::Update { version: 1 };
+    assert!(rt; is_acknowledged(&mut placement, b"blue:a/1", AckStage::Lock, update)?);
+    assert!(rt; is_acknowledged(&mut placement, b"a/1", AckStage::Update, LOCK)?);
+    let stranger = PlaceReply::NotMember { greatest: 0 };
+    assert!(rt; is_acknowledged(&mut placement, b"red:a/1", AckStage::Lock, stranger)?);
     assert_eq!(rt; placement.table_hosts(&read_space(b"blue")?).len(), 1);
     assert_eq!(rt; placement.table_hosts(&default_space()).len(), 0);
     Ok(())
@@ -126,13 +140,12 @@ fn rounds_of_two_rooms_run_beside_each_other(rt: HostRuntime) -> Result<(), Fail
 fn tick_drops_in_two_rooms(rt: HostRuntime) -> Result<(), Fail> {
     let mut placement = Placement::new(rt.alloc());
     for member in [b"red:a/1".as_slice(), b"blue:a/1".as_slice()] {
-        let reply = register(rt.alloc(), &mut placement, member)?;
-        assert_eq!(rt; reply, PlaceReply::Lock { version: 1 });
+        assert!(rt; is_registered(rt.alloc(), &mut placement, member, LOCK)?);
     }
     let mut tried = placement.copy(rt.alloc())?;
     assert_eq!(rt; placement.rooms(), 3);
     let reply = tried.step(PlaceEvent::Tick, 11_000);
-    assert_eq!(rt; reply, PlaceReply::Ticked { dropped: 2 });
+    assert!(rt; is_reply(reply, PlaceReply::Ticked { dropped: 2 }));
     assert_eq!(rt; tried.last_version(&read_space(b"red")?), 2);
     Ok(())
 }
@@ -141,8 +154,7 @@ fn tick_drops_in_two_rooms(rt: HostRuntime) -> Result<(), Fail> {
 fn restart_starts_rounds_where_there_were_any(rt: HostRuntime) -> Result<(), Fail> {
     let mut placement = Placement::new(rt.alloc());
     for member in [b"red:a/1".as_slice(), b"blue:a/1".as_slice()] {
-        let reply = register(rt.alloc(), &mut placement, member)?;
-        assert_eq!(rt; reply, PlaceReply::Lock { version: 1 });
+        assert!(rt; is_registered(rt.alloc(), &mut placement, member, LOCK)?);
     }
     placement.restarted(3000);
     let table: [(&[u8], u64); 3] = [(b"blue", 2), (b"default", 0), (b"red", 2)];

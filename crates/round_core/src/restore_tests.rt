@@ -1,6 +1,6 @@
 // Restores from the records of worked runs, and from records that no run leaves.
 use super::*;
-use crate::tests::{host, register};
+use crate::tests::{host, is_registered, is_reply, register};
 use actor_names::read_member;
 use std::alloc::Global;
 use std::test::Fail;
@@ -86,10 +86,10 @@ fn go_through(run: &mut Run) -> Result<(), Fail> {
     run.leave(b"k/1")
 }
 
-/// The answer to a Beat.
-fn told(room: &mut Room, member: &[u8]) -> Result<PlaceReply, Fail> {
+/// Whether a Beat is answered so.
+fn is_told(room: &mut Room, member: &[u8], wanted: PlaceReply) -> Result<bool, Fail> {
     let member = read_member(member)?;
-    Ok(room.step(PlaceEvent::Beat { member }, 20_001))
+    Ok(is_reply(room.step(PlaceEvent::Beat { member }, 20_001), wanted))
 }
 
 /// Whether both answer a Beat of each member with the Lock of `version`, and those of strangers as they should.
@@ -106,7 +106,7 @@ fn tell_same(restored: &mut Room, live: &mut Room, version: u64) -> Result<bool,
         (b"m/1", PlaceReply::NotMember { greatest: 0 }),
     ];
     for (member, wanted) in table {
-        if told(restored, member)? != wanted || told(live, member)? != wanted {
+        if !is_told(restored, member, wanted)? || !is_told(live, member, wanted)? {
             return Ok(false);
         }
     }
@@ -161,12 +161,12 @@ fn note(
     Ok(())
 }
 
-/// The index of the bad record, if there is one.
-fn bad_index(alloc: Global, records: &[RoomRecord]) -> Option<u64> {
+/// Whether the record of this index is bad.
+fn is_bad_at(alloc: Global, records: &[RoomRecord], wanted: u64) -> bool {
     match &Room::restore(alloc, records, 5000) {
-        Ok(_) => None,
-        Err(RestoreError::BadRecord { index }) => Some(*index),
-        Err(RestoreError::OutOfMemory) => None,
+        Ok(_) => false,
+        Err(RestoreError::BadRecord { index }) => *index == wanted,
+        Err(RestoreError::OutOfMemory) => false,
     }
 }
 
@@ -184,7 +184,7 @@ fn bad_records_are_named_by_index(rt: HostRuntime) -> Result<(), Fail> {
         let mut records = Vec::new(rt.alloc());
         note(&mut records, rt.alloc(), true, b"a/1", 3)?;
         note(&mut records, rt.alloc(), joins, member, next_version)?;
-        assert_eq!(rt; bad_index(rt.alloc(), records.as_slice()), Some(1));
+        assert!(rt; is_bad_at(rt.alloc(), records.as_slice(), 1));
     }
     Ok(())
 }
@@ -195,7 +195,7 @@ fn record_of_equal_boot_is_bad(rt: HostRuntime) -> Result<(), Fail> {
     note(&mut records, rt.alloc(), true, b"a/1", 2)?;
     note(&mut records, rt.alloc(), false, b"a/1", 3)?;
     note(&mut records, rt.alloc(), true, b"a/1", 4)?;
-    assert_eq!(rt; bad_index(rt.alloc(), records.as_slice()), Some(2));
+    assert!(rt; is_bad_at(rt.alloc(), records.as_slice(), 2));
     Ok(())
 }
 
@@ -206,7 +206,7 @@ fn record_of_member_257_is_bad(rt: HostRuntime) -> Result<(), Fail> {
         let member = format!(in rt.alloc(); "m{i}/1")?;
         note(&mut records, rt.alloc(), true, member.as_bytes(), 2)?;
     }
-    assert_eq!(rt; bad_index(rt.alloc(), records.as_slice()), Some(256));
+    assert!(rt; is_bad_at(rt.alloc(), records.as_slice(), 256));
     Ok(())
 }
 
@@ -270,16 +270,15 @@ fn is_alone(room: &Room, member: &[u8]) -> Result<bool, Fail> {
 fn record_of_node_65537_is_bad(rt: HostRuntime) -> Result<(), Fail> {
     let records = many_records(rt.alloc())?;
     assert_eq!(rt; records.len(), 65_537);
-    assert_eq!(rt; bad_index(rt.alloc(), records.as_slice()), Some(65_536));
+    assert!(rt; is_bad_at(rt.alloc(), records.as_slice(), 65_536));
     let mut restored = restored_before_last(rt.alloc(), records.as_slice())?;
     assert_eq!(rt; restored.last_version(), 75_535);
     let alone = is_alone(&restored, b"n75535/1")?;
     assert!(rt; alone);
-    let reply = register(rt.alloc(), &mut restored, b"n75536/1")?;
     let full = PlaceReply::Full {
         members: 1,
         nodes: 65_536,
     };
-    assert_eq!(rt; reply, full);
+    assert!(rt; is_registered(rt.alloc(), &mut restored, b"n75536/1", full)?);
     Ok(())
 }

@@ -53,19 +53,31 @@ fn run(
     Ok(())
 }
 
-// The first byte of a value.
-fn first(
+// Whether the first byte of a value is this one.
+fn is_first(
     alloc: Global,
     rows: &StateRows,
     actor: &[u8],
     text: &str,
     now: u64,
-) -> Result<Option<u8>, Fail> {
+    wanted: u8,
+) -> Result<bool, Fail> {
     let actor = read_key(alloc, actor)?;
     match rows.get(&actor, text, now) {
-        None => Ok(None),
-        Some(value) => Ok(value.first().copied()),
+        None => Ok(false),
+        Some(value) => Ok(value.first().copied() == Some(wanted)),
     }
+}
+
+fn is_absent(
+    alloc: Global,
+    rows: &StateRows,
+    actor: &[u8],
+    text: &str,
+    now: u64,
+) -> Result<bool, Fail> {
+    let actor = read_key(alloc, actor)?;
+    Ok(rows.get(&actor, text, now).is_none())
 }
 
 #[test]
@@ -78,14 +90,14 @@ fn transaction_applies_in_order(rt: HostRuntime) -> Result<(), Fail> {
         upsert(alloc, "b", b"2", None)?,
     ]?;
     run(alloc, &mut rows, b"cart/1", ops, 5)?;
-    assert_eq!(rt; first(alloc, &rows, b"cart/1", "a", 5)?, None);
-    assert_eq!(rt; first(alloc, &rows, b"cart/1", "b", 5)?, Some(b'2'));
+    assert!(rt; is_absent(alloc, &rows, b"cart/1", "a", 5)?);
+    assert!(rt; is_first(alloc, &rows, b"cart/1", "b", 5, b'2')?);
     let ops = vec![in alloc; upsert(alloc, "b", b"3", None)?]?;
     run(alloc, &mut rows, b"cart/10", ops, 5)?;
     let ops = vec![in alloc; delete(alloc, "b")?]?;
     run(alloc, &mut rows, b"cart/1", ops, 5)?;
-    assert_eq!(rt; first(alloc, &rows, b"cart/1", "b", 5)?, None);
-    assert_eq!(rt; first(alloc, &rows, b"cart/10", "b", 5)?, Some(b'3'));
+    assert!(rt; is_absent(alloc, &rows, b"cart/1", "b", 5)?);
+    assert!(rt; is_first(alloc, &rows, b"cart/10", "b", 5, b'3')?);
     Ok(())
 }
 
@@ -98,37 +110,51 @@ fn value_is_absent_from_its_ttl_on(rt: HostRuntime) -> Result<(), Fail> {
         upsert(alloc, "b", b"2", Some(0))?,
     ]?;
     run(alloc, &mut rows, b"cart/1", ops, 1000)?;
-    let table = [
-        ("a", 1000, Some(b'1')),
-        ("a", 2999, Some(b'1')),
-        ("a", 3000, None),
-        ("a", 9000, None),
-        ("b", 999, Some(b'2')),
-        ("b", 1000, None),
-    ];
-    for (text, now, value) in table {
-        assert_eq!(rt; first(alloc, &rows, b"cart/1", text, now)?, value);
+    for (text, now, value) in [("a", 1000, b'1'), ("a", 2999, b'1'), ("b", 999, b'2')] {
+        assert!(rt; is_first(alloc, &rows, b"cart/1", text, now, value)?);
+    }
+    for (text, now) in [("a", 3000), ("a", 9000), ("b", 1000)] {
+        assert!(rt; is_absent(alloc, &rows, b"cart/1", text, now)?);
     }
     Ok(())
+}
+
+// Whether a transaction with an operation of these numbers of bytes behind another one is fine.
+fn is_fine(alloc: Global, key_bytes: usize, value_bytes: usize) -> Result<bool, Fail> {
+    let ops = vec![in alloc; delete(alloc, "a")?, sized(alloc, key_bytes, value_bytes)?]?;
+    Ok(StateRows::check(ops.as_slice()).is_ok())
+}
+
+// Whether it is refused for this fault.
+fn is_at_fault(
+    alloc: Global,
+    key_bytes: usize,
+    value_bytes: usize,
+    fault: StateError,
+) -> Result<bool, Fail> {
+    let ops = vec![in alloc; delete(alloc, "a")?, sized(alloc, key_bytes, value_bytes)?]?;
+    Ok(is_fault(StateRows::check(ops.as_slice()), fault))
+}
+
+fn is_fault(answer: Result<(), StateError>, fault: StateError) -> bool {
+    match answer {
+        Ok(()) => false,
+        Err(error) => error == fault,
+    }
 }
 
 #[test]
 fn first_operation_at_fault_is_named(rt: HostRuntime) -> Result<(), Fail> {
     let alloc = rt.alloc();
+    assert!(rt; is_fine(alloc, 1, 0)?);
+    assert!(rt; is_fine(alloc, 256, 4194304)?);
     let table = [
-        (1, 0, Ok(())),
-        (256, 4194304, Ok(())),
-        (0, 4194305, Err(StateError::KeyTooLong { op: 1, n: 0 })),
-        (257, 0, Err(StateError::KeyTooLong { op: 1, n: 257 })),
-        (
-            1,
-            4194305,
-            Err(StateError::ValueTooLong { op: 1, n: 4194305 }),
-        ),
+        (0, 4194305, StateError::KeyTooLong { op: 1, n: 0 }),
+        (257, 0, StateError::KeyTooLong { op: 1, n: 257 }),
+        (1, 4194305, StateError::ValueTooLong { op: 1, n: 4194305 }),
     ];
-    for (key_bytes, value_bytes, answer) in table {
-        let ops = vec![in alloc; delete(alloc, "a")?, sized(alloc, key_bytes, value_bytes)?]?;
-        assert_eq!(rt; StateRows::check(ops.as_slice()), answer);
+    for (key_bytes, value_bytes, fault) in table {
+        assert!(rt; is_at_fault(alloc, key_bytes, value_bytes, fault)?);
     }
     Ok(())
 }
@@ -140,21 +166,19 @@ fn most_operations_are_1000(rt: HostRuntime) -> Result<(), Fail> {
     for _ in 0..1000u32 {
         ops.push(delete(alloc, "a")?)?;
     }
-    assert_eq!(rt; StateRows::check(ops.as_slice()), Ok(()));
+    assert!(rt; StateRows::check(ops.as_slice()).is_ok());
     ops.push(delete(alloc, "")?)?;
-    assert_eq!(rt;
-        StateRows::check(ops.as_slice()),
-        Err(StateError::TooManyOps { n: 1001 })
-    );
+    let answer = StateRows::check(ops.as_slice());
+    assert!(rt; is_fault(answer, StateError::TooManyOps { n: 1001 }));
     Ok(())
 }
 
 #[test]
 fn texts_and_values_are_given_back(rt: HostRuntime) -> Result<(), Fail> {
     let alloc = rt.alloc();
-    assert_eq!(rt; key(alloc, "a")?.into_string().as_str(), "a");
+    assert!(rt; key(alloc, "a")?.into_string().as_str() == "a");
     let value = StateValue::from_vec(bytes(alloc, 2)?);
-    assert_eq!(rt; value.into_vec().as_slice(), b"aa".as_slice());
+    assert!(rt; value.into_vec().as_slice() == b"aa".as_slice());
     Ok(())
 }
 
@@ -168,18 +192,38 @@ fn kept(alloc: Global, actor: &[u8], text: &str, absent: Option<u64>) -> Result<
     })
 }
 
+// Whether this entry is restored.
+fn is_restored(
+    alloc: Global,
+    rows: &mut StateRows,
+    actor: &[u8],
+    text: &str,
+    absent: Option<u64>,
+) -> Result<bool, Fail> {
+    Ok(rows.restore(kept(alloc, actor, text, absent)?)?)
+}
+
+// Whether a walk gives the entry `b`, which is absent from 7 on, then the entry `a`, and no more.
+fn are_walked(rows: &StateRows) -> bool {
+    let Some(first) = rows.following(None) else {
+        return false;
+    };
+    let Some(second) = rows.following(Some(first)) else {
+        return false;
+    };
+    first.key.as_str() == "b"
+        && first.absent == Some(7)
+        && second.key.as_str() == "a"
+        && rows.following(Some(second)).is_none()
+}
+
 #[test]
 fn kept_entries_are_restored_once_and_walked_in_order(rt: HostRuntime) -> Result<(), Fail> {
     let alloc = rt.alloc();
     let mut rows = StateRows::new(alloc);
-    assert_eq!(rt; rows.restore(kept(alloc, b"cart/2", "a", None)?)?, true);
-    assert_eq!(rt; rows.restore(kept(alloc, b"cart/1", "b", Some(7))?)?, true);
-    assert_eq!(rt; rows.restore(kept(alloc, b"cart/1", "b", None)?)?, false);
-    let first = rows.following(None).ok_or("no first entry")?;
-    assert_eq!(rt; first.key.as_str(), "b");
-    assert_eq!(rt; first.absent, Some(7));
-    let second = rows.following(Some(first)).ok_or("no second entry")?;
-    assert_eq!(rt; second.key.as_str(), "a");
-    assert_eq!(rt; rows.following(Some(second)).is_none(), true);
+    assert!(rt; is_restored(alloc, &mut rows, b"cart/2", "a", None)?);
+    assert!(rt; is_restored(alloc, &mut rows, b"cart/1", "b", Some(7))?);
+    assert!(rt; !is_restored(alloc, &mut rows, b"cart/1", "b", None)?);
+    assert!(rt; are_walked(&rows));
     Ok(())
 }
