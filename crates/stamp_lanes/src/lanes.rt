@@ -67,6 +67,7 @@ impl StampLanes {
     pub(crate) fn in_order(&self)
         ensures order { Ascends node_cmp self.now.nodes }
         ensures each { Every IsNode self.now.nodes }
+        ensures limit { greatest_boot self.now.nodes ≤ 2 ^ 62 }
     {
         let _tree = &self.tree;
     }

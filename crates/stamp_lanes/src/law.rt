@@ -1,10 +1,11 @@
 // What holds of the definitions. The functions that state it do nothing.
-ghost use Rattle.std.specs.Prelude.{◌≡◌, ℕ, List, [], ◌∷◌, ◌++◌, Ok};
+ghost use Rattle.std.specs.Prelude.{◌≡◌, ◌≤◌, ◌^◌, ℕ, List, [], ◌∷◌, ◌++◌, Ok};
+ghost use Rattle.search_tree.specs.Orders.{Ascends};
 ghost use Rattle.actor_names.specs.declared.member.Member.{Member};
 ghost use Rattle.stamp_lanes.specs.declared.answer.LaneAnswer.{LaneAnswer};
 ghost use Rattle.stamp_lanes.specs.declared.answer.StampLook.TheVariants.{Fresh};
 ghost use Rattle.stamp_lanes.specs.declared.node.NodeLanes.{NodeLanes};
-ghost use Rattle.stamp_lanes.specs.Stamps.{look, greatest_boot};
+ghost use Rattle.stamp_lanes.specs.Stamps.{look, greatest_boot, node_cmp, Every, IsNode};
 ghost use Rattle.stamp_lanes.specs.Restores.{Restores, rows_of};
 ghost use Rattle.stamp_lanes.specs.Runs.{LaneEvent, Accepts, MayRun, after_events};
 
@@ -20,6 +21,15 @@ pub fn lane_law()
 /// The rows of the nodes, first their boots and then their lanes, are read back to the same nodes, and none is refused.
 pub fn restored_law(lanes: &StampLanes)
     ensures { Restores (rows_of lanes.now.nodes) [] lanes.now.nodes }
+{
+    lanes.in_order();
+}
+
+/// The nodes are in order, each once, with their lanes in order of their parts, and no boot is above 2^62.
+pub fn nodes_law(lanes: &StampLanes)
+    ensures order { Ascends node_cmp lanes.now.nodes }
+    ensures each { Every IsNode lanes.now.nodes }
+    ensures limit { greatest_boot lanes.now.nodes ≤ 2 ^ 62 }
 {
     lanes.in_order();
 }

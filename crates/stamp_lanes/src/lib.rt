@@ -25,7 +25,7 @@ pub use error::{BootError, RestoreError, StampError};
 pub use kept::KeptNumbers;
 pub use lane::{Lane, MOST_KEPT};
 pub use lanes::StampLanes;
-pub use law::{lane_law, restored_law};
+pub use law::{lane_law, nodes_law, restored_law};
 pub use node::{MOST_NODES, NodeLanes};
 pub use prepared::PreparedBoot;
 
