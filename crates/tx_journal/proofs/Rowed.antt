@@ -1,5 +1,5 @@
 -- What a replay finds in one file or in two.
-use Rattle.std.proofs.Common.{◌≡◌, ℕ, suc, ◌+◌, ◌≤◌, Bool, true, false, cond, List, [], ◌∷◌, length, drop, Option, Some, None, Ok, Vec, refl, sym, ◌∙◌, ap, subst, arith}
+use Rattle.std.proofs.Common.{◌≡◌, ℕ, suc, ◌+◌, ◌≤◌, Bool, true, false, cond, List, [], ◌∷◌, length, drop, Option, Some, None, Ok, Vec, refl, sym, ◌∙◌, ap, subst, arith, length-append, ◌++◌}
 use Rattle.std.specs.Prelude.{slice_get, option_map, is_some}
 use Rattle.std.specs.Int.{w64, from_be_bytes}
 use Rattle.disk_model.specs.Disk.{DiskState}
@@ -8,9 +8,10 @@ use Rattle.tx_journal.specs.declared.format.Format.TheVariants.{One, Two}
 use Rattle.tx_journal.specs.declared.find.Cursor.{Cursor}
 use Rattle.tx_journal.specs.Pair.{Files, is_generation, generation_in, first_generation, without_generation, Holds}
 use Rattle.tx_journal.specs.Journal.{IsAtRest, IsSettled, Finds, Replays}
-use Rattle.tx_journal.specs.Calls.{Side, JournalState, first_of, second_of, tell_one, tell_both, tell_sides, rows_in, place_in}
+use Rattle.tx_journal.specs.Calls.{Side, JournalState, first_of, second_of, tell_one, tell_both, tell_sides, rows_in, place_in, is_alone, IsMeasured}
 use Rattle.tx_journal.specs.Sound.{IsLive, IsSound, newest_of}
-use Rattle.tx_journal.proofs.Files.{count_records}
+use Rattle.tx_journal.specs.File.{framed, records, file_length}
+use Rattle.tx_journal.proofs.Files.{length-framed, count_records}
 use Rattle.tx_journal.proofs.Lifts.{files_in, holds_one, holds_two, holds_once}
 
 -- what reported files say about the disks
@@ -69,6 +70,32 @@ holds_live j cursor is_shut room sound works files payloads tells holds = go j.o
           live_of (newest_of j.other) Two j.format j.generation j.end cursor payloads two.0 (ap newest_of is) paired
               (holds_once paired.payloads payloads (files_in j.is_second_live two.0 (Some two.1)) (holds_two j.format j.generation j.end cursor two.0 j.is_second_live is_shut j.staged two.1 paired (sound.waits works side is two.1 two.3)) (subst (Holds payloads) two.4 holds)),
         )
+
+newest_two : (other : Option Side) → is_alone other ≡ false → newest_of other ≡ Two
+newest_two None paired = absurd (let e : true ≡ false = paired in cc)
+newest_two (Some side) paired = refl
+
+-- the Generation of a pair is the first payload that it holds
+pub holds_first : (j : JournalState) (cursor : Cursor) (is_shut : Bool) (room : ℕ) (sound : IsSound j cursor is_shut room) (works : j.is_broken ≡ false) → is_alone j.other ≡ false → (files : Files) (payloads : List (List ℕ))
+    → tell_sides (first_of j.is_second_live j.live j.other) (second_of j.is_second_live j.live j.other) ≡ Some files → Holds payloads files
+    → j.generation ≡ first_generation payloads
+holds_first j cursor is_shut room sound works paired files payloads tells holds =
+    let live = holds_live j cursor is_shut room sound works files payloads tells holds in
+    sym (live.2.numbered (newest_two j.other paired))
+
+length-records : (payloads : List (List ℕ)) → 9 + length (records payloads) ≡ file_length payloads
+length-records [] = refl
+length-records (payload ∷ payloads) = omega (arith, length-records payloads, length-append (framed payload) (records payloads), length-framed payload)
+
+-- the end of a file is where its payloads end
+pub ends_at : (newest format : Format) (payloads : List (List ℕ)) (end : ℕ) (bytes : List ℕ) → IsAtRest newest format payloads end bytes → end ≡ file_length payloads
+ends_at newest format payloads end bytes rest = omega (arith, rest.end_is, length-records payloads)
+
+-- so it is with a journal
+pub measured : (j : JournalState) (cursor : Cursor) (is_shut : Bool) (room : ℕ) (sound : IsSound j cursor is_shut room) → IsMeasured j
+measured j cursor is_shut room sound works files tells payloads holds =
+    let live = holds_live j cursor is_shut room sound works files payloads tells holds in
+    ends_at (newest_of j.other) j.format payloads j.end live.0.bytes live.2.settled.file
 
 -- the rows of payloads
 not_generation : (payload : List ℕ) → generation_in payload ≡ None → is_generation payload ≡ false

@@ -6,7 +6,7 @@ use Rattle.tx_journal.specs.declared.error.JournalError.{JournalError}
 use Rattle.tx_journal.specs.declared.error.JournalError.TheVariants.{DiskFault, Damaged, TooLong, Full, Reopen, NotStarted, OneDisk, Spent, OutOfMemory}
 use Rattle.tx_journal.specs.declared.format.Format.{Format}
 use Rattle.tx_journal.specs.declared.format.Format.TheVariants.{One, Two}
-use Rattle.tx_journal.specs.File.{longest, most_bytes, is_made, opened, file_payloads, IsEmptyOrUnmade}
+use Rattle.tx_journal.specs.File.{longest, most_bytes, is_made, opened, file_length, file_payloads, IsEmptyOrUnmade}
 use Rattle.tx_journal.specs.Journal.{Rises}
 use Rattle.tx_journal.specs.Pair.{Files, generation_row, generation_in, without_generation, file_generation, number, live_file, read_payloads, SinceOpened, Holds, IsJust, IsEither}
 
@@ -320,3 +320,12 @@ MakesFormat format create before j = (files : Files) → before ≡ Some files �
 -- a journal that was just opened
 abbrev pub IsOpened : JournalState → Type 0
 IsOpened j = (j.is_broken ≡ false) × (j.staged ≡ None)
+
+-- a journal that has met no fault ends where a file of the payloads that it holds does
+abbrev pub IsMeasured : JournalState → Type 0
+IsMeasured j = j.is_broken ≡ false → (files : Files) → told j ≡ Some files → (payloads : List (List ℕ)) → Holds payloads files → j.end ≡ file_length payloads
+
+-- this disk's count of faults has not fallen since it was the number
+abbrev pub KeepsCount : ℕ → Option Side → Type 0
+KeepsCount before None = Unit {0}
+KeepsCount before (Some side) = before ≤ side.faults

@@ -30,6 +30,11 @@ records (payload ∷ payloads) = 1 ∷ framed payload ++ records payloads
 abbrev pub spelled : Format → List (List ℕ) → List ℕ
 spelled format payloads = head format ++ records payloads
 
+-- how long a file of these payloads is, up to and with the closed gate behind the last one
+abbrev pub file_length : List (List ℕ) → ℕ
+file_length [] = 9
+file_length (payload ∷ payloads) = file_length payloads + 5 + length payload
+
 -- the most bytes of a payload
 abbrev pub longest : ℕ
 longest = 5242880

@@ -2,9 +2,9 @@
 ghost use Rattle.std.specs.Prelude.{◌≡◌, ◌<◌, ◌≤◌, ℕ, List, length, take, drop, true, false, ◌||◌, IsErrOf, OnOk, IfOk, IfErr, IfSome, IfNone, Some, None, option_map};
 ghost use Rattle.disk_model.specs.Disk.{DiskState, Tells};
 ghost use Rattle.tx_journal.specs.File.{name};
-ghost use Rattle.tx_journal.specs.Pair.{Files, Holds};
+ghost use Rattle.tx_journal.specs.Pair.{Files, Holds, first_generation};
 ghost use Rattle.tx_journal.specs.Journal.{IsOpenError, Rises, Replays, Costs, is_fault};
-ghost use Rattle.tx_journal.specs.Calls.{Side, JournalState, told, tell_one, first_side, second_side, append_refusal, Appends, Commits, Committed, rows_in, IsOpened, OpensFiles, RefusesFiles, KeepsFiles};
+ghost use Rattle.tx_journal.specs.Calls.{Side, JournalState, told, tell_one, first_side, second_side, append_refusal, Appends, Commits, Committed, rows_in, is_alone, IsMeasured, IsOpened, OpensFiles, RefusesFiles, KeepsFiles};
 
 use crate::error::JournalError;
 use crate::find::{Cursor, FIRST, find, place_of, start_at};
@@ -67,6 +67,7 @@ impl<D: Disk> Journal<D> {
         ensures crash { IfOk result (λ j. Tells (KeepsFiles create) (tell_one (D.told disk)) (told j)) }
         ensures crash_refused { IfErr result (λ r. Tells (KeepsFiles create) (tell_one (D.told disk)) (tell_one (D.told r.1))) }
         ensures cause { IfErr result (λ r. r.0 ≡ JournalError.DiskFault → Rises (D.disk_faults disk) (D.disk_faults r.1)) }
+        ensures count { IfOk result (λ j. D.disk_faults disk ≤ j.live.faults) }
     {
         let mut disk = disk;
         let Ok(buffer) = zeros(alloc, ROOM) else {
@@ -148,7 +149,8 @@ impl<D: Disk> Journal<D> {
 
     /// The length of the live file in bytes, up to and with the closed gate behind its last record.
     pub fn len(&self) -> u64
-        ensures { result ≡ self.now.end }
+        ensures end { result ≡ self.now.end }
+        ensures measured { IsMeasured self.now }
     {
         self.end
     }
@@ -163,6 +165,14 @@ impl<D: Disk> Journal<D> {
             Format::One => 1,
             Format::Two => 2,
         }
+    }
+
+    /// The number of the live file's Generation, if it has one.
+    pub fn generation(&self) -> Option<u64>
+        ensures number { result ≡ self.now.generation }
+        ensures first { self.now.is_broken ≡ false → is_alone self.now.other ≡ false → (files : Files) → told self.now ≡ Some files → (payloads : List (List ℕ)) → Holds payloads files → result ≡ first_generation payloads }
+    {
+        self.generation
     }
 
     /// Whether a call met a disk fault, so that the journal must be opened again.

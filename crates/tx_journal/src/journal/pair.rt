@@ -1,10 +1,10 @@
 // Opening a journal of two disks.
-ghost use Rattle.std.specs.Prelude.{◌≡◌, ◌⊎◌, false, Some, IfOk, IfErr};
+ghost use Rattle.std.specs.Prelude.{◌≡◌, ◌≤◌, ◌⊎◌, false, Some, IfOk, IfErr};
 ghost use Rattle.disk_model.specs.Disk.{Tells};
 ghost use Rattle.tx_journal.specs.Pair.{Files};
 ghost use Rattle.tx_journal.specs.Journal.{IsOpenError, Rises};
 ghost use Rattle.tx_journal.specs.declared.format.Format.TheVariants.{Two};
-ghost use Rattle.tx_journal.specs.Calls.{told, tell_both, is_alone, IsOpened, IsNumbered, MakesFormat, OpensFiles, RefusesFiles, KeepsFiles};
+ghost use Rattle.tx_journal.specs.Calls.{told, tell_both, first_side, second_side, is_alone, KeepsCount, IsOpened, IsNumbered, MakesFormat, OpensFiles, RefusesFiles, KeepsFiles};
 
 use super::{Journal, ROOM, zeros};
 use crate::error::JournalError;
@@ -30,6 +30,8 @@ impl<D: Disk> Journal<D> {
         ensures crash { IfOk result (λ j. Tells (KeepsFiles create) (tell_both (D.told first) (D.told second)) (told j)) }
         ensures crash_refused { IfErr result (λ r. Tells (KeepsFiles create) (tell_both (D.told first) (D.told second)) (tell_both (D.told r.1) (D.told r.2))) }
         ensures cause { IfErr result (λ r. r.0 ≡ JournalError.DiskFault → Rises (D.disk_faults first) (D.disk_faults r.1) ⊎ Rises (D.disk_faults second) (D.disk_faults r.2)) }
+        ensures count_first { IfOk result (λ j. D.disk_faults first ≤ (first_side j).faults) }
+        ensures count_second { IfOk result (λ j. KeepsCount (D.disk_faults second) (second_side j)) }
     {
         let (mut first, mut second) = (first, second);
         let Ok(buffer) = zeros(alloc, ROOM) else {

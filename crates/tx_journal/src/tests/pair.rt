@@ -1,5 +1,5 @@
 // Journals of two disks.
-use super::{CHOICES, ONE, count, open_one, refused};
+use super::{CHOICES, ONE, count, is_err, open_one, refused};
 use crate::{Journal, JournalError};
 use disk_model::MemDisk;
 use std::alloc::Global;
@@ -41,17 +41,23 @@ fn compact_all(journal: &mut Journal<MemDisk>) -> Result<(), JournalError> {
     journal.compact()
 }
 
+// Whether a row and the end of a compaction are refused, since none is under way.
+fn is_idle(journal: &mut Journal<MemDisk>) -> bool {
+    let added = is_err(journal.compact_add(b"x"), JournalError::NotStarted);
+    let ended = is_err(journal.compact(), JournalError::NotStarted);
+    added && ended
+}
+
 #[test]
 fn compact_before_start_is_refused(rt: HostRuntime) -> Result<(), Fail> {
     let mut journal = two_payloads(rt.alloc(), &[])?;
-    assert_eq!(rt; journal.compact(), Err(JournalError::NotStarted));
-    assert_eq!(rt; journal.compact_add(b"x"), Err(JournalError::NotStarted));
-    assert_eq!(rt; copy_rows(&mut journal), Ok(()));
-    assert_eq!(rt; journal.append(b"more"), Ok(()));
-    assert_eq!(rt; journal.compact(), Err(JournalError::NotStarted));
+    assert!(rt; is_idle(&mut journal));
+    assert!(rt; copy_rows(&mut journal).is_ok());
+    assert!(rt; journal.append(b"more").is_ok());
+    assert!(rt; is_idle(&mut journal));
     let mut alone = open_one(rt.alloc(), ONE, &[])?;
-    assert_eq!(rt; alone.compact(), Err(JournalError::NotStarted));
-    assert_eq!(rt; alone.compact_start(), Err(JournalError::OneDisk));
+    assert!(rt; is_idle(&mut alone));
+    assert!(rt; is_err(alone.compact_start(), JournalError::OneDisk));
     assert!(rt; alone.second().is_none());
     Ok(())
 }
@@ -61,25 +67,31 @@ const COMPACTED: &[u8] = b"\x01ACTJRN2\
 \x01\0\0\0\x01x\
 \x01\0\0\0\x02yz\0";
 
+// Whether the second file has the bytes of a compaction, and the journal goes on with it.
+fn has_compacted(alloc: Global, journal: &mut Journal<MemDisk>) -> Result<bool, Fail> {
+    let Some(second) = journal.second() else {
+        return Ok(false);
+    };
+    if second.bytes() != COMPACTED || journal.len() != COMPACTED.len() as u64 {
+        return Ok(false);
+    }
+    let Ok(Some(row)) = journal.replay(alloc, 1) else {
+        return Ok(false);
+    };
+    Ok(row.as_slice() == b"yz".as_slice() && count(alloc, journal)? == 2)
+}
+
 #[test]
 fn compaction_writes_generation_and_rows(rt: HostRuntime) -> Result<(), Fail> {
     let mut journal = two_payloads(rt.alloc(), &[])?;
-    assert_eq!(rt; journal.format(), 2);
-    assert_eq!(rt; compact_all(&mut journal), Ok(()));
-    let Some(second) = journal.second() else {
-        return Err(refused());
-    };
-    assert_eq!(rt; second.bytes(), COMPACTED);
-    assert_eq!(rt; journal.len(), COMPACTED.len() as u64);
-    assert_eq!(rt; count(rt.alloc(), &mut journal)?, 2);
-    let Ok(Some(row)) = journal.replay(rt.alloc(), 1) else {
-        return Err(refused());
-    };
-    assert_eq!(rt; row.as_slice(), b"yz".as_slice());
+    assert!(rt; journal.format() == 2);
+    assert!(rt; compact_all(&mut journal).is_ok());
+    assert!(rt; has_compacted(rt.alloc(), &mut journal)?);
     // The next compaction goes into the first file, with the number 2.
-    assert_eq!(rt; compact_all(&mut journal), Ok(()));
-    assert_eq!(rt; journal.disk().bytes().get(29), Some(&2));
-    assert_eq!(rt; count(rt.alloc(), &mut journal)?, 2);
+    assert!(rt; compact_all(&mut journal).is_ok());
+    assert!(rt; journal.generation() == Some(2));
+    assert!(rt; journal.disk().bytes().get(29) == Some(&2));
+    assert!(rt; count(rt.alloc(), &mut journal)? == 2);
     Ok(())
 }
 
@@ -102,8 +114,7 @@ fn stopped_compaction_keeps_contents(rt: HostRuntime) -> Result<(), Fail> {
     // Calls 5 to 13 of the second disk are the compaction's.
     for stop in 5..15 {
         let mut journal = two_payloads(rt.alloc(), &[stop])?;
-        let answer = compact_all(&mut journal);
-        assert_eq!(rt; answer.is_ok(), stop == 14);
+        assert!(rt; compact_all(&mut journal).is_ok() == (stop == 14));
         assert!(rt; open_with_two(rt.alloc(), journal)?, "stopped at {stop}");
     }
     Ok(())
@@ -114,9 +125,8 @@ fn abandoned_compaction_is_started_again(rt: HostRuntime) -> Result<(), Fail> {
     // The second start finds a closed gate and writes only behind it: calls 11 to 17.
     for stop in 11..19 {
         let mut journal = two_payloads(rt.alloc(), &[stop])?;
-        assert_eq!(rt; copy_rows(&mut journal), Ok(()));
-        let answer = compact_all(&mut journal);
-        assert_eq!(rt; answer.is_ok(), stop == 18);
+        assert!(rt; copy_rows(&mut journal).is_ok());
+        assert!(rt; compact_all(&mut journal).is_ok() == (stop == 18));
         assert!(rt; open_with_two(rt.alloc(), journal)?, "stopped at {stop}");
     }
     Ok(())
@@ -126,16 +136,11 @@ fn abandoned_compaction_is_started_again(rt: HostRuntime) -> Result<(), Fail> {
 fn too_long_row_gives_compaction_up(rt: HostRuntime) -> Result<(), Fail> {
     let mut journal = two_payloads(rt.alloc(), &[])?;
     let long = vec![in rt.alloc(); 7u8; 5_242_881]?;
-    assert_eq!(rt; copy_rows(&mut journal), Ok(()));
-    assert_eq!(rt;
-        journal.compact_add(long.as_slice()),
-        Err(JournalError::TooLong { n: 5_242_881 })
-    );
-    assert_eq!(rt; journal.compact(), Err(JournalError::NotStarted));
-    assert_eq!(rt;
-        journal.append(long.as_slice()),
-        Err(JournalError::TooLong { n: 5_242_881 })
-    );
-    assert_eq!(rt; count(rt.alloc(), &mut journal)?, 2);
+    let too_long = JournalError::TooLong { n: 5_242_881 };
+    assert!(rt; copy_rows(&mut journal).is_ok());
+    assert!(rt; is_err(journal.compact_add(long.as_slice()), too_long));
+    assert!(rt; is_idle(&mut journal));
+    assert!(rt; is_err(journal.append(long.as_slice()), too_long));
+    assert!(rt; count(rt.alloc(), &mut journal)? == 2);
     Ok(())
 }
