@@ -4,3 +4,4 @@ mod Sizes
 mod Firings
 mod Preparing
 mod Examples
+pub mod RowOrders

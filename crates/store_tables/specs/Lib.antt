@@ -1,5 +1,8 @@
 pub mod Dues
 pub mod Tables
+pub mod Rows
+pub mod Restored
+pub mod Ordered
 pub mod Contents
 pub mod Prepared
 pub mod Runs

@@ -11,10 +11,12 @@ mod dues;
 mod law;
 mod moments;
 mod prepared;
+mod row;
 mod tables;
 
 pub use law::outcome_law;
 pub use prepared::PreparedCommand;
+pub use row::{LaneNumbers, RowKey, TableRow};
 pub use tables::StoreTables;
 
 #[cfg(test)]

@@ -19,6 +19,8 @@ use state_rows::StateRows;
 use std::alloc::Global;
 use std::marker::Model;
 
+mod snapshot;
+
 /// What the store contains: the nodes with their boots and lanes, the state and the reminders of actors. Contracts see
 /// these tables, and for how many stamps and reminders there is memory already.
 #[derive(Drop)]
