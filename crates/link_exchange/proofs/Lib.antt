@@ -1,0 +1,2 @@
+pub mod Diallings
+pub mod Replied

@@ -1,0 +1,35 @@
+// The links of a sidecar.
+ghost use Rattle.std.specs.Prelude.{◌≡◌};
+
+use actor_names::Address;
+use actor_ports::Dial;
+
+/// What a sidecar calls: its application, other sidecars and the store. The count of faults of each is that of its
+/// dialler. A call that is lent these gives back each link that it dialled.
+#[derive(Drop)]
+pub struct Links<L: Dial> {
+    pub app: L,
+    pub peers: L,
+    pub store: L,
+    pub app_at: Address,
+    pub store_at: Address,
+}
+
+impl<L: Dial> Links<L> {
+    /// These diallers and addresses. It takes no memory.
+    pub fn new(app: L, peers: L, store: L, app_at: Address, store_at: Address) -> Links<L>
+        ensures app { result.app ≡ app }
+        ensures peers { result.peers ≡ peers }
+        ensures store { result.store ≡ store }
+        ensures app_at { result.app_at ≡ app_at }
+        ensures store_at { result.store_at ≡ store_at }
+    {
+        Links {
+            app,
+            peers,
+            store,
+            app_at,
+            store_at,
+        }
+    }
+}
