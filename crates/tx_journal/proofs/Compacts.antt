@@ -1,6 +1,8 @@
 -- A compaction: the other file step by step, and the turn.
 use Rattle.std.proofs.Common.{◌≡◌, inl, inr, ℕ, ◌+◌, ◌<◌, ◌≤◌, ◌^◌, Bool, true, false, List, [], ◌∷◌, ◌++◌, length, Option, Some, None, Ok, refl, sym, ◌∙◌, ap, subst, arith}
-use Rattle.std.specs.Prelude.{not, unwrap_or}
+use Rattle.std.specs.Prelude.{not, unwrap_or, is_err, Result, Err}
+use Rattle.actor_ports.specs.declared.port.PortError.{PortError}
+use Rattle.actor_ports.specs.Port.{HasCause}
 use Rattle.std.proofs.lemmas.Nat.{from_be_bytes-to_be_bytes_8}
 use Rattle.disk_model.specs.Disk.{DiskState, Tells}
 use Rattle.disk_model.specs.Crash.{Since}
@@ -13,7 +15,7 @@ use Rattle.tx_journal.specs.File.{file_payloads, framed, opened, IsShort}
 use Rattle.tx_journal.specs.Pair.{Files, generation_row, first_generation, file_generation, generation_in, number, SinceOpened, Holds, IsJust, IsEither}
 use Rattle.tx_journal.specs.Journal.{IsAtRest, IsSpelled}
 use Rattle.tx_journal.specs.Compaction.{IsShutFront, IsUnmade, StaysUnmade, IsMadeOrNot, Finishes, IsFinished, MayStart, Begins, HasFirstRow, HasBegunFile, AddsRow}
-use Rattle.tx_journal.specs.Calls.{Side, JournalState, first_of, second_of, tell_sides, next_number, staged_payloads, Keeps, Kept, HasBegun, HasRow, Replaces, Replaced}
+use Rattle.tx_journal.specs.Calls.{Side, JournalState, first_of, second_of, tell_sides, next_number, staged_payloads, OtherKeeps, Keeps, Kept, HasBegun, HasRow, Replaces, Replaced}
 use Rattle.tx_journal.specs.Sound.{margin, Yields, Waits, IsLive, IsSound, newest_of}
 use Rattle.tx_journal.specs.Found.{at_first}
 use Rattle.tx_journal.proofs.Rests.{rest_image, same_payloads}
@@ -26,6 +28,20 @@ use Rattle.tx_journal.proofs.Lifts.{files_in, OtherTells, lift, opens_both, wait
 pub may_start : (s : Bool) (generation : Option ℕ) (is_shut : Bool) (staged : Option ℕ) (d : DiskState) → Waits s generation is_shut staged d → MayStart is_shut d
 may_start s generation true staged d waits = waits.0
 may_start s generation false staged d waits = (waits.0, waits.2)
+
+-- a call of the disk that is done
+pub cause_ok : {T : Type 0} (r : Result T PortError) (before after : ℕ) → is_err r ≡ false → HasCause before after r → before ≤ after
+cause_ok (Ok x) before after done cause = cause
+cause_ok (Err e) before after done cause = absurd (let f : true ≡ false = done in cc)
+
+-- the count of the other disk after it
+pub other_keeps : (old new : Option Side) (a b : Side) → old ≡ Some a → new ≡ Some b → a.faults ≤ b.faults → OtherKeeps old new
+other_keeps None new a b is there le = tt
+other_keeps (Some x) None a b is there le = absurd (let f : None ≡ Some b = there in cc)
+other_keeps (Some x) (Some y) a b is there le =
+    let one : x ≡ a = cc in
+    let two : y ≡ b = cc in
+    omega (arith, le, ap (λ (s : Side). s.faults) one, ap (λ (s : Side). s.faults) two)
 
 pub number_or : (generation : Option ℕ) → unwrap_or generation 0 ≡ number generation
 number_or None = refl

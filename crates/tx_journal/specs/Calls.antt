@@ -74,6 +74,12 @@ OtherRises None new = ⊥
 OtherRises (Some old) None = ⊥
 OtherRises (Some old) (Some new) = Rises old.faults new.faults
 
+-- it has not fallen
+abbrev pub OtherKeeps : Option Side → Option Side → Type 0
+OtherKeeps None new = Unit {0}
+OtherKeeps (Some old) None = ⊥
+OtherKeeps (Some old) (Some new) = old.faults ≤ new.faults
+
 -- there is no second disk
 abbrev pub is_alone : Option Side → Bool
 is_alone None = true

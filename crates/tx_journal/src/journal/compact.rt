@@ -1,7 +1,7 @@
 // Compaction: new rows are written to the file that isn't live, which then becomes the live one.
 ghost use Rattle.std.specs.Prelude.{◌≡◌, ◌+◌, ℕ, OnOk, Some, None};
 ghost use Rattle.disk_model.specs.Disk.{Tells};
-ghost use Rattle.tx_journal.specs.Calls.{JournalState, told, next_number, start_refusal, Starts, Keeps, Kept, HasBegun, add_refusal, given_up, Adds, HasRow, end_refusal, Turns, Replaces, Replaced};
+ghost use Rattle.tx_journal.specs.Calls.{JournalState, told, next_number, start_refusal, Starts, OtherKeeps, Keeps, Kept, HasBegun, add_refusal, given_up, Adds, HasRow, end_refusal, Turns, Replaces, Replaced};
 
 use super::{Journal, LONGEST, MOST_BYTES};
 use crate::compaction::{add, begin, finish};
@@ -22,6 +22,7 @@ impl<D: Disk> Journal<D> {
         ensures taken { start_refusal self.old ≡ None → Starts result self.old self.new }
         ensures crash { Tells Keeps (told self.old) (told self.new) }
         ensures kept { OnOk result (Tells Kept (told self.old) (told self.new)) }
+        ensures count { OnOk result (OtherKeeps self.old.other self.new.other) }
         ensures begun { OnOk result (Tells (HasBegun self.old.is_second_live (next_number self.old.generation)) (told self.old) (told self.new)) }
     {
         if self.is_broken {
@@ -51,6 +52,7 @@ impl<D: Disk> Journal<D> {
         ensures taken { add_refusal self.old payload.now ≡ None → Adds payload.now result self.old self.new }
         ensures crash { Tells Keeps (told self.old) (told self.new) }
         ensures kept { OnOk result (Tells Kept (told self.old) (told self.new)) }
+        ensures count { OnOk result (OtherKeeps self.old.other self.new.other) }
         ensures added { OnOk result (Tells (HasRow self.old.is_second_live payload.now) (told self.old) (told self.new)) }
     {
         if self.is_broken {

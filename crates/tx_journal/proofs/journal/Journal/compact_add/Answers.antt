@@ -3,7 +3,7 @@ use Rattle.std.specs.Prelude.{option_map}
 use Rattle.std.proofs.lemmas.List.{take-take, take-append-le}
 use Rattle.disk_model.proofs.Stages.{ok_from_test, tells_both}
 use Rattle.tx_journal.specs.Calls.{Side}
-use Rattle.tx_journal.proofs.Compacts.{live_two, row_within, row_crash, row_kept, row_added, row_waits}
+use Rattle.tx_journal.proofs.Compacts.{cause_ok, other_keeps, live_two, row_within, row_crash, row_kept, row_added, row_waits}
 use Rattle.tx_journal.proofs.Grows.{waits_on}
 use Rattle.tx_journal.proofs.journal.Journal.compact_add.Goals as goal
 
@@ -76,3 +76,9 @@ invariant_of-self-then-at-size-gt-MOST_BYTES g c = record {
   live = λ works d tells. live_two _ _ _ _ c.self.invariant c.if-self.false (record { told = g.D.Disk.told c.in-Some-other.other; faults = g.D.Disk.disk_faults c.in-Some-other.other }) (record { told = g.D.Disk.told c.in-Some-other.other; faults = g.D.Disk.disk_faults c.in-Some-other.other }) (ap (option_map (λ d. record { told = g.D.Disk.told d; faults = g.D.Disk.disk_faults d })) c.in-Some-other.is) d tells;
   waits = λ works side some d tells. waits_on c.self.inside.is_second_live c.self.inside.generation c.self.inside.generation c.self.inside.is_shut c.self.inside.staged d (omega arith) (c.self.invariant.waits works side ((ap (option_map (λ d. record { told = g.D.Disk.told d; faults = g.D.Disk.disk_faults d })) c.in-Some-other.is) ∙ some) d tells);
 }
+
+pub returns-clause-count : goal.returns-clause-count
+returns-clause-count g c =
+    rw (← c.self.view_is)
+    (other_keeps _ _ (record { told = g.D.Disk.told c.in-Some-other.other; faults = g.D.Disk.disk_faults c.in-Some-other.other }) (record { told = g.D.Disk.told c.add.new.disk; faults = g.D.Disk.disk_faults c.add.new.disk }) (ap (option_map (λ d. record { told = g.D.Disk.told d; faults = g.D.Disk.disk_faults d })) c.in-Some-other.is) refl
+    (cause_ok c.add.result _ _ (sym c.is_err.ensures.value ∙ c.if-is_err.false) c.add.ensures.cause))

@@ -4,7 +4,7 @@ use Rattle.disk_model.specs.Disk.{Tells}
 use Rattle.disk_model.proofs.Stages.{ok_from_test}
 use Rattle.tx_journal.specs.Compaction.{HasBegunFile}
 use Rattle.tx_journal.specs.Calls.{Side, next_number}
-use Rattle.tx_journal.proofs.Compacts.{number_or, may_start, start_crash, live_two, start_kept, start_begun, start_waits}
+use Rattle.tx_journal.proofs.Compacts.{cause_ok, other_keeps, number_or, may_start, start_crash, live_two, start_kept, start_begun, start_waits}
 use Rattle.tx_journal.proofs.journal.Journal.compact_start.Goals as goal
 
 pub begin-requires : goal.begin-requires
@@ -53,3 +53,9 @@ invariant_of-self-2 g c =
           let same : (record { told = g.D.Disk.told c.begin.new.disk; faults = g.D.Disk.disk_faults c.begin.new.disk }) ≡ side = cc in
           start_waits _ _ _ _ c.self.invariant c.if-self.false (record { told = g.D.Disk.told c.in-Some.other; faults = g.D.Disk.disk_faults c.in-Some.other }) (record { told = g.D.Disk.told c.begin.new.disk; faults = g.D.Disk.disk_faults c.begin.new.disk }) (ap (option_map (λ d. record { told = g.D.Disk.told d; faults = g.D.Disk.disk_faults d })) c.in-Some.is) done d (ap (λ (x : Side). x.told) same ∙ tells);
     }
+
+pub returns-clause-count : goal.returns-clause-count
+returns-clause-count g c =
+    rw (← c.self.view_is)
+    (other_keeps _ _ (record { told = g.D.Disk.told c.in-Some.other; faults = g.D.Disk.disk_faults c.in-Some.other }) (record { told = g.D.Disk.told c.begin.new.disk; faults = g.D.Disk.disk_faults c.begin.new.disk }) (ap (option_map (λ d. record { told = g.D.Disk.told d; faults = g.D.Disk.disk_faults d })) c.in-Some.is) refl
+    (cause_ok c.begin.result _ _ (sym c.is_err.ensures.value ∙ c.if-is_err.false) c.begin.ensures.cause))
