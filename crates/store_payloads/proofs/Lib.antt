@@ -1,0 +1,12 @@
+mod Examples
+pub mod Acts
+pub mod Written
+pub mod RowLaws
+pub mod Readings
+pub mod ReadFits
+pub mod Fitting
+pub mod Snapshots
+pub mod Keeping
+pub mod Outcomes
+pub mod Answering
+pub mod Telling

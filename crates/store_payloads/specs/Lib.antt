@@ -1,0 +1,6 @@
+pub mod Fields
+pub mod Payloads
+pub mod Folds
+pub mod Fits
+pub mod Gives
+pub mod Laws
