@@ -66,7 +66,7 @@ full_stays : (j k : ℕ) (s t : Seats) (b : PartSeat) → j ≢ k → part_seats
 full_stays j k s t b other is h =
     subst (λ (x : Option PartSeat). IsSomeAnd x (λ seat. length (seen_of seat) ≡ 2 ^ 62)) (sym (ap (λ (xs : List PartSeat). slice_get xs j) is ∙ get_set_other (part_seats s) j k b other)) h
 
-spent_stays : (j k : ℕ) (said : Said) (s t : Seats) (b : PartSeat) → j ≢ k → part_seats t ≡ slice_set (part_seats s) k b → SpentAt j said s → SpentAt j said t
+pub spent_stays : (j k : ℕ) (said : Said) (s t : Seats) (b : PartSeat) → j ≢ k → part_seats t ≡ slice_set (part_seats s) k b → SpentAt j said s → SpentAt j said t
 spent_stays j k (Ok reply) s t b other is h = tt
 spent_stays j k (Err e) s t b other is h = (h.0, full_stays j k s t b other is h.1)
 

@@ -42,7 +42,16 @@ book_entries k (OnBook book e ∷ es) = if book == k then e ∷ book_entries k e
 abbrev pub at_part : ℕ → List PartEntry → List NodeEntry
 at_part part es = map (OnPart part) es
 
+-- entries of one book
+abbrev pub at_book : ℕ → List BookEntry → List NodeEntry
+at_book book es = map (OnBook book) es
+
 module _ {E R : Type 0} where
+  -- the entry of one step; none if the gate took none
+  abbrev pub one_entry : E → Result R Spent → List (Entry E R)
+  one_entry event (Ok reply) = record { event = event; reply = reply } ∷ []
+  one_entry event (Err spent) = []
+
   abbrev pub told : Made E R → Entry E R
   told m = record { event = m.entry.event; reply = m.entry.reply }
 

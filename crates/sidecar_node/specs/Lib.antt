@@ -1,4 +1,5 @@
 pub mod Rows
 pub mod Entries
 pub mod Turns
+pub mod Rounds
 pub mod Nodes

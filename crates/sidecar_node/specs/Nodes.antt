@@ -20,8 +20,9 @@ use Rattle.step_gate.specs.Gates.{SeatOf, seen_of}
 use Rattle.sidecar_node.specs.declared.node.SidecarNode.{SidecarNode}
 use Rattle.sidecar_node.specs.declared.node.Seats.{Seats}
 use Rattle.sidecar_node.specs.Rows.{Along, AreSeatsOf, IsNewAt, KeepsLists, StartsFrom, MeetsAt}
-use Rattle.sidecar_node.specs.Entries.{PartEntry, NodeEntry, part_entries, book_entries, at_part, Makes}
+use Rattle.sidecar_node.specs.Entries.{PartEntry, BookEntry, NodeEntry, part_entries, book_entries, at_part, at_book, Makes}
 use Rattle.sidecar_node.specs.Turns.{Said, stop_entries}
+use Rattle.sidecar_node.specs.Rounds.{each_entries}
 
 abbrev pub PartGate : Type 0
 PartGate = Gate PartView PartEvent PartReply
@@ -90,7 +91,19 @@ ActsAt part es before after = Acts (at_part part es) before after
 abbrev pub IsFull : ℕ → Seats → Type 0
 IsFull part seats = IsSomeAnd (slice_get (part_seats seats) part) (λ seat. length (seen_of seat) ≡ 2 ^ 62)
 
+-- the seat of this book made these entries, and no other seat made any
+abbrev pub ActsAtBook : ℕ → List BookEntry → Seats → Seats → Type 0
+ActsAtBook book es before after = Acts (at_book book es) before after
+
+-- the seat of this book has seen 2^62 entries, so its gate takes no more
+abbrev pub IsBookFull : ℕ → Seats → Type 0
+IsBookFull book seats = IsSomeAnd (slice_get (book_seats seats) book) (λ seat. length (seen_of seat) ≡ 2 ^ 62)
+
 -- if the answer is that the gate took no entry, its history has 2^62 entries
+abbrev pub SpentAtBook : ℕ → Result TimerReply Spent → Seats → Type 0
+SpentAtBook book said seats = IfErr said (λ e. (e.count ≡ 2 ^ 62) × IsBookFull book seats)
+
+-- the same of a part
 abbrev pub SpentAt : ℕ → Result PartReply Spent → Seats → Type 0
 SpentAt part said seats = IfErr said (λ e. (e.count ≡ 2 ^ 62) × IsFull part seats)
 
@@ -99,6 +112,12 @@ SpentAt part said seats = IfErr said (λ e. (e.count ≡ 2 ^ 62) × IsFull part 
 pub record StopsAll (parts : ℕ) (saids : List Said) (before after : Seats) : Type 0 where
   pub many : length saids ≡ parts
   pub acts : Acts (stop_entries 0 saids) before after
+  pub full : (k : ℕ) (said : Said) → slice_get saids k ≡ Some said → SpentAt k said after
+
+-- The first parts were given this event, in order, and these are the answers. A part whose answer isn't a reply has a
+-- gate that takes no more.
+pub record GivesEach (event : PartEvent) (saids : List Said) (before after : Seats) : Type 0 where
+  pub acts : Acts (each_entries 0 event saids) before after
   pub full : (k : ℕ) (said : Said) → slice_get saids k ≡ Some said → SpentAt k said after
 
 -- no seat made an entry, and each has seen as much as before

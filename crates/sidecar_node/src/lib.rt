@@ -9,12 +9,14 @@
 mod calls;
 mod making;
 mod node;
+mod rounds;
 mod rows;
 mod seating;
 mod stopping;
 mod turns;
 
 pub use node::{Seats, SidecarNode};
+pub use rounds::RoundEvent;
 pub use stopping::stop_turn;
 pub use turns::{begin_turn, end_turn};
 
