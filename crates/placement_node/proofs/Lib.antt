@@ -1,0 +1,13 @@
+pub mod Fits
+pub mod Laws
+pub mod Opens
+pub mod Pushes
+pub mod Reading
+pub mod Restarting
+pub mod Rising
+pub mod Rooms
+pub mod Sent
+pub mod Stands
+pub mod Steps
+pub mod Told
+pub mod Versions

@@ -1,0 +1,9 @@
+pub mod Found
+pub mod Node
+pub mod Openings
+pub mod Ranges
+pub mod Records
+pub mod Replies
+pub mod Runs
+pub mod Trials
+pub mod Writes
