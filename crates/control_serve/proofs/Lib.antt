@@ -1,0 +1,5 @@
+mod Asking
+mod Framed
+mod Looked
+mod StateTurning
+mod StateGoing

@@ -1,0 +1,5 @@
+pub mod Laws
+pub mod Placements
+pub mod StateTexts
+pub mod StateTurns
+pub mod StateSessions

@@ -1,0 +1,6 @@
+mod Counting
+mod Replying
+mod Rounding
+mod Between
+mod Turning
+mod Fetching

@@ -1,0 +1,4 @@
+pub mod Counting
+pub mod Rounds
+pub mod Turns
+pub mod Sessions
