@@ -1,0 +1,16 @@
+mod Claims
+mod Foldings
+mod Steps
+mod Appends
+mod Openings
+mod Opened
+mod Accepted
+mod Running
+mod Onces
+mod Stagings
+mod Adding
+mod Walking
+mod Rowed
+mod Staged
+mod Compacting
+mod Replacing

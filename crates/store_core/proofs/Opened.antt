@@ -1,0 +1,106 @@
+-- An opening that is done, and one that is refused for a payload.
+use Rattle.std.proofs.Common.{◌≡◌, ◌⊎◌, inl, inr, ℕ, ◌≤◌, Bool, true, false, List, Option, Some, None, Ok, refl, sym, ap, subst, ◌∙◌}
+use Rattle.disk_model.specs.Disk.{Tells}
+use Rattle.disk_model.proofs.Stages.{Both, tells_on, tells_map, told_before}
+use Rattle.store_tables.specs.Tables.{Tables, no_tables}
+use Rattle.tx_journal.specs.declared.error.JournalError.{JournalError}
+use Rattle.tx_journal.specs.declared.error.JournalError.TheVariants.{DiskFault, Damaged, TooLong, Full, Reopen, NotStarted, OneDisk, Spent, OutOfMemory}
+use Rattle.tx_journal.specs.Journal.{Rises, IsOpenError}
+use Rattle.tx_journal.specs.Calls.{Side, JournalState, told, tell_both, tell_sides, first_of, second_of, first_side, second_side, is_alone, is_making, FindsIn, OpensFiles, RefusesFiles, KeepsCount}
+use Rattle.tx_journal.specs.Pair.{Files, IsJust, read_payloads}
+use Rattle.store_core.specs.Contents.{contents_of, OpensWith}
+use Rattle.store_core.specs.Opens.{FindsTables, OpensStore, payloads_fault, RefusesStore, IsFolded, IsFoldFault}
+use Rattle.store_core.specs.Store.{IsConsistent}
+use Rattle.store_core.proofs.Claims.{at_told, leaves_weaker}
+use Rattle.store_core.proofs.Openings.{rises_from}
+
+finds : (making : Bool) (old : Files) (payloads : List (List ℕ)) (t : Tables) → FindsIn making old payloads → contents_of payloads ≡ Some t → FindsTables making old t
+finds true old payloads t none is = let e : Some no_tables ≡ Some t = ap contents_of (sym none) ∙ is in cc
+finds false old payloads t reads is = (payloads, reads, is)
+
+-- the payloads that the opened files hold lead to these tables
+pub opens-store : (create : Bool) (old new : Files) (j : JournalState) (t : Tables) → told j ≡ Some new → IsFolded t j → OpensFiles create old new → OpensStore create t old new
+opens-store create old new j t tells folded opens =
+    let is : contents_of opens.0 ≡ Some t = folded new tells opens.0 opens.2 in
+    (finds (is_making create old.first old.second) old opens.0 t opens.1 is, leaves_weaker (IsJust opens.0) (OpensWith t) new (λ r e. (opens.0, e, is)) opens.2.leaves)
+
+-- a file that is made has no payload, and so no fault
+faulted : (making : Bool) (old : Files) (payloads : List (List ℕ)) (offset : ℕ) → FindsIn making old payloads → payloads_fault payloads ≡ Some offset → (making ≡ false) × (payloads : List (List ℕ)) × (read_payloads old ≡ Ok payloads) × (payloads_fault payloads ≡ Some offset)
+faulted true old payloads offset none is = absurd (let e : None ≡ Some offset = ap payloads_fault (sym none) ∙ is in cc)
+faulted false old payloads offset reads is = (refl, payloads, reads, is)
+
+pub refuses-store : (create : Bool) (old new : Files) (j : JournalState) (e : JournalError) → told j ≡ Some new → IsFoldFault e j → OpensFiles create old new → RefusesStore create e old
+refuses-store create old new j (Damaged offset) tells fault opens = inr (faulted (is_making create old.first old.second) old opens.0 offset opens.1 (fault new tells opens.0 opens.2))
+refuses-store create old new j DiskFault tells fault opens = tt
+refuses-store create old new j OutOfMemory tells fault opens = tt
+refuses-store create old new j (TooLong n) tells fault opens = absurd fault
+refuses-store create old new j (Full len) tells fault opens = absurd fault
+refuses-store create old new j Reopen tells fault opens = absurd fault
+refuses-store create old new j NotStarted tells fault opens = absurd fault
+refuses-store create old new j OneDisk tells fault opens = absurd fault
+refuses-store create old new j (Spent count) tells fault opens = absurd fault
+
+-- ---- the same of what the disks report
+
+module _ (create : Bool) (before : Option Files) (j : JournalState) (opens : Tells (OpensFiles create) before (told j)) where
+  pub opened_tells : (t : Tables) (k : JournalState) → told k ≡ told j → IsFolded t j → Tells (OpensStore create t) before (told k)
+  opened_tells t k same folded =
+      subst (Tells (OpensStore create t) before) (sym same)
+      (tells_map (Both (OpensFiles create) (λ f g. told j ≡ Some g)) (OpensStore create t) before (told j)
+      (λ f g both. opens-store create f g j t both.1 folded both.0)
+      (at_told (OpensFiles create) before (told j) opens))
+
+  pub opened_consistent : (t : Tables) (k : JournalState) → told k ≡ told j → IsFolded t j → IsConsistent k t
+  opened_consistent t k same folded works files is =
+      let here : told j ≡ Some files = sym same ∙ is in
+      let from = told_before (OpensFiles create) before (told j) files opens here in
+      let held = from.2 in
+      (held.0, held.2, folded files here held.0 held.2)
+
+  pub refused_tells : (e : JournalError) → IsFoldFault e j → (files : Files) → before ≡ Some files → RefusesStore create e files
+  refused_tells e fault files is =
+      let on = tells_on (OpensFiles create) before (told j) files opens is in
+      refuses-store create files on.0 j e on.1 fault on.2
+
+-- the journal's own refusal
+pub as_store : (create : Bool) (e : JournalError) (files : Files) → RefusesFiles create e files → RefusesStore create e files
+as_store create (Damaged offset) files is = inl is
+as_store create DiskFault files is = is
+as_store create OutOfMemory files is = is
+as_store create (TooLong n) files is = is
+as_store create (Full len) files is = is
+as_store create Reopen files is = is
+as_store create NotStarted files is = is
+as_store create OneDisk files is = is
+as_store create (Spent count) files is = is
+
+pub open_error : (e : JournalError) (j : JournalState) → IsFoldFault e j → IsOpenError e
+open_error (Damaged offset) j fault = tt
+open_error DiskFault j fault = tt
+open_error OutOfMemory j fault = tt
+open_error (TooLong n) j fault = fault
+open_error (Full len) j fault = absurd fault
+open_error Reopen j fault = fault
+open_error NotStarted j fault = fault
+open_error OneDisk j fault = fault
+open_error (Spent count) j fault = fault
+
+-- ---- the disks that are handed back
+
+pub has_second : (s : Bool) (live : Side) (other : Option Side) → is_alone other ≡ false → second_of s live other ≡ None → ⊥
+has_second s live None paired none = let e : true ≡ false = paired in cc
+has_second true live (Some x) paired none = let e : Some live ≡ None = none in cc
+has_second false live (Some x) paired none = let e : Some x ≡ None = none in cc
+
+pub told_closed : (k : JournalState) (a b : Side) → a ≡ first_side k → Some b ≡ second_side k → told k ≡ tell_both a.told b.told
+told_closed k a b one two = ap (λ (x : Side). tell_sides x (second_side k)) (sym one) ∙ ap (tell_sides a) (sym two)
+
+-- a fault in the live file is one of the first disk or of the second
+pub risen : (s : Bool) (live new : Side) (other : Option Side) (first second : ℕ) (a b : Side) → is_alone other ≡ false → first ≤ (first_of s live other).faults → KeepsCount second (second_of s live other) → Rises live.faults new.faults
+    → a ≡ first_of s new other → Some b ≡ second_of s new other → Rises first a.faults ⊎ Rises second b.faults
+risen s live new None first second a b paired one two rises is also = absurd (let e : true ≡ false = paired in cc)
+risen true live new (Some x) first second a b paired one two rises is also =
+    let same : new ≡ b = cc in
+    inr (subst (λ (y : Side). Rises second y.faults) same (rises_from second live.faults new.faults two rises))
+risen false live new (Some x) first second a b paired one two rises is also =
+    inl (subst (λ (y : Side). Rises first y.faults) (sym is) (rises_from first live.faults new.faults one rises))

@@ -1,0 +1,43 @@
+use Rattle.std.proofs.Common.{sym, subst}
+use Rattle.std.specs.Option.{option_copied}
+use Rattle.std.proofs.lemmas.Result.{err_from_is_err_and}
+use Rattle.state_rows.specs.Entries.{row_cmp}
+use Rattle.state_rows.specs.Orders.{rows_total}
+use Rattle.store_payloads.specs.Fields.{state_fields}
+use Rattle.store_payloads.specs.Fits.{Each}
+use Rattle.store_core.proofs.Rowed.{state_payloads, states_are, each_at}
+use Rattle.store_core.proofs.Stagings.{stopped}
+use Rattle.store_core.proofs.Adding.{may_staged}
+use Rattle.store_core.proofs.Walking.{walked_none, walked_all, walked_more, walked_miss, rest, here}
+use Rattle.store_core.proofs.staging.add_entries.Goals as goal
+
+pub loop-count-init : goal.loop-count-init
+loop-count-init g c = walked_none row_cmp rows_total c.args.tables.now.tables (state_payloads c.args.now) (states_are c.args.now) c.args.tables.now.tables.rows c.order_law.ensures.rows c.args.journal.now c.requires.may c.requires.consistent
+
+pub returns-in_default-clause-adds : goal.returns-in_default-clause-adds
+returns-in_default-clause-adds g c = walked_all row_cmp rows_total c.args.tables.now.tables (state_payloads c.args.now) (states_are c.args.now) c.args.tables.now.tables.rows c.order_law.ensures.rows (option_copied c.loop-count.place) c.loop-count.count c.args.journal.now c.loop-count.journal (sym c.in_default.ensures) c.loop-count.invariant
+
+pub returns-in_default-clause-may : goal.returns-in_default-clause-may
+returns-in_default-clause-may g c = may_staged c.args.tables.now.tables _ c.args.journal.now c.loop-count.journal c.requires.may c.loop-count.invariant.staged
+
+pub add_entry-requires-clause-may : goal.add_entry-requires-clause-may
+add_entry-requires-clause-may g c = may_staged c.args.tables.now.tables _ c.args.journal.now c.loop-count.journal c.requires.may c.loop-count.invariant.staged
+
+pub add_entry-requires-clause-fits : goal.add_entry-requires-clause-fits
+add_entry-requires-clause-fits g c =
+    each_at state_fields.Fits c.loop-count.invariant.front c.in-Some.row.now (rest row_cmp rows_total c.args.tables.now.tables (state_payloads c.args.now) (states_are c.args.now) c.args.tables.now.tables.rows c.order_law.ensures.rows (option_copied c.loop-count.place) c.loop-count.count c.in-Some.row.now c.args.journal.now c.loop-count.journal c.requires.may.paired (sym c.in-Some.ensures) c.loop-count.invariant).0 (subst (Each state_fields.Fits) (here row_cmp rows_total c.args.tables.now.tables (state_payloads c.args.now) (states_are c.args.now) c.args.tables.now.tables.rows c.order_law.ensures.rows (option_copied c.loop-count.place) c.loop-count.count c.in-Some.row.now c.args.journal.now c.loop-count.journal c.requires.may.paired (sym c.in-Some.ensures) c.loop-count.invariant) c.requires.fits.states)
+
+pub returns-in_err-add_entry-clause-adds : goal.returns-in_err-add_entry-clause-adds
+returns-in_err-add_entry-clause-adds g c =
+    let p = err_from_is_err_and c.from_residual.result c.from_residual.ensures.1 in
+    rw (p.1, p.2)
+    (walked_miss row_cmp rows_total c.args.tables.now.tables (state_payloads c.args.now) (states_are c.args.now) c.args.tables.now.tables.rows c.order_law.ensures.rows (option_copied c.loop-count.place) c.loop-count.count c.in-Some.row.now c.args.journal.now c.loop-count.journal c.requires.may.paired (sym c.in-Some.ensures) c.loop-count.invariant _ c.add_entry.new.journal (c.in_err-add_entry.ensures.adds c.args.tables.now.tables c.loop-count.invariant.staged.consistent))
+
+pub returns-in_err-add_entry-clause-may : goal.returns-in_err-add_entry-clause-may
+returns-in_err-add_entry-clause-may g c = let p = err_from_is_err_and c.from_residual.result c.from_residual.ensures.1 in rw p.1 tt
+
+pub loop-count-preserved : goal.loop-count-preserved
+loop-count-preserved g c = walked_more row_cmp rows_total c.args.tables.now.tables (state_payloads c.args.now) (states_are c.args.now) c.args.tables.now.tables.rows c.order_law.ensures.rows (option_copied c.loop-count.place) c.loop-count.count c.in-Some.row.now c.args.journal.now c.loop-count.journal c.requires.may.paired (sym c.in-Some.ensures) c.loop-count.invariant c.add_entry.new.journal (c.in_ok-add_entry.ensures.adds c.args.tables.now.tables c.loop-count.invariant.staged.consistent)
+
+pub returns-clause-adds : goal.returns-clause-adds
+returns-clause-adds g c = stopped c.args.tables.now.tables _ c.args.journal.now c.loop-count.journal c.loop-count.journal c.requires.may.paired c.loop-count.invariant.staged

@@ -1,0 +1,15 @@
+// What holds over whole lists of events. The function that states it does nothing.
+ghost use Rattle.store_core.specs.Runs.{KeepsAcknowledged, RisksOneCommand, AcknowledgesOnce};
+
+use store_tables::outcome_law;
+
+/// Over every list of commands and compactions: the contents are what the acknowledged commands alone lead to; a crash
+/// at any moment leaves what was acknowledged, perhaps with the one command under way; and no stamp is acknowledged
+/// twice. Once a fault was met, both stay possible until the store is opened again.
+pub fn store_law()
+    ensures keeps { KeepsAcknowledged }
+    ensures risks { RisksOneCommand }
+    ensures once { AcknowledgesOnce }
+{
+    outcome_law();
+}
