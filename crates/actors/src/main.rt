@@ -1,30 +1,66 @@
-// The program: real input and output, the words of the command line, and the status.
+// The program: the real outside, the words of the command line, and the status.
 //
-// It promises nothing of its own: all that it does is `actors_top::run`. Depends on actors_top and actor_ports.
+// It promises nothing of its own: all that it does is `actors_top::run`. Depends on actors_top,
+// host_ports and actor_ports.
 #![tactic(auto)]
 
-use actor_ports::{ReaderSource, WriterSink};
+use actor_ports::{ReaderSource, SystemClock, TcpDial, WriterSink};
 use actors_top::{Outside, Status, run};
+use host_ports::SystemHost;
+use std::fs::{File, Files};
+use std::net::{Net, TcpListener, TcpStream};
 use std::process::ExitCode;
 use std::rt::Env;
+use std::sync::Wait;
+use std::thread::Threads;
+use std::time::Clock;
 use std::{env, io};
 
+/// How long a dial waits for its answer, in milliseconds.
+const CONNECT_MS: u64 = 5_000;
+
+/// How long a link to another process waits for a byte, in milliseconds.
+const LINK_WAIT_MS: u64 = 10_000;
+
+/// How long a connection to a server waits for a byte, in milliseconds.
+const CONNECTION_WAIT_MS: u64 = 60_000;
+
 fn main(rt: HostRuntime) -> ExitCode {
-    ExitCode::from(status(&rt))
+    ExitCode::from(status(rt))
 }
 
-/// Runs the program over standard input and output. A word that isn't text is a usage error.
-fn status<R: Env + AllocGlobal + Input + Print>(rt: &R) -> u8 {
-    let words = match read_words(rt) {
+/// Runs the program over the standard streams, the system's files, TCP and its clock. A word that isn't text is a usage
+/// error.
+fn status<
+    R: Env
+        + AllocGlobal
+        + Input
+        + Print
+        + Files<File = File>
+        + Net<Listener = TcpListener, Stream = TcpStream>
+        + Clock
+        + Threads
+        + Wait
+        + Sync
+        + Send
+        + Copy
+        + Drop,
+>(rt: R) -> u8 {
+    let words = match read_words(&rt) {
         Ok(words) => words,
         Err(refused) => return refused as u8,
     };
     let Ok(input) = ReaderSource::new(rt.alloc(), rt.reader()) else {
         return Status::OutOfMemory as u8;
     };
-    let output = WriterSink::new(io::writer(rt));
-    let mut outside = Outside { input, output };
-    run(rt.alloc(), words.as_slice(), &mut outside)
+    let mut outside = Outside {
+        input,
+        output: WriterSink::new(io::writer(&rt)),
+        net: TcpDial::new(rt.alloc(), rt, Some(CONNECT_MS), Some(LINK_WAIT_MS)),
+        time: SystemClock::new(rt),
+        host: SystemHost::new(rt.alloc(), rt, Some(CONNECTION_WAIT_MS)),
+    };
+    run(&rt, rt.alloc(), words.as_slice(), &mut outside)
 }
 
 /// The words after the program's name, or the status that the program ends with if they can't be read.

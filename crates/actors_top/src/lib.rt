@@ -1,30 +1,14 @@
-// The top call: the replay of a script, the moments of a schedule, and the status.
+// The top call: what the words of the command line ask for.
 //
-// Promise: `run` does what its words read as. It writes what the script's replay (`specs/Replay`) or the schedule
-// (`specs/Schedule`) is defined to write, ends with its status, and reports a fault or a limit only for its cause. Over
-// every script the headline holds (`specs/Headline`): no actor is active on two members, and the turns of one actor
-// never mix. Depends on command_words, script_text, solo_run, world_run, schedule_text and actor_ports.
+// Promise: `run` does what its words read as. The commands that need no thread are those of `plain_commands`, with their
+// clauses; over every script the headline holds. A server asks its host for nothing but its own path and address, gives
+// back what it was given, and ends for a fault only where the host's count of such faults rose. Depends on
+// `plain_commands`, `placement_command`, `command_words`, `host_ports` and `actor_ports`.
 #![tactic(auto)]
 
-mod cluster_script;
-#[cfg(test)]
-mod cluster_tests;
-mod drill;
-#[cfg(test)]
-mod drill_tests;
-mod line_end;
-mod replay;
-mod schedule;
-#[cfg(test)]
-mod schedule_tests;
-mod script;
-mod setup;
-mod solo_script;
-mod status;
-#[cfg(test)]
-mod tests;
-mod text;
+mod server;
 mod top;
 
-pub use status::Status;
+pub use plain_commands::Status;
+pub use server::ServerStatus;
 pub use top::{Outside, run};

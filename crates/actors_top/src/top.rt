@@ -1,41 +1,82 @@
 // The top call.
-ghost use Rattle.std.specs.Prelude.{◌≡◌, ◌≢◌, ◌<◌, ◌⊎◌, ◌∷◌, [], true, None, Some, map, codes, string_bytes};
-ghost use Rattle.command_words.specs.Reading.{Asking, Schedule, Drilling, Drill, has_options, reading};
-ghost use Rattle.actors_top.specs.Drilled.{DrillEnds, DrillsHonestly};
-ghost use Rattle.actors_top.specs.Status.{code_of};
-ghost use Rattle.actors_top.specs.ReplayTold.{Replays};
-ghost use Rattle.actors_top.specs.Schedule.{schedule_of, ScheduleEnds};
-ghost use Rattle.actors_top.specs.declared.status.Status.{Status};
+ghost use Rattle.std.specs.Prelude.{◌≡◌, ◌≢◌, ◌<◌, ◌≤◌, ◌⊎◌, ◌∷◌, [], true, None, Some, map, codes, string_bytes};
+ghost use Rattle.host_ports.specs.Hosts.{place_of};
+ghost use Rattle.command_words.specs.Reading.{Asking, Schedule, Drilling, Drill, Hosting, Placement, has_options, reading};
+ghost use Rattle.plain_commands.specs.Drilled.{DrillEnds, DrillsHonestly};
+ghost use Rattle.plain_commands.specs.Status.{code_of};
+ghost use Rattle.plain_commands.specs.ReplayTold.{Replays};
+ghost use Rattle.plain_commands.specs.Schedule.{schedule_of, ScheduleEnds};
+ghost use Rattle.plain_commands.specs.declared.status.Status.{Status};
+ghost use Rattle.placement_command.specs.Commands.{AsksOnly};
+ghost use Rattle.actors_top.specs.Server.{TellsServer, server_code};
+ghost use Rattle.actors_top.specs.declared.server.ServerStatus.{ServerStatus};
 
-use crate::drill::drill;
-use crate::replay::replay;
-use crate::schedule::schedule;
-use crate::status::Status;
-use actor_ports::{Sink, Source};
-use command_words::{CommandWords, WordsError, read_words};
+use crate::server::{ServerStatus, tell_damage};
+use actor_ports::{Clock, Dial, Sink, Source};
+use command_words::{CommandWords, PlacementWords, WordsError, read_words};
+use host_ports::Host;
+use placement_command::{PlacementEnd, run_placement};
+use plain_commands::{Status, run_plain};
 use std::alloc::Global;
+use std::sync::Wait;
+use std::thread::Threads;
 
-/// The outside of the program: where its bytes come from and where they go.
+/// The outside of the program.
 #[derive(Drop)]
-pub struct Outside<I, W> {
+pub struct Outside<I, W, N, T, H> {
     /// The source of a script.
     pub input: I,
     /// The sink of what the command prints.
     pub output: W,
+    /// What makes connections.
+    pub net: N,
+    /// What gives the time.
+    pub time: T,
+    /// What opens disks and binds ports.
+    pub host: H,
+}
+
+// Runs the placement's server.
+fn placement<R: Threads + Wait + Sync, I: Source, W: Sink, N: Dial, T: Clock, H: Host>(
+    rt: &R,
+    alloc: Global,
+    words: &PlacementWords<'_>,
+    out: &mut Outside<I, W, N, T, H>,
+) -> ServerStatus
+    ensures asks { AsksOnly words.now.journal.now (place_of words.now.listen) (H.asked out.old.host) (H.asked out.new.host) }
+    ensures tells { TellsServer result (W.contents out.old.output) (W.contents out.new.output) }
+    ensures unread { out.new.input ≡ out.old.input }
+    ensures sink { result ≡ ServerStatus.SinkFault → W.write_faults out.old.output < W.write_faults out.new.output }
+    ensures disk { result ≡ ServerStatus.DiskFault → H.open_faults out.old.host < H.open_faults out.new.host }
+    ensures port { result ≡ ServerStatus.PortFault → H.bind_faults out.old.host < H.bind_faults out.new.host }
+    ensures ports_back { H.ports_out out.new.host ≡ H.ports_out out.old.host }
+    ensures disks_back { result ≢ ServerStatus.OutOfMemory → H.disks_out out.new.host ≡ H.disks_out out.old.host }
+{
+    match run_placement(rt, alloc, words, &mut out.host, &out.net, &mut out.time) {
+        PlacementEnd::Done => ServerStatus::Done,
+        PlacementEnd::DiskFault => ServerStatus::DiskFault,
+        PlacementEnd::PortFault => ServerStatus::PortFault,
+        PlacementEnd::OutOfMemory => ServerStatus::OutOfMemory,
+        PlacementEnd::Damaged { offset } => tell_damage(alloc, offset, &mut out.output),
+    }
 }
 
 /// Does what the words after the program's name say, and returns the status with which the program ends:
 /// 0 done, 2 the words have no reading, 3 a line of the script or a text of the schedule is refused, 4 the source
-/// failed, 5 the sink failed, 8 out of memory, 10 the script exceeds its limit of 67,108,864 bytes or 1,000,000
-/// lines.
-/// `replay`, without options: the whole source is read first, then each line of the script runs in order and what
-/// comes of it is written; a script that begins with `cluster P` drives a placement and the parts of members.
-/// `schedule`, with `--now M` and perhaps `--due T`, `--period T`, `--ttl T` and `--count N`: the moments of that
-/// schedule are written, up to N of them, or the first fault of a text. `drill`, with `--seed N` and `--steps N`: a
-/// cluster runs random events, and what is counted of it is written. Own.
-pub fn run<I: Source, W: Sink>(alloc: Global, words: &[String], out: &mut Outside<I, W>) -> u8
-    // Words end as usage only if they have no reading; without a reading, those of `schedule` and `drill` may also run
-    // out of memory. Nothing is read or written then.
+/// failed, 5 the sink failed, 6 a disk failed, 7 a port failed, 8 out of memory, 9 the file isn't a journal of this
+/// server, 10 the script exceeds its limit of 67,108,864 bytes or 1,000,000 lines.
+/// `replay`, `schedule` and `drill` are described at `run_plain`. `placement`, with `--journal PATH`, `--listen ADDR` and
+/// perhaps `--new` and `--sessions N`: a placement over the journal at the path is served at the address, each connection
+/// in a thread of its own, until N connections were served, or without an end. With `--new` the file is made if there is
+/// none. Own.
+pub fn run<R: Threads + Wait + Sync, I: Source, W: Sink, N: Dial, T: Clock, H: Host>(
+    rt: &R,
+    alloc: Global,
+    words: &[String],
+    out: &mut Outside<I, W, N, T, H>,
+) -> u8
+    // Words end as usage only if they have no reading; without a reading, words with options may also run out of memory.
+    // Nothing is read or written then.
     ensures usage { result ≡ 2 → reading (map string_bytes words.now) ≡ None }
     ensures no_reading { reading (map string_bytes words.now) ≡ None
         → (result ≡ 2) ⊎ ((result ≡ 8) × (has_options (map string_bytes words.now) ≡ true)) }
@@ -57,16 +98,24 @@ pub fn run<I: Source, W: Sink>(alloc: Global, words: &[String], out: &mut Outsid
     ensures drilled { (d : Drilling) → reading (map string_bytes words.now) ≡ Some (Drill d) → (ended : Status) × (result ≡ code_of ended)
         × DrillEnds d ended (W.contents out.old.output) (W.contents out.new.output) × DrillsHonestly d × (out.new.input ≡ out.old.input) }
 
-    // A fault of the source or the sink is reported only if its count of faults rose.
+    // A placement asks its host for nothing but the path and the address of its words, prints nothing but the place of a
+    // damage, and leaves the source unread.
+    ensures placed { (p : Hosting) → reading (map string_bytes words.now) ≡ Some (Placement p) → (ended : ServerStatus) × (result ≡ server_code ended)
+        × AsksOnly p.journal (place_of p.listen) (H.asked out.old.host) (H.asked out.new.host)
+        × TellsServer ended (W.contents out.old.output) (W.contents out.new.output) × (out.new.input ≡ out.old.input) }
+
+    // A fault of the source, the sink, a disk or a port is reported only if its count of faults rose. Each port is given
+    // back, and each disk; if memory runs out, a server's disk may be lost.
     ensures source { result ≡ 4 → I.read_faults out.old.input < I.read_faults out.new.input }
     ensures sink { result ≡ 5 → W.write_faults out.old.output < W.write_faults out.new.output }
+    ensures disk { result ≡ 6 → H.open_faults out.old.host < H.open_faults out.new.host }
+    ensures port { result ≡ 7 → H.bind_faults out.old.host < H.bind_faults out.new.host }
+    ensures ports_back { H.ports_out out.new.host ≡ H.ports_out out.old.host }
+    ensures disks_back { result ≢ 8 → H.disks_out out.new.host ≡ H.disks_out out.old.host }
 {
-    let status = match read_words(alloc, words) {
-        Ok(CommandWords::Replay) => replay(alloc, &mut out.input, &mut out.output),
-        Ok(CommandWords::Schedule(words)) => schedule(alloc, &words, &mut out.output),
-        Ok(CommandWords::Drill(words)) => drill(alloc, &words, &mut out.output),
-        Err(WordsError::Usage) => Status::Usage,
-        Err(WordsError::OutOfMemory) => Status::OutOfMemory,
-    };
-    status as u8
+    match read_words(alloc, words) {
+        Ok(CommandWords::Placement(words)) => placement(rt, alloc, &words, out) as u8,
+        Err(WordsError::OutOfMemory) => Status::OutOfMemory as u8,
+        _ => run_plain(alloc, words, &mut out.input, &mut out.output),
+    }
 }

@@ -1,7 +1,8 @@
 -- Worked examples of the reading.
-use Rattle.std.proofs.Common.{◌≡◌, [], ◌∷◌, None, Some, codes, refl}
+use Rattle.std.proofs.Common.{◌≡◌, ℕ, Bool, true, false, [], ◌∷◌, Option, None, Some, codes, refl}
+use Rattle.actor_names.specs.Addresses.{part_reading, port_reading}
 use Rattle.command_words.specs.Options.{Text, read_from}
-use Rattle.command_words.specs.Reading.{Said, Replay, Schedule, Drill, reading}
+use Rattle.command_words.specs.Reading.{Said, Replay, Schedule, Drill, Placement, reading, is_placement, has_options}
 
 abbrev asks : Text → Text → Said
 asks now period = Schedule (record { now = now; due = []; period = period; ttl = []; count = 10 })
@@ -15,7 +16,7 @@ replay_alone = refl
 replay_takes_no_option : reading (codes "replay" ∷ codes "--now=1" ∷ []) ≡ None
 replay_takes_no_option = refl
 
-unknown_command : reading (codes "placement" ∷ []) ≡ None
+unknown_command : reading (codes "cluster" ∷ []) ≡ None
 unknown_command = refl
 
 value_behind_name : reading (codes "schedule" ∷ codes "--now" ∷ codes "x" ∷ codes "--period=1s" ∷ []) ≡ Some (asks (codes "x") (codes "1s"))
@@ -97,3 +98,45 @@ seed_below_2_to_the_64 = refl
 seed_is_not_empty : reading (codes "drill" ∷ codes "--seed=" ∷ codes "--steps=1" ∷ []) ≡ None
 unfolding read_from
 seed_is_not_empty = refl
+
+-- `placement` at the journal `j` and at 1.2.3.4:5
+abbrev places : Bool → Option ℕ → Said
+places is_new sessions = Placement (record { journal = codes "j"; listen = record { ip = 16909060; port = 5 }; is_new = is_new; sessions = sessions })
+
+placement_alone : reading (codes "placement" ∷ codes "--journal" ∷ codes "j" ∷ codes "--listen=1.2.3.4:5" ∷ []) ≡ Some (places false None)
+unfolding read_from part_reading port_reading
+placement_alone = refl
+
+flag_before_option : reading (codes "placement" ∷ codes "--new" ∷ codes "--journal=j" ∷ codes "--sessions" ∷ codes "012" ∷ codes "--listen=1.2.3.4:5" ∷ []) ≡ Some (places true (Some 12))
+unfolding read_from part_reading port_reading
+flag_before_option = refl
+
+flag_has_no_value : reading (codes "placement" ∷ codes "--journal=j" ∷ codes "--new=true" ∷ codes "--listen=1.2.3.4:5" ∷ []) ≡ None
+unfolding read_from part_reading port_reading
+flag_has_no_value = refl
+
+flag_once : reading (codes "placement" ∷ codes "--new" ∷ codes "--journal=j" ∷ codes "--new" ∷ codes "--listen=1.2.3.4:5" ∷ []) ≡ None
+unfolding read_from part_reading port_reading
+flag_once = refl
+
+flag_takes_no_word : reading (codes "placement" ∷ codes "--journal=j" ∷ codes "--listen=1.2.3.4:5" ∷ codes "--new" ∷ codes "true" ∷ []) ≡ None
+unfolding read_from part_reading port_reading
+flag_takes_no_word = refl
+
+sessions_from_one : reading (codes "placement" ∷ codes "--journal=j" ∷ codes "--listen=1.2.3.4:5" ∷ codes "--sessions=0" ∷ []) ≡ None
+unfolding read_from part_reading port_reading
+sessions_from_one = refl
+
+journal_is_not_empty : reading (codes "placement" ∷ codes "--journal=" ∷ codes "--listen=1.2.3.4:5" ∷ []) ≡ None
+unfolding read_from part_reading port_reading
+journal_is_not_empty = refl
+
+address_has_a_port : reading (codes "placement" ∷ codes "--journal=j" ∷ codes "--listen=1.2.3.4" ∷ []) ≡ None
+unfolding read_from part_reading port_reading
+address_has_a_port = refl
+
+placement_without_reading : is_placement (codes "placement" ∷ codes "--help" ∷ []) ≡ true
+placement_without_reading = refl
+
+replay_takes_no_memory : has_options (codes "replay" ∷ []) ≡ false
+replay_takes_no_memory = refl

@@ -2,6 +2,8 @@ pub mod Forms
 pub mod Walks
 pub mod Rules
 pub mod Rows
+pub mod Flags
+pub mod Defaults
 pub mod Steps
 pub mod Bridge
 pub mod Examples

@@ -1,21 +1,26 @@
 -- What clap builds from a command with options.
-use Rattle.std.proofs.Common.{◌≡◌, ℕ, ◌+◌, ◌<◌, length, take, get_or, Bool, true, false, ◌&&◌, ◌||◌, not, ◌++◌, List, [], ◌∷◌, map, Some, is_some, refl, ap, sym, ◌∙◌}
-use Rattle.std.specs.Prelude.{fold, count_by, if◌then◌else◌}
+use Rattle.std.proofs.Common.{◌≡◌, ℕ, ◌+◌, ◌<◌, length, take, get_or, Bool, true, false, ◌&&◌, not, ◌++◌, List, [], ◌∷◌, map, Some, is_some, refl, ap, ap₂, sym, ◌∙◌}
+use Rattle.std.specs.Prelude.{count_by, unwrap_or}
 use Rattle.std.specs.List.{list_all, list_any}
 use Rattle.std.specs.Str.{bytes_eq}
 use Rattle.std.proofs.lemmas.Slice.Eq.{bytes_eq-Decides}
-use Rattle.clap.specs.Walk.{Row, Rule, arg_by_long, arg_by_id, has_row, with_default, is_early_multiple}
+use Rattle.clap.specs.Walk.{Rule, arg_by_long, arg_by_id, takes_values, most_values, is_early_multiple}
 use Rattle.std.proofs.lemmas.List.{take_more}
-use Rattle.clap.specs.Simple.{App, with_rule, Shape, new_shape, built, filled_from, is_simple, is_buildable, is_ready, is_ready_leaf, is_in_order}
+use Rattle.clap.specs.Simple.{App, with_rule, Shape, new_shape, built, filled_from, is_simple, is_buildable, is_ready, is_ready_leaf, is_in_order, default_of, missing_of, values_of, parser_for}
 use Rattle.clap.specs.Takes.{default_passes}
-use Rattle.clap.specs.declared.builder.value_parser.ValueParser.TheVariants as vp
-use Rattle.command_words.specs.Options.{Text, Options, is_known}
-use Rattle.command_words.specs.Commands.{option_rule, option_app}
+use Rattle.command_words.specs.Options.{Text, Options, Kind, Needed, Optional, Flag, kind_of}
+use Rattle.command_words.specs.Commands.{action_for, option_rule, option_app}
+use Rattle.command_words.specs.Given.{is_flag}
 use Rattle.command_words.proofs.Forms.{map-push}
 
 -- an option with what clap fills in
-abbrev pub built_rule : Text × Bool → Rule
-built_rule o = record (option_rule o) { range = Some (record { start_inclusive = 1; end_inclusive = 1 }); parser = Some vp.String }
+abbrev pub built_rule : Text × Kind → Rule
+built_rule o = record (option_rule o) {
+  range = Some (record { start_inclusive = values_of (action_for o.1); end_inclusive = values_of (action_for o.1) });
+  defaults = default_of (action_for o.1);
+  missing = missing_of (action_for o.1);
+  parser = Some (parser_for (action_for o.1));
+}
 
 abbrev pub built_rules : Options → List Rule
 built_rules options = map built_rule options
@@ -55,45 +60,51 @@ simple name options =
     ap (λ (b : App). is_buildable (option_app name options) && (is_ready b.top && list_all is_ready_leaf b.subs)) (built-option_app name options)
     ∙ rw (all-map option_rule (λ a. a.is_simple) (λ o. refl) options, all-map built_rule (λ a. a.is_simple) (λ o. refl) options, in_order options) refl
 
-pub no_defaults : (options : Options) (rows : List Row) → fold with_default rows (built_rules options) ≡ rows
-no_defaults [] rows = refl
-no_defaults (o ∷ options) rows = ap (λ rs. fold with_default rs (built_rules options)) (same (has_row o.0 rows)) ∙ no_defaults options rows
-  where
-    same : (b : Bool) → (if b then rows else rows) ≡ rows
-    same true = refl
-    same false = refl
+default_passes-kind : (name : Text) (kind : Kind) → default_passes (built_rule (name, kind)) ≡ true
+default_passes-kind name Needed = refl
+default_passes-kind name Optional = refl
+default_passes-kind name Flag = refl
 
 pub defaults_pass : (options : Options) → list_all default_passes (built_rules options) ≡ true
-defaults_pass options = all-map built_rule default_passes (λ o. refl) options
+defaults_pass options = all-map built_rule default_passes (λ o. default_passes-kind o.0 o.1) options
 
 pub all_free : (options : Options) → list_all (λ (a : Rule). a.is_free) (built_rules options) ≡ true
 all_free options = all-map built_rule (λ a. a.is_free) (λ o. refl) options
 
+pub valued_takes : (name : Text) (kind : Kind) → is_flag kind ≡ false → takes_values (built_rule (name, kind)) ≡ true
+valued_takes name Needed valued = refl
+valued_takes name Optional valued = refl
+valued_takes name Flag valued = cc
+
+pub valued_most : (name : Text) (kind : Kind) → is_flag kind ≡ false → most_values (built_rule (name, kind)) ≡ 1
+valued_most name Needed valued = refl
+valued_most name Optional valued = refl
+valued_most name Flag valued = cc
+
+pub some_same : {A : Type 0} {x y : A} → Some x ≡ Some y → x ≡ y
+some_same {x = x} e = ap (λ o. unwrap_or o x) e
+
 -- a known option is found by its name, which is its id
-pub record Found (options : Options) (name : Text) : Type 0 where
-  pub needed : Bool
-  pub by_long : arg_by_long (built_rules options) name ≡ Some (built_rule (name, needed))
-  pub by_id : arg_by_id (built_rules options) name ≡ Some (built_rule (name, needed))
+pub record Found (options : Options) (name : Text) (kind : Kind) : Type 0 where
+  pub by_long : arg_by_long (built_rules options) name ≡ Some (built_rule (name, kind))
+  pub by_id : arg_by_id (built_rules options) name ≡ Some (built_rule (name, kind))
 
-or-false : (b : Bool) → (b || false) ≡ b
-or-false true = refl
-or-false false = refl
-
-pub known-Found : (options : Options) (name : Text) → is_known options name ≡ true → Found options name
-known-Found [] name known = cc
-known-Found (o ∷ options) name known = go (bytes_eq o.0 name) refl (known-Found options name)
+pub kind_of-Found : (options : Options) (name : Text) (kind : Kind) → kind_of options name ≡ Some kind → Found options name kind
+kind_of-Found [] name kind known = cc
+kind_of-Found (o ∷ options) name kind known = go (bytes_eq o.0 name) refl (kind_of-Found options name kind)
   where
-    go : (b : Bool) → bytes_eq o.0 name ≡ b → (is_known options name ≡ true → Found options name) → Found (o ∷ options) name
+    go : (b : Bool) → bytes_eq o.0 name ≡ b → (kind_of options name ≡ Some kind → Found options name kind) → Found (o ∷ options) name kind
     go true e more =
         let same : o.0 ≡ name = (bytes_eq-Decides o.0 name).0 e in
-        let here : Some (built_rule (o.0, o.1)) ≡ Some (built_rule (name, o.1)) = ap (λ n. Some (built_rule (n, o.1))) same in
-        record { needed = o.1; by_long = rw e here; by_id = rw e here }
+        let is : Some o.1 ≡ Some kind = rw e at known in
+        let here : Some (built_rule (o.0, o.1)) ≡ Some (built_rule (name, kind)) = ap₂ (λ n k. Some (built_rule (n, k))) same (some_same is) in
+        record { by_long = rw e here; by_id = rw e here }
     go false e more =
         let rest = more (rw e at known) in
-        record { needed = rest.needed; by_long = rw e rest.by_long; by_id = rw e rest.by_id }
+        record { by_long = rw e rest.by_long; by_id = rw e rest.by_id }
 
 -- one more option
-pub option_app-more : {A : Type 0} (name : Text) (f : A → Text × Bool) (xs : List A) (i : ℕ) (d : A) → i < length xs
+pub option_app-more : {A : Type 0} (name : Text) (f : A → Text × Kind) (xs : List A) (i : ℕ) (d : A) → i < length xs
     → with_rule (option_app name (map f (take i xs))) (option_rule (f (get_or xs i d))) ≡ option_app name (map f (take (i + 1) xs))
 option_app-more name f xs i d lt =
     let longer : map option_rule (map f (take (i + 1) xs)) ≡ map option_rule (map f (take i xs)) ++ option_rule (f (get_or xs i d)) ∷ [] =

@@ -1,22 +1,29 @@
 -- clap's walk over words of the form, against what the words give.
-use Rattle.std.proofs.Common.{◌≡◌, Bool, true, false, ◌&&◌, not, ◌++◌, List, [], ◌∷◌, Option, None, Some, refl, ap, sym, subst, ◌∙◌}
-use Rattle.std.specs.Prelude.{fold, if◌then◌else◌, unwrap_or}
+use Rattle.std.proofs.Common.{◌≡◌, Bool, true, false, ◌++◌, List, [], ◌∷◌, Option, None, Some, codes, refl, ap, sym, subst, ◌∙◌}
+use Rattle.std.specs.Prelude.{fold, if◌then◌else◌}
 use Rattle.std.specs.Str.{bytes_eq}
 use Rattle.std.proofs.lemmas.Slice.Eq.{bytes_eq-Decides}
 use Rattle.clap.specs.Lexer.{long_of, short_of}
 use Rattle.clap.specs.Walk.{Row, Walk, walked, used, settled_rows}
 use Rattle.clap.specs.Takes.{turn_passes, walk_passes, settle_passes, use_passes}
-use Rattle.command_words.specs.Options.{Text, Options, Given, Meaning, Refused, Names, Gives, names_of, is_known, is_among, option_word, begins_with_hyphen, value_or_next, option_meaning, meaning_of, read_from}
+use Rattle.command_words.specs.Options.{Text, Options, Kind, Needed, Optional, Flag, Given, Meaning, Refused, Names, Gives, names_of, kind_of, is_among, option_word, begins_with_hyphen, value_or_next, flag_alone, kind_meaning, option_meaning, meaning_of, read_from}
+use Rattle.command_words.specs.Given.{is_flag}
 use Rattle.command_words.proofs.Forms.{after, read_from-word}
-use Rattle.command_words.proofs.Walks.{Pending, held, between, wanting, attached, attached_passes, named, named_passes, valued, valued_passes}
-use Rattle.command_words.proofs.Rules.{built_rule, built_rules, built_shape, known-Found}
-use Rattle.command_words.proofs.Rows.{rows_for, rows_for-push, has_row-rows_for, used-absent, use_passes-absent}
+use Rattle.command_words.proofs.Walks.{Pending, held, between, wanting, attached, attached_passes, named, named_passes, flagged, flagged_passes, valued, valued_passes}
+use Rattle.command_words.proofs.Rules.{built_rule, built_rules, built_shape, valued_takes, valued_most, some_same, kind_of-Found}
+use Rattle.command_words.proofs.Rows.{rows_for, rows_for-push, has_row-rows_for, used-absent, use_passes-absent, used-flag, use_passes-flag}
+
+-- the command has an option of this name with a value
+pub record Valued (options : Options) (name : Text) : Type 0 where
+  pub kind : Kind
+  pub valued : is_flag kind ≡ false
+  pub known : kind_of options name ≡ Some kind
 
 -- clap holds what was given, and waits for the awaited value
 abbrev pub Stands : Options → Given → Option Text → Walk → Type 0
 Stands options given None w =
     (rows : List Row) × (p : Pending) × (w ≡ between rows p) × (settled_rows (built_rules options) p rows ≡ rows_for given) × (settle_passes (built_rules options) false (held rows p) ≡ true)
-Stands options given (Some name) w = (w ≡ wanting (rows_for given) name) × (is_known options name ≡ true) × (is_among (names_of given) name ≡ false)
+Stands options given (Some name) w = (w ≡ wanting (rows_for given) name) × Valued options name × (is_among (names_of given) name ≡ false)
 
 -- a word of this meaning passes, and the walk is then where the meaning says
 abbrev pub Taken : Text → Options → Given → Walk → Text → Meaning → Type 0
@@ -63,34 +70,52 @@ bytes_eq-self text = (bytes_eq-Decides text text).1 refl
 
 module _ (command : Text) (options : Options) (given : Given) where
   gives : (rows : List Row) (p : Pending) (word name value : Text) → settled_rows (built_rules options) p rows ≡ rows_for given → settle_passes (built_rules options) false (held rows p) ≡ true
-      → option_word word ≡ Some (name, Some value) → is_known options name ≡ true → is_among (names_of given) name ≡ false
+      → option_word word ≡ Some (name, Some value) → Valued options name → is_among (names_of given) name ≡ false
       → Taken command options given (between rows p) word (Gives name value)
-  gives rows p word name value settled passes word_is known fresh =
-      let found = known-Found options name known in
+  gives rows p word name value settled passes word_is v fresh =
+      let found = kind_of-Found options name v.kind v.known in
+      let rule = built_rule (name, v.kind) in
+      let takes = valued_takes name v.kind v.valued in
       let two = hyphens_name_nothing word (name, Some value) word_is in
       let absent = has_row-rows_for given name ∙ fresh in
-      let uses : use_passes false (built_rule (name, found.needed)) (value ∷ []) (settled_rows (built_rules options) p rows) ≡ true =
-      rw settled (use_passes-absent (name, found.needed) value (rows_for given) absent) in
-      let rows_are : used (built_rule (name, found.needed)) (value ∷ []) (settled_rows (built_rules options) p rows) ≡ rows_for (given ++ (name, value) ∷ []) =
-      rw settled (used-absent (name, found.needed) value (rows_for given) absent ∙ sym (rows_for-push given name value)) in (
-        attached_passes (built_shape command options) rows p word name value (built_rule (name, found.needed)) two word_is found.by_long refl passes uses,
-        (_, None, attached (built_rules options) rows p word name value (built_rule (name, found.needed)) two word_is found.by_long refl, rows_are, refl),
+      let uses : use_passes false rule (value ∷ []) (settled_rows (built_rules options) p rows) ≡ true =
+      rw settled (use_passes-absent name v.kind value (rows_for given) v.valued absent) in
+      let rows_are : used rule (value ∷ []) (settled_rows (built_rules options) p rows) ≡ rows_for (given ++ (name, value) ∷ []) =
+      rw settled (used-absent name v.kind value (rows_for given) v.valued absent ∙ sym (rows_for-push given name value)) in (
+        attached_passes (built_shape command options) rows p word name value rule two word_is found.by_long takes passes uses,
+        (_, None, attached (built_rules options) rows p word name value rule two word_is found.by_long takes, rows_are, refl),
       )
 
   names : (rows : List Row) (p : Pending) (word name : Text) → settled_rows (built_rules options) p rows ≡ rows_for given → settle_passes (built_rules options) false (held rows p) ≡ true
-      → option_word word ≡ Some (name, None) → is_known options name ≡ true → is_among (names_of given) name ≡ false
+      → option_word word ≡ Some (name, None) → Valued options name → is_among (names_of given) name ≡ false
       → Taken command options given (between rows p) word (Names name)
-  names rows p word name settled passes word_is known fresh =
-      let found = known-Found options name known in
+  names rows p word name settled passes word_is v fresh =
+      let found = kind_of-Found options name v.kind v.known in
+      let takes = valued_takes name v.kind v.valued in
       let two = hyphens_name_nothing word (name, None) word_is in (
-        named_passes (built_shape command options) rows p word name (built_rule (name, found.needed)) two word_is found.by_long refl passes,
-        (named (built_rules options) rows p word name (built_rule (name, found.needed)) two word_is found.by_long refl ∙ ap (λ rs. wanting rs name) settled, known, fresh),
+        named_passes (built_shape command options) rows p word name (built_rule (name, v.kind)) two word_is found.by_long takes passes,
+        (named (built_rules options) rows p word name (built_rule (name, v.kind)) two word_is found.by_long takes ∙ ap (λ rs. wanting rs name) settled, v, fresh),
       )
 
-  value_after : (word name : Text) → begins_with_hyphen word ≡ false → is_known options name ≡ true → is_among (names_of given) name ≡ false
+  flags : (rows : List Row) (p : Pending) (word name : Text) → settled_rows (built_rules options) p rows ≡ rows_for given → settle_passes (built_rules options) false (held rows p) ≡ true
+      → option_word word ≡ Some (name, None) → kind_of options name ≡ Some Flag → is_among (names_of given) name ≡ false
+      → Taken command options given (between rows p) word (Gives name (codes "true"))
+  flags rows p word name settled passes word_is known fresh =
+      let found = kind_of-Found options name Flag known in
+      let rule = built_rule (name, Flag) in
+      let two = hyphens_name_nothing word (name, None) word_is in
+      let absent = has_row-rows_for given name ∙ fresh in
+      let uses : use_passes false rule [] (settled_rows (built_rules options) p rows) ≡ true = rw settled (use_passes-flag name (rows_for given) absent) in
+      let rows_are : used rule [] (settled_rows (built_rules options) p rows) ≡ rows_for (given ++ (name, codes "true") ∷ []) =
+      rw settled (used-flag name (rows_for given) absent ∙ sym (rows_for-push given name (codes "true"))) in (
+        flagged_passes (built_shape command options) rows p word name rule two word_is found.by_long refl passes uses,
+        (_, None, flagged (built_rules options) rows p word name rule two word_is found.by_long refl, rows_are, refl),
+      )
+
+  value_after : (word name : Text) → begins_with_hyphen word ≡ false → Valued options name → is_among (names_of given) name ≡ false
       → Taken command options given (wanting (rows_for given) name) word (Gives name word)
-  value_after word name plain known fresh =
-      let found = known-Found options name known in
+  value_after word name plain v fresh =
+      let found = kind_of-Found options name v.kind v.known in
       let two = value_is_no_hyphens word plain in
       let long = value_is_not_long word plain in
       let short = value_is_not_short word plain in
@@ -99,29 +124,50 @@ module _ (command : Text) (options : Options) (given : Given) where
         (
           rows_for given,
           Some (name, word ∷ []),
-          valued (built_rules options) (rows_for given) name word (built_rule (name, found.needed)) two long short found.by_id refl (bytes_eq-self name),
-          rw found.by_id (used-absent (name, found.needed) word (rows_for given) absent ∙ sym (rows_for-push given name word)),
-          rw found.by_id (use_passes-absent (name, found.needed) word (rows_for given) absent),
+          valued (built_rules options) (rows_for given) name word (built_rule (name, v.kind)) two long short found.by_id (valued_most name v.kind v.valued) (bytes_eq-self name),
+          rw found.by_id (used-absent name v.kind word (rows_for given) v.valued absent ∙ sym (rows_for-push given name word)),
+          rw found.by_id (use_passes-absent name v.kind word (rows_for given) v.valued absent),
         ),
       )
 
-  known_or_refused : (rows : List Row) (p : Pending) (word : Text) (n : Text × Option Text) (known fresh : Bool) → settled_rows (built_rules options) p rows ≡ rows_for given
-      → settle_passes (built_rules options) false (held rows p) ≡ true → option_word word ≡ Some n → is_known options n.0 ≡ known → is_among (names_of given) n.0 ≡ fresh
-      → Taken command options given (between rows p) word (if known && not fresh then value_or_next n.0 n.1 else Refused)
-  known_or_refused rows p word n false fresh settled passes word_is k f = tt
-  known_or_refused rows p word n true true settled passes word_is k f = tt
-  known_or_refused rows p word n true false settled passes word_is k f = go n.1 refl
+  valued_taken : (rows : List Row) (p : Pending) (word : Text) (n : Text × Option Text) → settled_rows (built_rules options) p rows ≡ rows_for given
+      → settle_passes (built_rules options) false (held rows p) ≡ true → option_word word ≡ Some n → Valued options n.0 → is_among (names_of given) n.0 ≡ false
+      → Taken command options given (between rows p) word (value_or_next n.0 n.1)
+  valued_taken rows p word n settled passes word_is v f = go n.1 refl
     where
-      go : (v : Option Text) → n.1 ≡ v → Taken command options given (between rows p) word (value_or_next n.0 v)
-      go None e = names rows p word n.0 settled passes (word_is ∙ ap (λ v. Some (n.0, v)) e) k f
-      go (Some value) e = gives rows p word n.0 value settled passes (word_is ∙ ap (λ v. Some (n.0, v)) e) k f
+      go : (o : Option Text) → n.1 ≡ o → Taken command options given (between rows p) word (value_or_next n.0 o)
+      go None e = names rows p word n.0 settled passes (word_is ∙ ap (λ v. Some (n.0, v)) e) v f
+      go (Some value) e = gives rows p word n.0 value settled passes (word_is ∙ ap (λ v. Some (n.0, v)) e) v f
+
+  flag_taken : (rows : List Row) (p : Pending) (word : Text) (n : Text × Option Text) → settled_rows (built_rules options) p rows ≡ rows_for given
+      → settle_passes (built_rules options) false (held rows p) ≡ true → option_word word ≡ Some n → kind_of options n.0 ≡ Some Flag → is_among (names_of given) n.0 ≡ false
+      → Taken command options given (between rows p) word (flag_alone n.0 n.1)
+  flag_taken rows p word n settled passes word_is k f = go n.1 refl
+    where
+      go : (o : Option Text) → n.1 ≡ o → Taken command options given (between rows p) word (flag_alone n.0 o)
+      go None e = flags rows p word n.0 settled passes (word_is ∙ ap (λ v. Some (n.0, v)) e) k f
+      go (Some value) e = tt
+
+  kind_taken : (rows : List Row) (p : Pending) (word : Text) (n : Text × Option Text) (k : Option Kind) → settled_rows (built_rules options) p rows ≡ rows_for given
+      → settle_passes (built_rules options) false (held rows p) ≡ true → option_word word ≡ Some n → kind_of options n.0 ≡ k → is_among (names_of given) n.0 ≡ false
+      → Taken command options given (between rows p) word (kind_meaning n.0 n.1 k)
+  kind_taken rows p word n None settled passes word_is k f = tt
+  kind_taken rows p word n (Some Needed) settled passes word_is k f = valued_taken rows p word n settled passes word_is (record { kind = Needed; valued = refl; known = k }) f
+  kind_taken rows p word n (Some Optional) settled passes word_is k f = valued_taken rows p word n settled passes word_is (record { kind = Optional; valued = refl; known = k }) f
+  kind_taken rows p word n (Some Flag) settled passes word_is k f = flag_taken rows p word n settled passes word_is k f
+
+  fresh_or_refused : (rows : List Row) (p : Pending) (word : Text) (n : Text × Option Text) (among : Bool) → settled_rows (built_rules options) p rows ≡ rows_for given
+      → settle_passes (built_rules options) false (held rows p) ≡ true → option_word word ≡ Some n → is_among (names_of given) n.0 ≡ among
+      → Taken command options given (between rows p) word (if among then Refused else kind_meaning n.0 n.1 (kind_of options n.0))
+  fresh_or_refused rows p word n true settled passes word_is f = tt
+  fresh_or_refused rows p word n false settled passes word_is f = kind_taken rows p word n (kind_of options n.0) settled passes word_is refl f
 
   option_taken : (rows : List Row) (p : Pending) (word : Text) (o : Option (Text × Option Text)) → settled_rows (built_rules options) p rows ≡ rows_for given
       → settle_passes (built_rules options) false (held rows p) ≡ true → option_word word ≡ o → Taken command options given (between rows p) word (option_meaning options (names_of given) o)
   option_taken rows p word None settled passes e = tt
-  option_taken rows p word (Some n) settled passes e = known_or_refused rows p word n (is_known options n.0) (is_among (names_of given) n.0) settled passes e refl refl
+  option_taken rows p word (Some n) settled passes e = fresh_or_refused rows p word n (is_among (names_of given) n.0) settled passes e refl
 
-  value_taken : (word name : Text) (hyphen : Bool) → begins_with_hyphen word ≡ hyphen → is_known options name ≡ true → is_among (names_of given) name ≡ false
+  value_taken : (word name : Text) (hyphen : Bool) → begins_with_hyphen word ≡ hyphen → Valued options name → is_among (names_of given) name ≡ false
       → Taken command options given (wanting (rows_for given) name) word (if hyphen then Refused else Gives name word)
   value_taken word name true e known fresh = tt
   value_taken word name false e known fresh = value_after word name e known fresh
@@ -129,9 +175,6 @@ module _ (command : Text) (options : Options) (given : Given) where
   pub taken : (awaited : Option Text) (w : Walk) (word : Text) → Stands options given awaited w → Taken command options given w word (meaning_of options (names_of given) awaited word)
   taken None w word s = rw s.2 (option_taken s.0 s.1 word (option_word word) s.3 s.4 refl)
   taken (Some name) w word s = rw s.0 (value_taken word name (begins_with_hyphen word) refl s.1 s.2)
-
-some_same : {A : Type 0} {x y : A} → Some x ≡ Some y → x ≡ y
-some_same {x = x} e = ap (λ o. unwrap_or o x) e
 
 -- the walk passes, and holds all that was given
 abbrev pub Walks : Text → Options → Given → Walk → List Text → Type 0

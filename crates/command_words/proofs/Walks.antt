@@ -45,6 +45,18 @@ pub named_passes : (s : Shape) (rows : List Row) (p : Pending) (word name : Text
     → turn_passes s [] (between rows p) word ≡ true
 named_passes s rows p word name a two long found takes settles = rw (two, long, found, takes, settles) refl
 
+pub flagged : (c : List Rule) (rows : List Row) (p : Pending) (word name : Text) (a : Rule)
+    → bytes_eq word (45 ∷ 45 ∷ []) ≡ false → long_of word ≡ Some (name, None) → arg_by_long c name ≡ Some a → takes_values a ≡ false
+    → walked c [] (between rows p) word ≡ between (used a [] (settled_rows c p rows)) None
+unfolding walked
+flagged c rows p word name a two long found takes = rw (two, long, found, takes) refl
+
+pub flagged_passes : (s : Shape) (rows : List Row) (p : Pending) (word name : Text) (a : Rule)
+    → bytes_eq word (45 ∷ 45 ∷ []) ≡ false → long_of word ≡ Some (name, None) → arg_by_long s.rules name ≡ Some a → takes_values a ≡ false
+    → settle_passes s.rules s.args_override_self (held rows p) ≡ true → use_passes s.args_override_self a [] (settled_rows s.rules p rows) ≡ true
+    → turn_passes s [] (between rows p) word ≡ true
+flagged_passes s rows p word name a two long found takes settles uses = rw (two, long, found, takes, settles, uses) refl
+
 pub valued : (c : List Rule) (rows : List Row) (id word : Text) (a : Rule)
     → bytes_eq word (45 ∷ 45 ∷ []) ≡ false → long_of word ≡ None → short_of word ≡ None → arg_by_id c id ≡ Some a → most_values a ≡ 1 → bytes_eq id a.id ≡ true
     → walked c [] (wanting rows id) word ≡ between rows (Some (id, word ∷ []))

@@ -1,17 +1,28 @@
--- The options after a command's name: `--NAME VALUE` or `--NAME=VALUE`, in any order, each at most once. Own; the
--- spelling is that of GNU's long options.
-use Rattle.std.specs.Prelude.{ℕ, ◌==◌, ◌&&◌, ◌||◌, ◌++◌, Bool, false, not, if◌then◌else◌, List, [], ◌∷◌, map, Option, None, Some, option_and_then}
+-- The options after a command's name: `--NAME VALUE` or `--NAME=VALUE`, or `--NAME` for a flag, in any order, each at
+-- most once. Own; the spelling is that of GNU's long options.
+use Rattle.std.specs.Prelude.{ℕ, ◌==◌, ◌||◌, ◌++◌, Bool, true, false, not, if◌then◌else◌, List, [], ◌∷◌, map, codes, find, Option, None, Some, option_map, option_and_then}
 use Rattle.std.specs.List.{list_all, list_any, before_first, after_first}
 use Rattle.std.specs.Str.{bytes_eq}
 
 abbrev pub Text : Type 0
 Text = List ℕ
 
--- the options of a command: the name of each, and whether the command needs it
-abbrev pub Options : Type 0
-Options = List (Text × Bool)
+-- an option has a value, and the command needs it or not; or it is a flag, which has none and isn't needed
+pub data Kind : Type 0 where
+  Needed : Kind
+  Optional : Kind
+  Flag : Kind
 
--- the options that words give, by name and value
+abbrev pub is_needed : Kind → Bool
+is_needed Needed = true
+is_needed Optional = false
+is_needed Flag = false
+
+-- the options of a command, by name and kind
+abbrev pub Options : Type 0
+Options = List (Text × Kind)
+
+-- the options that words give, by name and value; the value of a flag is `true`
 abbrev pub Given : Type 0
 Given = List (Text × Text)
 
@@ -41,8 +52,9 @@ abbrev pub begins_with_hyphen : Text → Bool
 begins_with_hyphen [] = false
 begins_with_hyphen (b ∷ bs) = b == 45
 
-abbrev pub is_known : Options → Text → Bool
-is_known options name = list_any (λ o. bytes_eq o.0 name) options
+-- the kind of the option of this name
+abbrev pub kind_of : Options → Text → Option Kind
+kind_of options name = option_map (λ o. o.1) (find (λ o. bytes_eq o.0 name) options)
 
 abbrev pub is_among : List Text → Text → Bool
 is_among names name = list_any (λ n. bytes_eq n name) names
@@ -57,10 +69,21 @@ abbrev pub value_or_next : Text → Option Text → Meaning
 value_or_next name None = Names name
 value_or_next name (Some value) = Gives name value
 
+abbrev pub flag_alone : Text → Option Text → Meaning
+flag_alone name None = Gives name (codes "true")
+flag_alone name (Some value) = Refused
+
+-- a name with perhaps a value, if it is that of an option of this kind
+abbrev pub kind_meaning : Text → Option Text → Option Kind → Meaning
+kind_meaning name value None = Refused
+kind_meaning name value (Some Needed) = value_or_next name value
+kind_meaning name value (Some Optional) = value_or_next name value
+kind_meaning name value (Some Flag) = flag_alone name value
+
 -- an option of the command that wasn't given before
 abbrev pub option_meaning : Options → List Text → Option (Text × Option Text) → Meaning
 option_meaning options names None = Refused
-option_meaning options names (Some p) = if is_known options p.0 && not (is_among names p.0) then value_or_next p.0 p.1 else Refused
+option_meaning options names (Some p) = if is_among names p.0 then Refused else kind_meaning p.0 p.1 (kind_of options p.0)
 
 -- a word after the options of these names, one of which may still need its value
 abbrev pub meaning_of : Options → List Text → Option Text → Text → Meaning
@@ -83,7 +106,7 @@ read_from options given awaited (word ∷ rest) =
 
 -- each option that the command needs is given
 abbrev pub has_needed : Options → List Text → Bool
-has_needed options names = list_all (λ o. not o.1 || is_among names o.0) options
+has_needed options names = list_all (λ o. not (is_needed o.1) || is_among names o.0) options
 
 abbrev pub complete : Options → Given → Option Given
 complete options given = if has_needed options (names_of given) then Some given else None

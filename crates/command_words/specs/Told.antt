@@ -1,18 +1,25 @@
 -- The types of the code as the definitions see them.
-use Rattle.std.specs.Prelude.{Bool}
 use Rattle.command_words.specs.declared.options.CommandOption.{CommandOption}
+use Rattle.command_words.specs.declared.options.OptionKind.{OptionKind}
+use Rattle.command_words.specs.declared.options.OptionKind.TheVariants as kind
+use Rattle.command_words.specs.declared.placement.PlacementWords.{PlacementWords}
 use Rattle.command_words.specs.declared.meaning.Meaning.{Meaning}
 use Rattle.command_words.specs.declared.meaning.Meaning.TheVariants as meaning
 use Rattle.command_words.specs.declared.reading.CommandWords.{CommandWords}
 use Rattle.command_words.specs.declared.reading.CommandWords.TheVariants as words
 use Rattle.command_words.specs.declared.reading.DrillWords.{DrillWords}
 use Rattle.command_words.specs.declared.reading.ScheduleWords.{ScheduleWords}
-use Rattle.command_words.specs.Options.{Text, Refused, Names, Gives}
+use Rattle.command_words.specs.Options.{Text, Kind, Needed, Optional, Flag, Refused, Names, Gives}
 use Rattle.command_words.specs.Options.{Meaning as Meant}
-use Rattle.command_words.specs.Reading.{Asking, Drilling, Said, Replay, Schedule, Drill}
+use Rattle.command_words.specs.Reading.{Asking, Drilling, Hosting, Said, Replay, Schedule, Drill, Placement}
 
-abbrev pub told_option : CommandOption → Text × Bool
-told_option o = (o.name.now, o.is_needed)
+abbrev pub told_kind : OptionKind → Kind
+told_kind kind.Needed = Needed
+told_kind kind.Optional = Optional
+told_kind kind.Flag = Flag
+
+abbrev pub told_option : CommandOption → Text × Kind
+told_option o = (o.name.now, told_kind o.kind)
 
 abbrev pub told_meaning : Meaning → Meant
 told_meaning meaning.Refused = Refused
@@ -25,7 +32,11 @@ told_schedule s = record { now = s.now.now; due = s.due.now; period = s.period.n
 abbrev pub told_drill : DrillWords → Drilling
 told_drill d = record { seed = d.seed; steps = d.steps }
 
+abbrev pub told_placement : PlacementWords → Hosting
+told_placement p = record { journal = p.journal.now; listen = p.listen; is_new = p.is_new; sessions = p.sessions }
+
 abbrev pub told : CommandWords → Said
 told words.Replay = Replay
 told (words.Schedule s) = Schedule (told_schedule s)
 told (words.Drill d) = Drill (told_drill d)
+told (words.Placement p) = Placement (told_placement p)

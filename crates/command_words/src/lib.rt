@@ -1,7 +1,7 @@
 // The words of the command line.
 //
 // Promise: `read_words` gives the command with all that the words say if they have a reading (`specs/Reading`), and
-// refuses only words that have none; else it ran out of memory. Depends on actor_names (numbers) and clap.
+// refuses only words that have none; else it ran out of memory. Depends on actor_names (numbers, addresses) and clap.
 #![tactic(auto)]
 
 mod count;
@@ -10,9 +10,11 @@ mod form;
 mod matches;
 mod meaning;
 mod options;
+mod placement;
 mod reading;
 
 pub use error::WordsError;
+pub use placement::PlacementWords;
 pub use reading::{CommandWords, DrillWords, ScheduleWords, read_words};
 
 #[cfg(test)]

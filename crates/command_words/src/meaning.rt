@@ -1,9 +1,9 @@
 // What one word is.
 ghost use Rattle.std.specs.Prelude.{◌≡◌, Some, None, map, option_map};
-ghost use Rattle.command_words.specs.Options.{behind, name_and_value, option_word, begins_with_hyphen, value_or_next, option_meaning, meaning_of};
-ghost use Rattle.command_words.specs.Told.{told_option, told_meaning};
+ghost use Rattle.command_words.specs.Options.{behind, name_and_value, option_word, begins_with_hyphen, value_or_next, flag_alone, kind_meaning, option_meaning, meaning_of};
+ghost use Rattle.command_words.specs.Told.{told_kind, told_option, told_meaning};
 
-use crate::options::{CommandOption, is_among, is_known};
+use crate::options::{CommandOption, OptionKind, is_among, kind_of};
 
 /// What a word after a command's name is.
 #[derive(Clone, Copy)]
@@ -12,7 +12,7 @@ pub(crate) enum Meaning<'a> {
     Refused,
     /// The name of an option whose value is the next word.
     Names(&'a str),
-    /// The value of the option of this name.
+    /// The value of the option of this name; `true` for a flag.
     Gives(&'a str, &'a str),
 }
 
@@ -64,6 +64,27 @@ fn value_or_next<'a>(name: &'a str, value: Option<&'a str>) -> Meaning<'a>
     }
 }
 
+/// A flag, which has no value in its word.
+fn flag_alone<'a>(name: &'a str, value: Option<&'a str>) -> Meaning<'a>
+    ensures { told_meaning result ≡ flag_alone name.entry.now (option_map (λ s. s.now) value.entry) }
+{
+    match value {
+        None => Meaning::Gives(name, "true"),
+        Some(_) => Meaning::Refused,
+    }
+}
+
+/// What a name with perhaps a value is, if it is that of an option of this kind.
+fn kind_meaning<'a>(name: &'a str, value: Option<&'a str>, kind: Option<OptionKind>) -> Meaning<'a>
+    ensures { told_meaning result ≡ kind_meaning name.entry.now (option_map (λ s. s.now) value.entry) (option_map told_kind kind) }
+{
+    match kind {
+        None => Meaning::Refused,
+        Some(OptionKind::Needed | OptionKind::Optional) => value_or_next(name, value),
+        Some(OptionKind::Flag) => flag_alone(name, value),
+    }
+}
+
 /// What a word is if no option waits for its value.
 fn option_meaning<'a>(options: &[CommandOption], names: &[&str], word: &'a str) -> Meaning<'a>
     ensures { told_meaning result ≡ option_meaning (map told_option options.now) (map (λ n. n.now) names.now) (option_word word.entry.now) }
@@ -71,10 +92,10 @@ fn option_meaning<'a>(options: &[CommandOption], names: &[&str], word: &'a str) 
     match option_word(word) {
         None => Meaning::Refused,
         Some((name, value)) => {
-            if is_known(options, name) && !is_among(names, name) {
-                value_or_next(name, value)
-            } else {
+            if is_among(names, name) {
                 Meaning::Refused
+            } else {
+                kind_meaning(name, value, kind_of(options, name))
             }
         }
     }

@@ -1,47 +1,79 @@
 // The options of a command.
-ghost use Rattle.std.specs.Prelude.{◌≡◌, true, false, map};
-ghost use Rattle.command_words.specs.Options.{is_known, is_among, has_needed};
-ghost use Rattle.command_words.specs.Told.{told_option};
+ghost use Rattle.std.specs.Prelude.{◌≡◌, map, option_map};
+ghost use Rattle.command_words.specs.Options.{Needed, Optional, Flag, kind_of, is_among, is_needed, has_needed};
+ghost use Rattle.command_words.specs.Told.{told_kind, told_option};
 
-/// An option of a command, which has a value.
+/// How a command takes an option.
+#[derive(Clone, Copy)]
+pub(crate) enum OptionKind {
+    /// With a value; the command needs it.
+    Needed,
+    /// With a value; it may be given.
+    Optional,
+    /// Without a value; it may be given.
+    Flag,
+}
+
+/// An option of a command.
 #[derive(Clone, Copy)]
 pub(crate) struct CommandOption<'a> {
     /// The name, without the two hyphens.
     pub(crate) name: &'a str,
-    /// Whether the command needs it.
-    pub(crate) is_needed: bool,
+    /// Whether it has a value, and whether the command needs it.
+    pub(crate) kind: OptionKind,
 }
 
 /// An option that the command needs.
 pub(crate) fn needed(name: &str) -> CommandOption<'_>
-    ensures { told_option result ≡ (name.entry.now, true) }
+    ensures { told_option result ≡ (name.entry.now, Needed) }
 {
     CommandOption {
         name,
-        is_needed: true,
+        kind: OptionKind::Needed,
     }
 }
 
 /// An option that may be given.
 pub(crate) fn optional(name: &str) -> CommandOption<'_>
-    ensures { told_option result ≡ (name.entry.now, false) }
+    ensures { told_option result ≡ (name.entry.now, Optional) }
 {
     CommandOption {
         name,
-        is_needed: false,
+        kind: OptionKind::Optional,
     }
 }
 
-/// Whether there is an option of this name.
-pub(crate) fn is_known(options: &[CommandOption], name: &str) -> bool
-    ensures { result ≡ is_known (map told_option options.now) name.now }
+/// An option without a value, which may be given.
+pub(crate) fn flag(name: &str) -> CommandOption<'_>
+    ensures { told_option result ≡ (name.entry.now, Flag) }
+{
+    CommandOption {
+        name,
+        kind: OptionKind::Flag,
+    }
+}
+
+/// Whether the command needs an option of this kind.
+pub(crate) fn is_needed(kind: OptionKind) -> bool
+    ensures { result ≡ is_needed (told_kind kind) }
+{
+    match kind {
+        OptionKind::Needed => true,
+        OptionKind::Optional => false,
+        OptionKind::Flag => false,
+    }
+}
+
+/// The kind of the option of this name.
+pub(crate) fn kind_of(options: &[CommandOption], name: &str) -> Option<OptionKind>
+    ensures { option_map told_kind result ≡ kind_of (map told_option options.now) name.now }
 {
     for option in options {
         if option.name == name {
-            return true;
+            return Some(option.kind);
         }
     }
-    false
+    None
 }
 
 /// Whether the name is among these.
@@ -61,7 +93,7 @@ pub(crate) fn has_needed(options: &[CommandOption], names: &[&str]) -> bool
     ensures { result ≡ has_needed (map told_option options.now) (map (λ n. n.now) names.now) }
 {
     for option in options {
-        if option.is_needed && !is_among(names, option.name) {
+        if is_needed(option.kind) && !is_among(names, option.name) {
             return false;
         }
     }

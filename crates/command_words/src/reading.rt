@@ -1,15 +1,16 @@
 // The words of the command line.
-ghost use Rattle.std.specs.Prelude.{◌≡◌, true, None, Some, [], IfOk, IfErr, MatchResult, map, option_map, option_and_then, string_bytes, unwrap_or};
-ghost use Rattle.clap.specs.Matches.{found_of, first_value};
+ghost use Rattle.std.specs.Prelude.{◌≡◌, true, None, Some, IfOk, IfErr, MatchResult, map, option_map, option_and_then, string_bytes};
 ghost use Rattle.command_words.specs.declared.error.WordsError.TheVariants.{Usage, OutOfMemory};
-ghost use Rattle.command_words.specs.Options.{Text, Given, options_given};
-ghost use Rattle.command_words.specs.Reading.{reading, has_options, value_of, replay_said, schedule_said, schedule_options, count_or_ten, drill_said, drill_options};
+ghost use Rattle.command_words.specs.Given.{Holds};
+ghost use Rattle.command_words.specs.Options.{Given, options_given};
+ghost use Rattle.command_words.specs.Reading.{reading, has_options, replay_said, schedule_said, schedule_options, count_or_ten, drill_said, drill_options, placement_said, placement_options};
 ghost use Rattle.command_words.specs.Told.{told, told_option};
 
 use crate::count::{read_count, read_number};
 use crate::error::WordsError;
-use crate::matches::read_options;
+use crate::matches::{read_options, text_of};
 use crate::options::{CommandOption, needed, optional};
+use crate::placement::{PlacementWords, placement_words};
 use clap::ArgMatches;
 use std::alloc::Global;
 
@@ -52,6 +53,8 @@ pub enum CommandWords<'a> {
     Schedule(ScheduleWords<'a>),
     /// `drill`: run a random list of events of a cluster.
     Drill(DrillWords),
+    /// `placement`: serve the placement of actors.
+    Placement(PlacementWords<'a>),
 }
 
 /// The options of `schedule`.
@@ -65,16 +68,6 @@ fn schedule_options() -> [CommandOption<'static>; 5]
         optional("ttl"),
         optional("count"),
     ]
-}
-
-/// The value of an option, or the empty text if it isn't given.
-fn text_of<'a>(matches: &ArgMatches<'a>, name: &str) -> &'a str
-    ensures { result.now ≡ unwrap_or (first_value (found_of matches.now) name.now) [] }
-{
-    match matches.get_str(name) {
-        None => "",
-        Some(text) => text,
-    }
 }
 
 /// The count that is given, or 10.
@@ -116,7 +109,7 @@ fn drill_options() -> [CommandOption<'static>; 2]
 
 /// What the options of `drill` say.
 fn drill_of<'a>(matches: &ArgMatches<'a>) -> Option<CommandWords<'a>>
-    ensures { (given : Given) → ((name : Text) → first_value (found_of matches.now) name ≡ value_of name given) → option_map told result ≡ drill_said given }
+    ensures { (given : Given) → Holds drill_options given matches.now → option_map told result ≡ drill_said given }
 {
     let seed = read_number(text_of(matches, "seed").as_bytes(), u64::MAX)?;
     let steps = read_number(text_of(matches, "steps").as_bytes(), MOST_STEPS)?;
@@ -140,6 +133,18 @@ fn drill_words<'a>(alloc: Global, words: &'a [String]) -> Result<CommandWords<'a
     }
 }
 
+/// The command `placement` with the words after its name.
+fn placement_command<'a>(alloc: Global, words: &'a [String]) -> Result<CommandWords<'a>, WordsError>
+    ensures { MatchResult result
+        (λ c. option_and_then placement_said (options_given placement_options (map string_bytes words.entry.now)) ≡ Some (told c))
+        (λ e. e ≡ Usage → option_and_then placement_said (options_given placement_options (map string_bytes words.entry.now)) ≡ None) }
+{
+    match placement_words(alloc, words) {
+        Ok(words) => Ok(CommandWords::Placement(words)),
+        Err(error) => Err(error),
+    }
+}
+
 /// The words after `replay`: none.
 fn replay_words<'a>(words: &'a [String]) -> Result<CommandWords<'a>, WordsError>
     ensures { MatchResult result
@@ -154,13 +159,15 @@ fn replay_words<'a>(words: &'a [String]) -> Result<CommandWords<'a>, WordsError>
 
 /// Reads the words after the program's name: the first is the command, `replay` without options, `schedule` with
 /// `--now M` and perhaps `--due T`, `--period T`, `--ttl T` and `--count N`, N from 1 to 1,000 and 10 if it isn't
-/// given, or `drill` with `--seed N`, below 2^64, and `--steps N`, up to 200,000. Options are written `--name value`
-/// or `--name=value`, in any order, each at most once; a value that is a word of its own doesn't begin with `-`. Help
-/// and version words have no reading. Own.
+/// given, `drill` with `--seed N`, below 2^64, and `--steps N`, up to 200,000, or `placement` with `--journal PATH`,
+/// of at least one byte, `--listen ADDR`, an address and a port, and perhaps `--new` and `--sessions N`, N from 1 and
+/// below 2^64. Options are written `--name value` or `--name=value`, in any order, each at most once, and `--new`
+/// without a value; a value that is a word of its own doesn't begin with `-`. Help and version words have no reading.
+/// Own.
 pub fn read_words<'a>(alloc: Global, words: &'a [String]) -> Result<CommandWords<'a>, WordsError>
     // The command is what the words read as.
     ensures read { IfOk result (λ c. reading (map string_bytes words.entry.now) ≡ Some (told c)) }
-    // Only words without a reading are refused, and only those of `schedule` and `drill` may run out of memory.
+    // Only words without a reading are refused, and only those of a command with options may run out of memory.
     ensures usage { IfErr result (λ e. e ≡ Usage → reading (map string_bytes words.entry.now) ≡ None) }
     ensures memory { IfErr result (λ e. e ≡ OutOfMemory → has_options (map string_bytes words.entry.now) ≡ true) }
 {
@@ -175,6 +182,9 @@ pub fn read_words<'a>(alloc: Global, words: &'a [String]) -> Result<CommandWords
             }
             if command.as_str() == "drill" {
                 return drill_words(alloc, rest);
+            }
+            if command.as_str() == "placement" {
+                return placement_command(alloc, rest);
             }
             Err(WordsError::Usage)
         }

@@ -1,5 +1,5 @@
 // Words that have a reading and words that have none.
-use crate::{CommandWords, WordsError, read_words};
+use crate::{CommandWords, PlacementWords, WordsError, read_words};
 use std::alloc::Global;
 use std::process::Abort;
 use std::test::Fail;
@@ -13,8 +13,18 @@ fn words_of(alloc: Global, line: &str) -> Result<Vec<String>, Fail> {
     Ok(words)
 }
 
-/// What a line says: the texts of `schedule` with its count, each in brackets, `drill` with its numbers, or `replay`
-/// or `usage`.
+/// What the words of `placement` say: the journal, the address and port as numbers, whether it is new, the sessions.
+fn placed(alloc: Global, words: PlacementWords) -> Result<String, Fail> {
+    let journal = words.journal;
+    let ip = words.listen.ip;
+    let port = words.listen.port;
+    let is_new = words.is_new;
+    let sessions = words.sessions.unwrap_or(0);
+    Ok(format!(in alloc; "[{journal}] {ip} {port} {is_new} {sessions}")?)
+}
+
+/// What a line says: the texts of `schedule` with its count, each in brackets, `drill` with its numbers, what
+/// `placement` says, or `replay` or `usage`.
 fn said(alloc: Global, line: &str) -> Result<String, Fail> {
     let words = words_of(alloc, line)?;
     let text = match read_words(alloc, words.as_slice()) {
@@ -32,6 +42,7 @@ fn said(alloc: Global, line: &str) -> Result<String, Fail> {
             let steps = d.steps;
             format!(in alloc; "drill {seed} {steps}")?
         }
+        Ok(CommandWords::Placement(words)) => placed(alloc, words)?,
         Err(WordsError::Usage) => String::from_str(alloc, "usage")?,
         Err(WordsError::OutOfMemory) => String::from_str(alloc, "memory")?,
     };
@@ -44,7 +55,7 @@ fn expect(rt: &impl Abort, said: &String, wanted: &str, line: &str) {
 
 #[test]
 fn words_with_a_reading(rt: HostRuntime) -> Result<(), Fail> {
-    let table: [(&str, &str); 22] = [
+    let table: [(&str, &str); 26] = [
         ("replay", "replay"),
         ("schedule --now x", "[x] [] [] [] 10"),
         ("schedule --now=x", "[x] [] [] [] 10"),
@@ -79,6 +90,22 @@ fn words_with_a_reading(rt: HostRuntime) -> Result<(), Fail> {
             "drill 18446744073709551615 7",
         ),
         ("drill --seed=000 --steps 1", "drill 0 1"),
+        (
+            "placement --journal j --listen 127.0.0.1:50005",
+            "[j] 2130706433 50005 false 0",
+        ),
+        (
+            "placement --new --listen=0.0.0.0:0 --journal=-j",
+            "[-j] 0 0 true 0",
+        ),
+        (
+            "placement --listen 1.2.3.4:5 --new --sessions 007 --journal j",
+            "[j] 16909060 5 true 7",
+        ),
+        (
+            "placement --journal=j --listen=1.2.3.4:5 --sessions=18446744073709551615",
+            "[j] 16909060 5 false 18446744073709551615",
+        ),
     ];
     let alloc = rt.alloc();
     for (line, wanted) in table {
@@ -89,7 +116,7 @@ fn words_with_a_reading(rt: HostRuntime) -> Result<(), Fail> {
 
 #[test]
 fn words_without_a_reading(rt: HostRuntime) -> Result<(), Fail> {
-    let table: [&str; 50] = [
+    let table: [&str; 61] = [
         "",
         "Replay",
         "replays",
@@ -140,6 +167,17 @@ fn words_without_a_reading(rt: HostRuntime) -> Result<(), Fail> {
         "drill --seed=-1 --steps=1",
         "drill --seed=1 --steps=1x",
         "drill --seed=1 --steps=1 --seed=1",
+        "placement --journal=j",
+        "placement --listen=1.2.3.4:5",
+        "placement --journal= --listen=1.2.3.4:5",
+        "placement --journal=j --listen=1.2.3.4",
+        "placement --journal=j --listen=1.2.3.4:5 --new=true",
+        "placement --journal=j --listen=1.2.3.4:5 --new=",
+        "placement --journal=j --listen=1.2.3.4:5 --new true",
+        "placement --journal=j --listen=1.2.3.4:5 --new --new",
+        "placement --journal=j --listen=1.2.3.4:5 --sessions=0",
+        "placement --journal=j --listen=1.2.3.4:5 --sessions=18446744073709551616",
+        "placement --journal --new --listen=1.2.3.4:5",
     ];
     let alloc = rt.alloc();
     for line in table {

@@ -1,0 +1,50 @@
+// How a server ends, and what it prints.
+ghost use Rattle.std.specs.Prelude.{◌≡◌, ◌<◌, ◌++◌, [], OnOk};
+ghost use Rattle.actors_top.specs.Server.{TellsDamage, damaged_line};
+
+use actor_ports::{PortError, Sink};
+use itoa::Buffer;
+use std::alloc::{AllocError, Global};
+
+/// How a server ends, by the status that the program gives to its caller.
+#[derive(Clone, Copy, Debug, PartialEq, Eq)]
+pub enum ServerStatus {
+    /// As many connections were served as the words say.
+    Done = 0,
+    /// The sink failed while the place of a damage was written.
+    SinkFault = 5,
+    /// The disk wasn't opened, or it failed.
+    DiskFault = 6,
+    /// The port wasn't bound, or it failed.
+    PortFault = 7,
+    /// Out of memory.
+    OutOfMemory = 8,
+    /// The file isn't a journal of this server; the place of the damage was printed.
+    Damaged = 9,
+}
+
+/// Appends the line that says where a journal is damaged.
+fn push_damage(text: &mut Vec<u8>, offset: u64) -> Result<(), AllocError>
+    ensures { OnOk result (text.new.items ≡ text.old.items ++ damaged_line offset) }
+{
+    let mut buffer = Buffer::new();
+    text.extend_from_slice(b"damaged ")?;
+    text.extend_from_slice(buffer.format(offset).as_bytes())?;
+    text.extend_from_slice(b"\n")
+}
+
+/// Prints where a journal is damaged.
+pub(crate) fn tell_damage<W: Sink>(alloc: Global, offset: u64, output: &mut W) -> ServerStatus
+    ensures tells { TellsDamage offset result (W.contents output.old) (W.contents output.new) }
+    ensures cause { result ≡ ServerStatus.SinkFault → W.write_faults output.old < W.write_faults output.new }
+{
+    let mut text = Vec::new(alloc);
+    if push_damage(&mut text, offset).is_err() {
+        return ServerStatus::OutOfMemory;
+    }
+    match output.write(text.as_slice()) {
+        Ok(()) => ServerStatus::Damaged,
+        Err(PortError::Failed) => ServerStatus::SinkFault,
+        Err(PortError::OutOfMemory) => ServerStatus::OutOfMemory,
+    }
+}

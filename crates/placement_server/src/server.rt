@@ -1,0 +1,103 @@
+// The server.
+ghost use Rattle.std.specs.Prelude.{◌≡◌, ◌<◌, ◌≤◌, List, IfOk};
+ghost use Rattle.connection_server.specs.declared.accept.ServerEnd.TheVariants.{PortFault};
+ghost use Rattle.step_gate.specs.declared.view.HistoryEntry.{HistoryEntry};
+ghost use Rattle.step_gate.specs.Gates.{IsSeatOf};
+ghost use Rattle.step_gate.specs.History.{HistoryLeadsTo};
+ghost use Rattle.placement_node.specs.declared.reply.NodeEvent.{NodeEvent};
+ghost use Rattle.placement_node.specs.declared.reply.NodeReply.{NodeReply};
+ghost use Rattle.placement_node.specs.Node.{NodeAllows};
+
+use crate::pass::Pass;
+use crate::service::PlacementService;
+use crate::session::serve_one;
+use actor_names::{Address, OutOfMemory};
+use actor_ports::{Clock, Conn, Dial, Listen};
+use connection_server::{ServerEnd, serve_port};
+use disk_model::Disk;
+use placement_node::PlacementNode;
+use std::alloc::Global;
+use std::sync::Wait;
+use std::sync::atomic::AtomicBool;
+use std::thread::Threads;
+use step_gate::Gate;
+
+/// How a server ended, with its node.
+#[derive(Drop)]
+pub struct PlacementServed<D: Disk> {
+    pub node: PlacementNode<D>,
+    pub end: ServerEnd,
+}
+
+// Serves the placement behind this gate.
+fn serve_at<
+    R: Threads + Wait + Sync,
+    D: Disk + Drop + Send,
+    C: Conn,
+    L: Listen<Link = C>,
+    K: Clock,
+    N: Dial,
+>(
+    rt: &R,
+    alloc: Global,
+    gate: &Gate<PlacementNode<D>>,
+    pass: Pass<D, K, N>,
+    port: L,
+    at: Address,
+    most: Option<u64>,
+) -> (L, ServerEnd)
+    requires { IsSeatOf NodeAllows gate.now pass.seat }
+    ensures never_falls { L.listen_faults port ≤ L.listen_faults result.0 }
+    ensures cause { result.1 ≡ PortFault → L.listen_faults port < L.listen_faults result.0 }
+{
+    let service = PlacementService {
+        gate,
+        at,
+        over: AtomicBool::new(false),
+    };
+    let shared = &service;
+    let serve = |pass: Pass<D, K, N>, conn: C|
+        requires { IsSeatOf NodeAllows shared.now.gate.now pass.seat }
+    { serve_one(rt, alloc, shared, pass, conn) };
+    serve_port(rt, shared, &serve, pass, port, most)
+}
+
+/// Serves the placement at a port until `most` connections were served (without a limit if it is `None`), the node has
+/// lost its disk, or the port fails. Each connection has a thread of its own, and the node is given a Tick every 1,000
+/// milliseconds. If memory runs out before the first connection, the node is dropped.
+pub fn serve_placement<
+    R: Threads + Wait + Sync,
+    D: Disk + Drop + Send,
+    C: Conn,
+    L: Listen<Link = C>,
+    K: Clock,
+    N: Dial,
+>(
+    rt: &R,
+    alloc: Global,
+    node: PlacementNode<D>,
+    port: L,
+    clock: K,
+    net: N,
+    at: Address,
+    most: Option<u64>,
+) -> (L, Result<PlacementServed<D>, OutOfMemory>)
+    ensures never_falls { L.listen_faults port ≤ L.listen_faults result.0 }
+    ensures cause { IfOk result.1 (λ s. s.end ≡ PortFault → L.listen_faults port < L.listen_faults result.0) }
+    ensures history { IfOk result.1 (λ s. (h : List (HistoryEntry NodeEvent NodeReply)) × HistoryLeadsTo NodeAllows node h s.node) }
+{
+    let (gate, seat) = match Gate::new(alloc, node) {
+        Ok(made) => made,
+        Err(error) => return (port, Err(error)),
+    };
+    let mut seat = seat;
+    let own = gate.split_in(&mut seat);
+    let pass = Pass {
+        seat: own,
+        clock,
+        net,
+    };
+    let (port, end) = serve_at(rt, alloc, &gate, pass, port, at, most);
+    let node = gate.close(rt, seat);
+    (port, Ok(PlacementServed { node, end }))
+}

@@ -1,0 +1,10 @@
+pub mod Scripts
+pub mod Replay
+pub mod Headline
+pub mod Told
+pub mod Status
+pub mod EndsTold
+pub mod SetupTold
+pub mod ReplayTold
+pub mod Schedule
+pub mod Drilled
