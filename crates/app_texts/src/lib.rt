@@ -34,6 +34,3 @@ pub use peer::{PeerCall, peer_request};
 pub use peer_reply::{PeerReply, read_peer_reply};
 pub use plain::{config_request, deactivate_request};
 pub use word::{RefusalWord, read_word};
-
-#[cfg(test)]
-mod tests;
