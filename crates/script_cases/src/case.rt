@@ -53,8 +53,7 @@ impl Case {
 
     /// The status of the run, and what it wrote; `None` if there was no memory for the source or the sink.
     pub fn run(&self, alloc: Global) -> Option<(u8, MemSink)> {
-        let mut input =
-            MemSource::new(alloc, self.input.as_slice(), self.reads.as_slice()).ok()?;
+        let mut input = MemSource::new(alloc, self.input.as_slice(), self.reads.as_slice()).ok()?;
         let mut output = MemSink::new(alloc, self.writes.as_slice()).ok()?;
         let status = run_plain(alloc, self.words.as_slice(), &mut input, &mut output);
         Some((status, output))
