@@ -7,23 +7,15 @@
 #![tactic(auto)]
 
 mod cluster_script;
-#[cfg(test)]
-mod cluster_tests;
 mod drill;
-#[cfg(test)]
-mod drill_tests;
 mod line_end;
 mod plain;
 mod replay;
 mod schedule;
-#[cfg(test)]
-mod schedule_tests;
 mod script;
 mod setup;
 mod solo_script;
 mod status;
-#[cfg(test)]
-mod tests;
 mod text;
 
 pub use plain::run_plain;

@@ -13,14 +13,10 @@ mod depth;
 mod error;
 mod first_line;
 mod line_buffer;
-#[cfg(test)]
-mod line_tests;
 mod lines;
 mod members;
 mod names;
 mod numbers;
-#[cfg(test)]
-mod outcome_tests;
 mod outcomes;
 mod restarts;
 mod setting;

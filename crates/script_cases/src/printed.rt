@@ -1,0 +1,45 @@
+// What is printed of a case.
+use crate::case::Case;
+use std::alloc::Global;
+use std::io;
+use std::io::Write;
+
+/// The greatest length of a text that is printed whole, in bytes.
+const MOST_BYTES: usize = 4_096;
+
+/// How many bytes are printed of either end of a longer text.
+const END: usize = 40;
+
+/// Runs a case, and prints its name, its status and what it wrote.
+pub fn print_case<W: Write>(alloc: Global, text: &str, out: &mut W) -> io::Result<()> {
+    let name = text.split('\n').next().unwrap_or("");
+    writeln!(out, "== {name}")?;
+    let Some(case) = Case::read(alloc, text) else {
+        return writeln!(out, "no case");
+    };
+    let Some((status, output)) = case.run(alloc) else {
+        return writeln!(out, "no memory");
+    };
+    writeln!(out, "status {status}")?;
+    print_text(output.bytes(), out)
+}
+
+/// Prints a text, or of a long one its length and both of its ends.
+fn print_text<W: Write>(text: &[u8], out: &mut W) -> io::Result<()> {
+    let length = text.len();
+    if length <= MOST_BYTES {
+        return print_piece(text, out);
+    }
+    writeln!(out, "\\{length} bytes, first and last:")?;
+    print_piece(&text[..END], out)?;
+    print_piece(&text[length - END..], out)
+}
+
+/// Prints bytes. A backslash and a line feed follow if their last line has no end.
+fn print_piece<W: Write>(bytes: &[u8], out: &mut W) -> io::Result<()> {
+    out.write_all(bytes)?;
+    match bytes.last() {
+        None | Some(b'\n') => Ok(()),
+        Some(_) => out.write_all(b"\\\n"),
+    }
+}
