@@ -40,6 +40,3 @@ pub use store_command::{Stamp, StateOps, StoreCommand};
 pub use store_commands::MOST_DUE;
 pub use store_refusal::StoreRefusal;
 pub use writer::write_frame;
-
-#[cfg(test)]
-mod tests;

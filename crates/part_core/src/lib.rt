@@ -32,6 +32,3 @@ pub use law::{part_law, part_turns_law};
 pub use part::Part;
 pub use receipt::{Receipt, SeenStage};
 pub use settings::{PartSettings, TypeList, TypeSettings};
-
-#[cfg(test)]
-mod tests;

@@ -38,62 +38,6 @@ fn owner_node<'a>(table: &'a Table, key: &ActorKey) -> &'a [u8] {
 }
 
 #[test]
-fn key_hash_of_known_texts(rt: HostRuntime) -> Result<(), Fail> {
-    let abc = read_actor_id(rt.alloc(), b"abc")?;
-    let hello = read_actor_id(rt.alloc(), b"hello")?;
-    assert_eq!(rt; key_hash(&abc), 0xba7816bf8f01cfea);
-    assert_eq!(rt; key_hash(&hello), 0x2cf24dba5fb0a30e);
-    assert_eq!(rt; part_of(&abc, 4), 2);
-    assert_eq!(rt; part_of(&hello, 4), 2);
-    Ok(())
-}
-
-#[test]
-fn ring_pick_takes_successor(rt: HostRuntime) -> Result<(), Fail> {
-    let node = |text: &[u8]| read_node(text);
-    let points = [
-        Point {
-            place: 10,
-            node: node(b"b")?,
-        },
-        Point {
-            place: 10,
-            node: node(b"a")?,
-        },
-        Point {
-            place: 90,
-            node: node(b"c")?,
-        },
-    ];
-    assert_eq!(rt; ring_pick(&points, 10), Some(1));
-    assert_eq!(rt; ring_pick(&points, 11), Some(2));
-    assert_eq!(rt; ring_pick(&points, 91), Some(1));
-    assert_eq!(rt; ring_pick(&[], 10), None);
-    Ok(())
-}
-
-// The node that two hosts have, or nothing.
-fn same_node(fault: &TableError) -> &[u8] {
-    match fault {
-        TableError::SameNode { name } => name.as_slice(),
-        _ => &[],
-    }
-}
-
-#[test]
-fn build_table_refuses_same_node(rt: HostRuntime) -> Result<(), Fail> {
-    let alloc = rt.alloc();
-    let mut hosts = some_hosts(alloc)?;
-    hosts.push(host(alloc, b"c/2", &[])?)?;
-    hosts.push(host(alloc, b"a/2", &[])?)?;
-    let fault = build_table(alloc, &default_space(), 1, hosts.as_slice())
-        .err()
-        .ok_or("a table")?;
-    assert_eq!(rt; same_node(&fault), b"c".as_slice());
-    Ok(())
-}
-
-#[test]
 fn first_host_takes_every_key(rt: HostRuntime) -> Result<(), Fail> {
     let alloc = rt.alloc();
     let first = host(alloc, b"a/1", &[b"counter"])?;
@@ -135,72 +79,6 @@ fn owners_are_those_of_another_sha256(rt: HostRuntime) -> Result<(), Fail> {
     let nobody = read_key(alloc, b"cart/7")?;
     assert!(rt; table.owner_uncounted(&nobody).is_none());
     assert_eq!(rt; table.version(), 3);
-    Ok(())
-}
-
-// The points of the hosts that serve the type, in the order of the hosts.
-fn all_points(alloc: Global, hosts: &[HostInfo], kind: &ActorType) -> Result<Vec<Point>, Fail> {
-    let mut points = Vec::new(alloc);
-    for host in hosts {
-        let node = host.member.node;
-        for served in host.kinds.as_slice() {
-            if served.as_slice() == kind.as_slice() {
-                for i in 0..100 {
-                    let place = point_place(&node, i);
-                    points.push(Point { place, node })?;
-                }
-            }
-        }
-    }
-    Ok(points)
-}
-
-// Of the ids from 0 on: how many have a place after the last point of the type, and how many the table gives to another
-// host than a scan of all points does.
-fn compare_owners(alloc: Global, table: &Table, kind: &[u8], ids: u32) -> Result<(u32, u32), Fail> {
-    let kind = read_actor_type(alloc, kind)?;
-    let points = all_points(alloc, table.hosts(), &kind)?;
-    let mut wrapped: u32 = 0;
-    let mut other: u32 = 0;
-    for number in 0..ids {
-        let id = format!(in alloc; "{number}")?;
-        let key = ActorKey {
-            space: default_space(),
-            kind: kind.copy(alloc)?,
-            id: read_actor_id(alloc, id.as_bytes())?,
-        };
-        let place = key_hash(&key.id);
-        if points.iter().all(|p| p.place < place) {
-            wrapped = wrapped.saturating_add(1);
-        }
-        let pick = ring_pick(points.as_slice(), place).ok_or("no point")?;
-        let point = points.get(pick).ok_or("no such point")?;
-        if owner_node(table, &key) != point.node.as_slice() {
-            other = other.saturating_add(1);
-        }
-    }
-    Ok((wrapped, other))
-}
-
-// How many ids have a place after the last point was computed by another SHA-256.
-#[test]
-fn search_gives_what_a_scan_gives(rt: HostRuntime) -> Result<(), Fail> {
-    let alloc = rt.alloc();
-    let table = build_table(alloc, &default_space(), 1, some_hosts(alloc)?.as_slice())?;
-    assert_eq!(rt; compare_owners(alloc, &table, b"counter", 1000)?, (1, 0));
-    assert_eq!(rt; compare_owners(alloc, &table, b"timer", 5000)?, (5, 0));
-    Ok(())
-}
-
-#[test]
-fn copies_have_the_types(rt: HostRuntime) -> Result<(), Fail> {
-    let alloc = rt.alloc();
-    let copy = host(alloc, b"a/1", &[b"counter", b"timer"])?.copy(alloc)?;
-    let kinds = copy.kinds.copy(alloc)?.into_vec();
-    assert_eq!(rt; kinds.len(), 2);
-    assert_eq!(rt; kinds[1].as_slice(), b"timer".as_slice());
-    let fault = TableError::TooManyMembers { n: 257 };
-    assert_eq!(rt; fault.to_string(alloc)?.as_str(), "257 members");
     Ok(())
 }
 

@@ -25,6 +25,4 @@ pub use restore::RestoreError;
 pub use room::Room;
 
 #[cfg(test)]
-mod restore_tests;
-#[cfg(test)]
 mod tests;

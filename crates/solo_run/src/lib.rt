@@ -8,8 +8,6 @@
 mod calling;
 mod interner;
 mod law;
-#[cfg(test)]
-mod tests;
 mod turns;
 mod types;
 mod world;

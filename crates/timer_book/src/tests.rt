@@ -79,12 +79,6 @@ fn finish(
     Ok(book.finished(&key, &name, number, at(milliseconds)?))
 }
 
-fn delete(alloc: Global, book: &mut TimerBook) -> Result<bool, Fail> {
-    let key = read_key(alloc, b"bell/1")?;
-    let name = read_record_name(alloc, b"a")?;
-    Ok(book.delete(&key, &name))
-}
-
 #[test]
 fn timer_period_counts_from_callback_end(rt: HostRuntime) -> Result<(), Fail> {
     let mut book = TimerBook::new(rt.alloc());
@@ -116,53 +110,6 @@ fn copies_have_the_same_texts(rt: HostRuntime) -> Result<(), Fail> {
 }
 
 #[test]
-fn old_registration_changes_nothing(rt: HostRuntime) -> Result<(), Fail> {
-    let mut book = TimerBook::new(rt.alloc());
-    assert_eq!(rt; set(rt.alloc(), &mut book, "1s", "5s", "")?, 1);
-    assert_eq!(rt; set(rt.alloc(), &mut book, "2s", "5s", "")?, 2);
-    assert!(rt; !start(rt.alloc(), &mut book, 1)?);
-    assert_eq!(rt; finish(rt.alloc(), &mut book, 1, 1000)?, Next::Done);
-    assert_eq!(rt; due(&book, 2000)?, Some((2, 2000)));
-    assert!(rt; delete(rt.alloc(), &mut book)?);
-    assert!(rt; !delete(rt.alloc(), &mut book)?);
-    Ok(())
-}
-
-#[test]
-fn schedule_without_moment_leaves_no_timer(rt: HostRuntime) -> Result<(), Fail> {
-    let mut book = TimerBook::new(rt.alloc());
-    assert_eq!(rt; set(rt.alloc(), &mut book, "1s", "5s", "")?, 1);
-    assert_eq!(rt; set(rt.alloc(), &mut book, "2s", "5s", "1s")?, 2);
-    assert!(rt; !delete(rt.alloc(), &mut book)?);
-    assert_eq!(rt; set(rt.alloc(), &mut book, "3s", "", "")?, 3);
-    assert_eq!(rt; due(&book, 3000)?, Some((3, 3000)));
-    Ok(())
-}
-
-#[test]
-fn least_key_then_name_is_due_first(rt: HostRuntime) -> Result<(), Fail> {
-    let timers: [(&[u8], &[u8]); 5] = [
-        (b"bell/2", b"a"),
-        (b"bell/1", b"b"),
-        (b"bell/10", b"a"),
-        (b"bell/1", b"a"),
-        (b"a/9", b"z"),
-    ];
-    let mut book = TimerBook::new(rt.alloc());
-    for (key, name) in timers {
-        let _number = set_once(rt.alloc(), &mut book, key, name)?;
-    }
-    assert_eq!(rt; due(&book, 2000)?, Some((5, 2000)));
-    book.drop_actor(&read_key(rt.alloc(), b"a/9")?);
-    assert_eq!(rt; due(&book, 2000)?, Some((4, 2000)));
-    assert!(rt; delete(rt.alloc(), &mut book)?);
-    assert_eq!(rt; due(&book, 2000)?, Some((2, 2000)));
-    book.drop_actor(&read_key(rt.alloc(), b"bell/1")?);
-    assert_eq!(rt; due(&book, 2000)?, Some((3, 2000)));
-    Ok(())
-}
-
-#[test]
 fn actor_has_at_most_1024_timers(rt: HostRuntime) -> Result<(), Fail> {
     let mut book = TimerBook::new(rt.alloc());
     for i in 0..1024u64 {
@@ -176,33 +123,5 @@ fn actor_has_at_most_1024_timers(rt: HostRuntime) -> Result<(), Fail> {
     assert_eq!(rt; other, Ok(1025));
     let again = set_once(rt.alloc(), &mut book, b"bell/1", b"n7")?;
     assert_eq!(rt; again, Ok(1026));
-    Ok(())
-}
-
-// Whether it carries what `timer` made.
-fn carries(due: &DueTimer) -> bool {
-    due.key.kind.as_slice() == b"bell".as_slice()
-        && due.key.id.as_slice() == b"1".as_slice()
-        && due.name.as_slice() == b"a".as_slice()
-        && due.timer.callback.as_str() == "ring"
-        && due.timer.due.as_str() == "1s"
-        && due.timer.period.as_str() == "R2/PT5S"
-        && due.timer.schedule.left == Some(2)
-        && due.timer.payload.is_some()
-}
-
-#[test]
-fn due_timer_carries_what_was_set(rt: HostRuntime) -> Result<(), Fail> {
-    let mut book = TimerBook::new(rt.alloc());
-    assert_eq!(rt; set(rt.alloc(), &mut book, "1s", "R2/PT5S", "")?, 1);
-    let due = book.due(at(1000)?)?.ok_or("nothing is due")?;
-    assert!(rt; carries(&due));
-    Ok(())
-}
-
-#[test]
-fn text_gives_its_string_back(rt: HostRuntime) -> Result<(), Fail> {
-    let text = text(rt.alloc(), "ring")?;
-    assert_eq!(rt; text.into_string().as_str(), "ring");
     Ok(())
 }

@@ -8,8 +8,6 @@ mod answer;
 mod cell;
 mod law;
 mod line;
-#[cfg(test)]
-mod tests;
 mod turns;
 
 pub use answer::{Asked, CellEnd, CellError, CellPoll, NotHeld};

@@ -15,6 +15,3 @@ mod run;
 
 pub use counts::DrillCounts;
 pub use run::drill;
-
-#[cfg(test)]
-mod tests;
