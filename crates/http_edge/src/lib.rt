@@ -27,6 +27,3 @@ pub use law::{reply_law, request_law};
 pub use message::{HttpField, HttpFields, HttpRequest, HttpResponse};
 pub use reader::RequestReader;
 pub use writing::write_response;
-
-#[cfg(test)]
-mod tests;
