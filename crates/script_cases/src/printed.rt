@@ -31,8 +31,22 @@ fn print_text<W: Write>(text: &[u8], out: &mut W) -> io::Result<()> {
         return print_piece(text, out);
     }
     writeln!(out, "\\{length} bytes, first and last:")?;
-    print_piece(&text[..END], out)?;
-    print_piece(&text[length - END..], out)
+    print_piece(first_bytes(text), out)?;
+    print_piece(last_bytes(text), out)
+}
+
+fn first_bytes(text: &[u8]) -> &[u8] {
+    match text.split_at_checked(END) {
+        Some((first, _)) => first,
+        None => text,
+    }
+}
+
+fn last_bytes(text: &[u8]) -> &[u8] {
+    match text.split_at_checked(text.len().saturating_sub(END)) {
+        Some((_, last)) => last,
+        None => text,
+    }
 }
 
 /// Prints bytes. A backslash and a line feed follow if their last line has no end.
