@@ -15,11 +15,3 @@ pub(crate) fn bytes_of(alloc: Global, text: &str) -> Option<Vec<u8>> {
     }
     Some(bytes)
 }
-
-/// The bytes of a frame behind its length.
-pub(crate) fn behind_length(bytes: &[u8]) -> &[u8] {
-    if bytes.len() < 4 {
-        return bytes;
-    }
-    &bytes[4..]
-}

@@ -1,4 +1,5 @@
 // Streams that are read in two pieces and written again.
+use crate::words::{add, add_number};
 use frame_wire::{FrameError, FrameReader, write_frame};
 use std::alloc::Global;
 
@@ -24,35 +25,40 @@ pub(crate) fn written_again(
 }
 
 /// Whether the frames are written as they came, or their fault.
-pub(crate) fn again(alloc: Global, bytes: &[u8]) -> Option<String> {
+pub(crate) fn again(alloc: Global, bytes: &[u8], text: &mut String) -> Option<()> {
     match written_again(alloc, bytes, b"") {
-        Ok(out) if out.as_slice() == bytes => String::from_str(alloc, "again").ok(),
-        Ok(_) => String::from_str(alloc, "otherwise").ok(),
-        Err(_) => told_twice(alloc, bytes),
+        Ok(out) if out.as_slice() == bytes => add("again", text),
+        Ok(_) => add("otherwise", text),
+        Err(_) => told_twice(alloc, bytes, text),
     }
 }
 
-// The fault of these bytes, and what the reader answers to one byte more; how many frames it gives then.
-fn told_twice(alloc: Global, bytes: &[u8]) -> Option<String> {
+fn add_error(alloc: Global, error: FrameError, text: &mut String) -> Option<()> {
+    add(format!(in alloc; "{error}").ok()?.as_str(), text)
+}
+
+// The fault of these bytes, and what the reader answers to one byte more; it gives no frame.
+fn told_twice(alloc: Global, bytes: &[u8], text: &mut String) -> Option<()> {
     let mut reader = FrameReader::new(alloc);
-    let first = reader.feed(bytes).err()?;
-    let second = reader.feed(b"\x00").err()?;
-    if reader.next().is_some() {
-        return None;
+    add_error(alloc, reader.feed(bytes).err()?, text)?;
+    add("; ", text)?;
+    add_error(alloc, reader.feed(b"\x00").err()?, text)?;
+    match reader.next() {
+        None => Some(()),
+        Some(_) => None,
     }
-    format!(in alloc; "{first}; {second}").ok()
 }
 
-/// At how many cuts a stream is written as it came.
-pub(crate) fn cuts(alloc: Global, bytes: &[u8]) -> Option<String> {
-    let mut same = 0u64;
-    let all = bytes.len();
-    for at in 0..all {
+/// At how many cuts a stream is written as it came, and how many there are.
+pub(crate) fn cuts(alloc: Global, bytes: &[u8], text: &mut String) -> Option<()> {
+    let mut same = 0usize;
+    for at in 0..bytes.len() {
         if is_same(alloc, bytes, at) {
             same = same.saturating_add(1);
         }
     }
-    format!(in alloc; "{same} of {all}").ok()
+    add_number(alloc, same, text)?;
+    add_number(alloc, bytes.len(), text)
 }
 
 fn is_same(alloc: Global, bytes: &[u8], at: usize) -> bool {
