@@ -34,6 +34,3 @@ pub use member::{MOST_BOOT, Member, member_fault, read_member};
 pub use name::{Name, NameForm};
 pub use short_name::{ShortForm, ShortName};
 pub use spaced::default_space;
-
-#[cfg(test)]
-mod tests;

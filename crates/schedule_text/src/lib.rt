@@ -26,6 +26,3 @@ pub use moment::Moment;
 pub use moment_printing::print_moment;
 pub use moment_reading::read_moment;
 pub use reading::read_schedule;
-
-#[cfg(test)]
-mod tests;
