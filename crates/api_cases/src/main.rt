@@ -7,8 +7,8 @@
 //     member KEY BYTES                         the same of the member with this key
 //     item INDEX BYTES                         the same of the item there
 //     quoted BYTES                             the text in quotes
-//     array PIECE ..                           the text of an array; a piece is `kept:TEXT`, `text:TEXT`, `natural:NUMBER`
-//                                              or `null:`
+//     array PIECE ..                           the text of an array; a piece is `kept:TEXT`, `text:TEXT`, `null:` or
+//                                              `natural:NUMBER`
 //     object KEY=PIECE ..                      the text of an object
 //     operations BYTES                         the operations of a transaction
 //     deep COUNT                               the same of one that sets a value of so many arrays
@@ -19,7 +19,7 @@
 //     peer METHOD|TARGET|NAME|VALUE|BYTES      the same of another sidecar's request
 //     refusal NAME NUMBER ..                   the status and the body of a refusal; `Moved` is at the versions 1 to 8
 //     refused NAME NUMBER ..                   how many fields another sidecar is told of it, and the last one
-//     elsewhere VERSION MEMBER APP ADDRESS     status and number of fields of a reply that names an owner, and the owner
+//     elsewhere VERSION MEMBER APP ADDRESS     status and number of fields of a reply with an owner, and the owner
 //     room METHOD|TARGET                       the space whose room a request asks for
 //     state VERSION MEMBER|APP|TYPES ..        the body for a room with these hosts
 //
