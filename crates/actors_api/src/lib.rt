@@ -28,6 +28,3 @@ pub use refusal::{ApiName, ApiRefusal, edge_refusal, timer_refusal};
 pub use reply::ApiReply;
 pub use response::write_api;
 pub use side::Side;
-
-#[cfg(test)]
-mod tests;

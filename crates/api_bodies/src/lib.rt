@@ -16,6 +16,3 @@ pub use error::BodyError;
 pub use record::{read_reminder, read_timer};
 pub use told::write_reminder;
 pub use transaction::read_ops;
-
-#[cfg(test)]
-mod tests;

@@ -13,6 +13,3 @@ mod writing;
 pub use error::JsonError;
 pub use value::{Json, JsonRef};
 pub use writing::{Member, Piece, array_text, object_text, quoted_text};
-
-#[cfg(test)]
-mod tests;

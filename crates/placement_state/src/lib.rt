@@ -9,6 +9,3 @@ mod text;
 
 pub use route::space_asked;
 pub use text::state_text;
-
-#[cfg(test)]
-mod tests;
