@@ -1,0 +1,7 @@
+pub mod Outcomes
+pub mod Texts
+pub mod Turns
+pub mod Hops
+pub mod Serving
+pub mod PeerReads
+pub mod Causes
