@@ -14,3 +14,4 @@ mod Rowed
 mod Staged
 mod Compacting
 mod Replacing
+mod Paired

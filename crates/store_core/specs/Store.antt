@@ -10,7 +10,7 @@ use Rattle.store_tables.specs.Contents.{Timed, outcome_of}
 use Rattle.tx_journal.specs.declared.error.JournalError.{JournalError}
 use Rattle.tx_journal.specs.declared.error.JournalError.TheVariants.{DiskFault, Damaged, TooLong, Full, Reopen, NotStarted, OneDisk, Spent, OutOfMemory}
 use Rattle.tx_journal.specs.Journal.{Rises}
-use Rattle.tx_journal.specs.Calls.{JournalState, told, append_refusal, generation_with, Commits, Committed}
+use Rattle.tx_journal.specs.Calls.{JournalState, told, is_alone, append_refusal, generation_with, Commits, Committed}
 use Rattle.tx_journal.specs.Pair.{Files, Holds, LeavesOpened, SinceOpened}
 use Rattle.store_payloads.specs.Fits.{TablesFit}
 use Rattle.store_payloads.specs.Payloads.{command_payload}
@@ -25,10 +25,11 @@ pub record StoreState : Type 0 where
 abbrev pub IsConsistent : JournalState → Tables → Type 0
 IsConsistent j t = j.is_broken ≡ false → (files : Files) → told j ≡ Some files → (payloads : List (List ℕ)) × Holds payloads files × (contents_of payloads ≡ Some t)
 
--- what is true of every store
+-- what is true of every store; it has both of its files
 pub record IsWhole (j : JournalState) (t : Tables) : Type 0 where
   pub consistent : IsConsistent j t
   pub fits : TablesFit t
+  pub paired : is_alone j.other ≡ false
 
 -- whatever a crash leaves now opens with these contents
 abbrev pub Leaves : Tables → StoreState → Type 0

@@ -1,5 +1,5 @@
 // The store.
-ghost use Rattle.std.specs.Prelude.{◌≡◌, ◌⊎◌, false, true, None, Some, option_map, IfOk, IfErr, IfSome, IfNone};
+ghost use Rattle.std.specs.Prelude.{◌≡◌, ◌≢◌, ◌⊎◌, false, true, None, Some, option_map, IfOk, IfErr, IfSome, IfNone};
 ghost use Rattle.disk_model.specs.Disk.{Tells};
 ghost use Rattle.frame_wire.specs.Store.{AnswerFits};
 ghost use Rattle.frame_wire.specs.StoreParts.{StoreRefusalFits};
@@ -164,8 +164,9 @@ impl<D: Disk> Store<D> {
         self.journal.second()
     }
 
-    /// Ends the store and hands back its disks, as they are.
+    /// Ends the store and hands back its disks, as they are. Both are there.
     pub fn close(self) -> (D, Option<D>)
+        ensures both { result.1 ≢ None }
         ensures first { record { told = D.told result.0; faults = D.disk_faults result.0 } ≡ first_side self.journal }
         ensures second { option_map (λ d. record { told = D.told d; faults = D.disk_faults d }) result.1 ≡ second_side self.journal }
     {

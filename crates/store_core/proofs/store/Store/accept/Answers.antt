@@ -5,6 +5,7 @@ use Rattle.store_tables.specs.Contents.{Timed, outcome_of}
 use Rattle.store_payloads.specs.Payloads.{command_payload}
 use Rattle.store_core.specs.Store.{StoreState, IsWhole, Written}
 use Rattle.store_core.proofs.Steps.{takes, accepted_is, answer_fits, moves-ran-out, moves-refused, moves-written, consistent-refused, consistent-written}
+use Rattle.store_core.proofs.Paired.{written_paired}
 use Rattle.store_core.proofs.store.Store.accept.Goals as goal
 
 pub returns-then-is_err-clause-moves : goal.returns-then-is_err-clause-moves
@@ -18,7 +19,7 @@ pub prepare-requires-clause-accepted : goal.prepare-requires-clause-accepted
 prepare-requires-clause-accepted g c = ap (λ (s : StoreState). told_in (outcome_of s.contents (record { now = c.args.now; command = c.args.command }))) c.self.view_is ∙ c.requires.accepted
 
 pub invariant_of-self : goal.invariant_of-self
-invariant_of-self g c = subst (IsWhole c.self.inside.journal) (sym c.prepare.ensures.tables) (record { consistent = c.self.invariant.consistent; fits = c.self.invariant.fits })
+invariant_of-self g c = subst (IsWhole c.self.inside.journal) (sym c.prepare.ensures.tables) (record { consistent = c.self.invariant.consistent; fits = c.self.invariant.fits; paired = c.self.invariant.paired })
 
 pub returns-in_default-clause-moves : goal.returns-in_default-clause-moves
 returns-in_default-clause-moves g c =
@@ -43,6 +44,7 @@ invariant_of-self-in-Some g c =
     (record {
       consistent = consistent-refused c.self.inside.tables.tables c.self.inside.journal c.self.invariant.consistent works timed c.payload_law.ensures.commands c.requires.may o.0 o.1 o.2 c.in-Some.refusal c.write.new.journal written;
       fits = c.self.invariant.fits;
+      paired = written_paired (command_payload timed) (Some c.in-Some.refusal) c.self.inside.journal c.write.new.journal c.self.invariant.paired written;
     })
 
 pub returns-in-Some-clause-moves : goal.returns-in-Some-clause-moves
@@ -74,6 +76,7 @@ invariant_of-self-2 g c =
     record {
       consistent = consistent-written c.self.inside.tables.tables c.self.inside.journal c.self.invariant.consistent works timed c.payload_law.ensures.commands c.requires.may c.apply.result c.apply.new.self.tables o c.write.new.journal written;
       fits = c.payload_law.ensures.fits c.self.inside.tables.tables timed c.apply.result c.apply.new.self.tables c.requires.may o c.self.invariant.fits;
+      paired = written_paired (command_payload timed) None c.self.inside.journal c.write.new.journal c.self.invariant.paired written;
     }
 
 pub returns-clause-moves : goal.returns-clause-moves

@@ -12,6 +12,7 @@ pub invariant_of-result : goal.invariant_of-result
 invariant_of-result g c = record {
   consistent = opened_consistent c.args.create _ c.in-Ok.journal c.in-Ok.ensures.opened c.in-Ok-read_tables.tables.tables c.read_tables.new.journal (told_read c.in-Ok.journal c.read_tables.new.journal c.read_tables.ensures.same) c.in-Ok-read_tables.ensures.read;
   fits = c.in-Ok-read_tables.ensures.fits;
+  paired = ap (λ (k : JournalState). is_alone k.other) c.read_tables.ensures.same ∙ c.in-Ok.ensures.state.1;
 }
 
 pub returns-in-Ok-read_tables-clause-opened : goal.returns-in-Ok-read_tables-clause-opened
