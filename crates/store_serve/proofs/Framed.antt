@@ -6,7 +6,6 @@ use Rattle.frame_wire.specs.declared.store_command.StoreCommand.{StoreCommand}
 use Rattle.frame_wire.specs.declared.store_answer.StoreAnswer.{StoreAnswer}
 use Rattle.frame_wire.specs.Frames.{payload}
 use Rattle.frame_wire.specs.Store.{command, AnswerFits}
-use Rattle.store_payloads.specs.Laws.{MayCome}
 use Rattle.store_core.specs.declared.events.StoreEvent.{StoreEvent}
 use Rattle.store_core.specs.declared.events.StoreEvent.TheVariants.{Command}
 use Rattle.store_core.specs.declared.events.StoreOutcome.{StoreOutcome}
