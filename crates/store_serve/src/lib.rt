@@ -10,6 +10,3 @@ mod session;
 
 pub use law::store_serve_law;
 pub use session::{StoreFrames, store_session};
-
-#[cfg(test)]
-mod tests;
