@@ -1,0 +1,4 @@
+mod Answering
+mod Dialled
+mod Fitting
+mod Examples
