@@ -1,0 +1,4 @@
+pub mod Asks
+pub mod Outcomes
+pub mod Serving
+pub mod Causes
