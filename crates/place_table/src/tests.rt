@@ -38,6 +38,62 @@ fn owner_node<'a>(table: &'a Table, key: &ActorKey) -> &'a [u8] {
 }
 
 #[test]
+fn key_hash_of_known_texts(rt: HostRuntime) -> Result<(), Fail> {
+    let abc = read_actor_id(rt.alloc(), b"abc")?;
+    let hello = read_actor_id(rt.alloc(), b"hello")?;
+    assert_eq!(rt; key_hash(&abc), 0xba7816bf8f01cfea);
+    assert_eq!(rt; key_hash(&hello), 0x2cf24dba5fb0a30e);
+    assert_eq!(rt; part_of(&abc, 4), 2);
+    assert_eq!(rt; part_of(&hello, 4), 2);
+    Ok(())
+}
+
+#[test]
+fn ring_pick_takes_successor(rt: HostRuntime) -> Result<(), Fail> {
+    let node = |text: &[u8]| read_node(text);
+    let points = [
+        Point {
+            place: 10,
+            node: node(b"b")?,
+        },
+        Point {
+            place: 10,
+            node: node(b"a")?,
+        },
+        Point {
+            place: 90,
+            node: node(b"c")?,
+        },
+    ];
+    assert_eq!(rt; ring_pick(&points, 10), Some(1));
+    assert_eq!(rt; ring_pick(&points, 11), Some(2));
+    assert_eq!(rt; ring_pick(&points, 91), Some(1));
+    assert_eq!(rt; ring_pick(&[], 10), None);
+    Ok(())
+}
+
+// The node that two hosts have, or nothing.
+fn same_node(fault: &TableError) -> &[u8] {
+    match fault {
+        TableError::SameNode { name } => name.as_slice(),
+        _ => &[],
+    }
+}
+
+#[test]
+fn build_table_refuses_same_node(rt: HostRuntime) -> Result<(), Fail> {
+    let alloc = rt.alloc();
+    let mut hosts = some_hosts(alloc)?;
+    hosts.push(host(alloc, b"c/2", &[])?)?;
+    hosts.push(host(alloc, b"a/2", &[])?)?;
+    let fault = build_table(alloc, &default_space(), 1, hosts.as_slice())
+        .err()
+        .ok_or("a table")?;
+    assert_eq!(rt; same_node(&fault), b"c".as_slice());
+    Ok(())
+}
+
+#[test]
 fn first_host_takes_every_key(rt: HostRuntime) -> Result<(), Fail> {
     let alloc = rt.alloc();
     let first = host(alloc, b"a/1", &[b"counter"])?;
