@@ -1,0 +1,5 @@
+pub mod Faults
+pub mod Goings
+pub mod Causes
+pub mod Takings
+pub mod Laws

@@ -1,0 +1,5 @@
+pub mod Callbacks
+pub mod Timers
+pub mod Ends
+pub mod Ticks
+pub mod Laws
