@@ -1,0 +1,10 @@
+mod Turns
+mod Reports
+mod Runs
+mod Pages
+mod Faults
+mod Listings
+mod Replies
+mod PartCauses
+mod StoreCauses
+mod Examples
