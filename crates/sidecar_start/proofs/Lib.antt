@@ -1,0 +1,5 @@
+mod Carryings
+mod Examples
+mod Fitting
+mod Starts
+mod Tries

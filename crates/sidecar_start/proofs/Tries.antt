@@ -1,0 +1,117 @@
+-- What one dial comes to, whatever is exchanged, and how tries follow each other.
+use Rattle.std.proofs.Common.{sym, refl, ap, subst, ◌∙◌, ◌≡◌, ◌<◌, ◌≤◌, ◌-◌, ℕ, List, [], ◌∷◌, ◌++◌, Option, Some, None, Result, Ok, Err, arith}
+use Rattle.std.proofs.lemmas.List.{append-nil}
+use Rattle.actor_ports.specs.declared.port.PortError.TheVariants as ports
+use Rattle.actor_ports.specs.Traffic.{Place, Traffic, Dialled, Returned, Dials, IsNewLink, TakesBack, Counts, returned}
+use Rattle.http_edge.specs.Carry.{Carried, Over}
+use Rattle.link_exchange.specs.Exchanges.{Exchange, Tells, Dialling}
+use Rattle.link_exchange.proofs.Diallings.{none_made, dialling_then}
+use Rattle.sidecar_start.specs.declared.end.StartEnd.{StartEnd}
+use Rattle.sidecar_start.specs.declared.end.StartEnd.TheVariants.{DialFault, OutOfMemory}
+use Rattle.sidecar_start.specs.Tries.{IsTry, AreVain, tried, IsRun}
+
+-- ---- what the dialler tells
+
+none_dialled : {L : Type 0} (look : L → Option Traffic) (t0 t1 : Option Dialled) (at : Place) → Dials look t0 t1 at (Err ports.OutOfMemory) → Tells [] t0 t1
+none_dialled look None t1 at dials = tt
+none_dialled look (Some d) t1 at dials = subst (λ (m : Option Dialled). Tells [] (Some d) m) (sym dials) ((none_made (Some d) 0).told)
+
+failed_told : {L : Type 0} (look : L → Option Traffic) (t0 t1 : Option Dialled) (at : Place) (rise : ℕ) → Dials look t0 t1 at (Err ports.Failed) → Tells (record { at = at; link = None; rise = rise } ∷ []) t0 t1
+failed_told look None t1 at rise dials = tt
+failed_told look (Some d) t1 at rise dials = dials ∙ ap (λ (l : List Returned). Some (record { places = d.places ++ at ∷ []; links = l })) (sym (append-nil d.links))
+
+linked : (d : Dialled) (t1 t2 : Option Dialled) (l m : Option Traffic) (at : Place) (c : Carried)
+    → t1 ≡ Some (record d { places = d.places ++ at ∷ [] }) → IsNewLink at l → Over l m c → TakesBack t1 t2 m
+    → t2 ≡ Some (record { places = d.places ++ at ∷ []; links = d.links ++ record { at = at; read = c.read; written = c.written } ∷ [] })
+linked d t1 t2 None m at c e new over back = absurd new
+linked d t1 t2 (Some t) m at c e new over back =
+    let after : Traffic = record { at = t.at; read = t.read ++ c.read; left = over.0; written = t.written ++ c.written } in
+    let q : TakesBack (Some (record d { places = d.places ++ at ∷ [] })) t2 (Some after) =
+    subst (λ (a : Option Dialled). TakesBack a t2 (Some after)) e (subst (λ (b : Option Traffic). TakesBack t1 t2 b) over.2 back) in
+    let r : returned after ≡ record { at = at; read = c.read; written = c.written } = rw (new.0, new.1, new.2) refl in
+    q ∙ ap (λ (x : Returned). Some (record { places = d.places ++ at ∷ []; links = d.links ++ x ∷ [] })) r
+
+-- a link was dialled, used and given back
+link_told :
+    {L : Type 0} (look : L → Option Traffic) (t0 t1 t2 : Option Dialled) (link after : L) (at : Place) (c : Carried) (rise : ℕ)
+    → Dials look t0 t1 at (Ok link) → Over (look link) (look after) c → TakesBack t1 t2 (look after)
+    → Tells (record { at = at; link = Some c; rise = rise } ∷ []) t0 t2
+link_told look None t1 t2 link after at c rise dials over back = tt
+link_told look (Some d) t1 t2 link after at c rise dials over back = linked d t1 t2 (look link) (look after) at c dials.0 dials.1 over back
+
+-- the count of a dialler rises with that of its link
+pub link_rises : (f0 f1 f2 l0 l1 : ℕ) → f0 ≤ f1 → l0 ≡ 0 → l0 < l1 → Counts f1 f2 l1 → 0 < f2 - f0
+link_rises f0 f1 f2 l0 l1 up z k counts = let h : f1 < f2 = counts.rises.1 (omega arith) in omega arith
+
+-- ---- one try
+
+module _ {T L : Type 0} (look : L → Option Traffic) (Carries : Carried → ℕ → Result (Option T) StartEnd → Type 0) (at : Place) where
+  -- a dial for which there was no memory
+  pub no_dial : (t0 t1 : Option Dialled) (f0 f1 : ℕ) → Dials look t0 t1 at (Err ports.OutOfMemory) → f0 ≤ f1
+      → (xs : List Exchange) × IsTry Carries at xs (Err OutOfMemory) × Dialling xs t0 t1 f0 f1
+  no_dial t0 t1 f0 f1 dials up = ([], refl, record { told = none_dialled look t0 t1 at dials; counted = omega arith })
+
+  -- a dial that failed
+  pub failed_dial : (t0 t1 : Option Dialled) (f0 f1 : ℕ) → Dials look t0 t1 at (Err ports.Failed) → f0 < f1
+      → (xs : List Exchange) × IsTry Carries at xs (Err DialFault) × Dialling xs t0 t1 f0 f1
+  failed_dial t0 t1 f0 f1 dials up = (
+    record { at = at; link = None; rise = f1 - f0 } ∷ [],
+    (refl, ((let h : 0 < f1 - f0 = omega arith in h), refl)),
+    record { told = failed_told look t0 t1 at (f1 - f0) dials; counted = omega arith },
+  )
+
+  -- a link was dialled, used and given back
+  pub one_link :
+      (t0 t1 t2 : Option Dialled) (link after : L) (c : Carried) (got : Result (Option T) StartEnd) (f0 f1 f2 l1 : ℕ)
+      → Dials look t0 t1 at (Ok link) → f0 ≤ f1 → Over (look link) (look after) c → Carries c (f2 - f0) got
+      → TakesBack t1 t2 (look after) → Counts f1 f2 l1
+      → (xs : List Exchange) × IsTry Carries at xs got × Dialling xs t0 t2 f0 f2
+  one_link t0 t1 t2 link after c got f0 f1 f2 l1 dials up over carries back counts =
+      let falls = counts.never_falls in (
+        record { at = at; link = Some c; rise = f2 - f0 } ∷ [],
+        (refl, carries),
+        record { told = link_told look t0 t1 t2 link after at c (f2 - f0) dials over back; counted = omega arith },
+      )
+
+-- ---- tries one after the other
+
+module _ {T : Type 0} (Carries : Carried → ℕ → Result (Option T) StartEnd → Type 0) (at : Place) where
+  -- so far each came to nothing
+  abbrev pub Going : Option Dialled → Option Dialled → ℕ → ℕ → Type 0
+  Going t0 t1 f0 f1 = (vain : List Exchange) × AreVain Carries at vain × Dialling vain t0 t1 f0 f1
+
+  pub begins : (t : Option Dialled) (f : ℕ) → Going t t f f
+  begins t f = ([], tt, none_made t f)
+
+  vain_then : (xs ys : List Exchange) → AreVain Carries at xs → AreVain Carries at ys → AreVain Carries at (xs ++ ys)
+  vain_then [] ys a b = b
+  vain_then (x ∷ xs) ys a b = (a.0, vain_then xs ys a.1 b)
+
+  one_vain : (xs : List Exchange) → IsTry Carries at xs (Ok None) → AreVain Carries at xs
+  one_vain [] t = absurd (let h : ⊥ = cc in h)
+  one_vain (x ∷ []) t = (t, tt)
+  one_vain (x ∷ y ∷ xs) t = absurd t
+
+  -- one more try that came to nothing
+  pub goes_on : (t0 t1 t2 : Option Dialled) (f0 f1 f2 : ℕ) → Going t0 t1 f0 f1
+      → (xs : List Exchange) × IsTry Carries at xs (Ok None) × Dialling xs t1 t2 f1 f2
+      → Going t0 t2 f0 f2
+  goes_on t0 t1 t2 f0 f1 f2 going x = (
+    going.0 ++ x.0,
+    vain_then going.0 x.0 going.1 (one_vain x.0 x.1),
+    dialling_then going.0 x.0 t0 t1 t2 f0 f1 f2 going.2 x.2,
+  )
+
+  -- the last try
+  pub ends_with : (t0 t1 t2 : Option Dialled) (f0 f1 f2 : ℕ) (got : Result T StartEnd) → Going t0 t1 f0 f1
+      → (xs : List Exchange) × IsTry Carries at xs (tried got) × Dialling xs t1 t2 f1 f2
+      → (xs : List Exchange) × IsRun Carries at xs got × Dialling xs t0 t2 f0 f2
+  ends_with t0 t1 t2 f0 f1 f2 got going x = (
+    going.0 ++ x.0,
+    record { vain = going.0; last = x.0; are = refl; in_vain = going.1; ends = x.1 },
+    dialling_then going.0 x.0 t0 t1 t2 f0 f1 f2 going.2 x.2,
+  )
+
+  -- no try was made, since memory ran out
+  pub none_tried : (t : Option Dialled) (f : ℕ) → (xs : List Exchange) × IsRun Carries at xs (Err OutOfMemory) × Dialling xs t t f f
+  none_tried t f = ([], record { vain = []; last = []; are = refl; in_vain = tt; ends = refl }, none_made t f)

@@ -1,0 +1,12 @@
+use Rattle.std.proofs.Common.{◌≤◌}
+use Rattle.link_exchange.specs.Replies.{place_at}
+use Rattle.sidecar_start.specs.Configuring.{ConfigCarries}
+use Rattle.sidecar_start.proofs.Tries.{Going}
+use Rattle.sidecar_start.proofs.configuring.ask_with.Given as goal
+
+-- each try so far came to nothing
+abbrev pub invariant-loop : goal.invariant-loop
+invariant-loop g l = record {
+  going : Going (ConfigCarries l.app) (place_at l.app) (g.L.Dial.dialled l.initial.dialler) (g.L.Dial.dialled l.dialler) (g.L.Dial.dial_faults l.initial.dialler) (g.L.Dial.dial_faults l.dialler);
+  clock : g.K.Clock.shown l.initial.clock ≤ g.K.Clock.shown l.clock;
+}

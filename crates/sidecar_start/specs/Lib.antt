@@ -1,0 +1,5 @@
+pub mod Booting
+pub mod Configuring
+pub mod Ends
+pub mod Starting
+pub mod Tries
