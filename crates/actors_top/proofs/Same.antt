@@ -1,14 +1,25 @@
 -- A call that did nothing.
 use Rattle.std.proofs.Common.{◌≡◌, inl, ℕ, List, Option, Some, None, refl}
+use Rattle.actor_names.specs.declared.address.Address.{Address}
 use Rattle.actor_ports.specs.Traffic.{Place}
 use Rattle.host_ports.specs.Hosts.{Asked}
 use Rattle.placement_command.specs.Commands.{AsksOnly}
+use Rattle.store_command.specs.Commands.{AsksOnly as AsksStore}
+use Rattle.sidecar_command.specs.Commands.{AsksPorts}
 use Rattle.plain_commands.specs.Schedule.{WritesNothing}
 
 pub nothing_written : (held : Option (List ℕ)) → WritesNothing held held
 nothing_written None = tt
 nothing_written (Some held) = refl
 
-pub nothing_asked_for : (path : List ℕ) (at : Place) (asked : Option Asked) → AsksOnly path at asked asked
-nothing_asked_for path at None = tt
-nothing_asked_for path at (Some a) = inl refl
+pub nothing_asked_for : (path : List ℕ) (at : Place) (state : Option Address) (asked : Option Asked) → AsksOnly path at state asked asked
+nothing_asked_for path at state None = tt
+nothing_asked_for path at state (Some a) = inl refl
+
+pub no_store_asked : (path : List ℕ) (at : Place) (asked : Option Asked) → AsksStore path at asked asked
+no_store_asked path at None = tt
+no_store_asked path at (Some a) = inl refl
+
+pub no_ports_asked : (callers peers : Place) (asked : Option Asked) → AsksPorts callers peers asked asked
+no_ports_asked callers peers None = tt
+no_ports_asked callers peers (Some a) = inl refl

@@ -1,25 +1,35 @@
 // The top call.
 ghost use Rattle.std.specs.Prelude.{◌≡◌, ◌≢◌, ◌<◌, ◌≤◌, ◌⊎◌, ◌∷◌, [], true, None, Some, map, codes, string_bytes};
 ghost use Rattle.host_ports.specs.Hosts.{place_of};
-ghost use Rattle.command_words.specs.Reading.{Asking, Schedule, Drilling, Drill, Hosting, Placement, has_options, reading};
+ghost use Rattle.command_words.specs.Reading.{Asking, Schedule, Drilling, Drill, Hosting, Placing, Placement, Store, Seating, Sidecar, has_options, reading};
 ghost use Rattle.plain_commands.specs.Drilled.{DrillEnds, DrillsHonestly};
 ghost use Rattle.plain_commands.specs.Status.{code_of};
 ghost use Rattle.plain_commands.specs.ReplayTold.{Replays};
 ghost use Rattle.plain_commands.specs.Schedule.{schedule_of, ScheduleEnds};
 ghost use Rattle.plain_commands.specs.declared.status.Status.{Status};
 ghost use Rattle.placement_command.specs.Commands.{AsksOnly};
+ghost use Rattle.store_command.specs.Commands.{AsksOnly as AsksStore};
+ghost use Rattle.sidecar_command.specs.declared.ends.SidecarEnd.{SidecarEnd};
+ghost use Rattle.sidecar_command.specs.Commands.{AsksPorts, IsEnd};
 ghost use Rattle.actors_top.specs.Server.{TellsServer, server_code};
+ghost use Rattle.actors_top.specs.Sidecar.{TellsEnd, sidecar_code};
 ghost use Rattle.actors_top.specs.declared.server.ServerStatus.{ServerStatus};
+ghost use Rattle.actors_top.specs.declared.sidecar.SidecarStatus.{SidecarStatus};
 
 use crate::server::{ServerStatus, tell_damage};
+use crate::sidecar::{SidecarStatus, tell_sidecar};
 use actor_ports::{Clock, Dial, Sink, Source};
-use command_words::{CommandWords, PlacementWords, WordsError, read_words};
+use command_words::{
+    CommandWords, PlacementWords, ServerWords, SidecarWords, WordsError, read_words,
+};
 use host_ports::Host;
 use placement_command::{PlacementEnd, run_placement};
 use plain_commands::{Status, run_plain};
+use sidecar_command::run_sidecar;
 use std::alloc::Global;
 use std::sync::Wait;
 use std::thread::Threads;
+use store_command::{StoreEnd, run_store};
 
 /// The outside of the program.
 #[derive(Drop)]
@@ -43,7 +53,7 @@ fn placement<R: Threads + Wait + Sync, I: Source, W: Sink, N: Dial, T: Clock, H:
     words: &PlacementWords<'_>,
     out: &mut Outside<I, W, N, T, H>,
 ) -> ServerStatus
-    ensures asks { AsksOnly words.now.journal.now (place_of words.now.listen) (H.asked out.old.host) (H.asked out.new.host) }
+    ensures asks { AsksOnly words.now.server.journal.now (place_of words.now.server.listen) words.now.http (H.asked out.old.host) (H.asked out.new.host) }
     ensures tells { TellsServer result (W.contents out.old.output) (W.contents out.new.output) }
     ensures unread { out.new.input ≡ out.old.input }
     ensures sink { result ≡ ServerStatus.SinkFault → W.write_faults out.old.output < W.write_faults out.new.output }
@@ -61,14 +71,62 @@ fn placement<R: Threads + Wait + Sync, I: Source, W: Sink, N: Dial, T: Clock, H:
     }
 }
 
+// Runs the store's server.
+fn store<R: Threads + Wait + Sync, I: Source, W: Sink, N: Dial, T: Clock, H: Host>(
+    rt: &R,
+    alloc: Global,
+    words: &ServerWords<'_>,
+    out: &mut Outside<I, W, N, T, H>,
+) -> ServerStatus
+    ensures asks { AsksStore words.now.journal.now (place_of words.now.listen) (H.asked out.old.host) (H.asked out.new.host) }
+    ensures tells { TellsServer result (W.contents out.old.output) (W.contents out.new.output) }
+    ensures unread { out.new.input ≡ out.old.input }
+    ensures sink { result ≡ ServerStatus.SinkFault → W.write_faults out.old.output < W.write_faults out.new.output }
+    ensures disk { result ≡ ServerStatus.DiskFault → H.open_faults out.old.host < H.open_faults out.new.host }
+    ensures port { result ≡ ServerStatus.PortFault → H.bind_faults out.old.host < H.bind_faults out.new.host }
+    ensures ports_back { H.ports_out out.new.host ≡ H.ports_out out.old.host }
+    ensures disks_back { result ≢ ServerStatus.OutOfMemory → H.disks_out out.new.host ≡ H.disks_out out.old.host }
+{
+    match run_store(rt, alloc, words, &mut out.host, &out.net, &out.time) {
+        StoreEnd::Done => ServerStatus::Done,
+        StoreEnd::DiskFault => ServerStatus::DiskFault,
+        StoreEnd::PortFault => ServerStatus::PortFault,
+        StoreEnd::OutOfMemory => ServerStatus::OutOfMemory,
+        StoreEnd::Damaged { offset } => tell_damage(alloc, offset, &mut out.output),
+    }
+}
+
+// Runs a sidecar.
+fn sidecar<R: Threads + Wait + Sync, I: Source, W: Sink, N: Dial, T: Clock, H: Host>(
+    rt: &R,
+    alloc: Global,
+    words: &SidecarWords<'_>,
+    out: &mut Outside<I, W, N, T, H>,
+) -> SidecarStatus
+    ensures asks { AsksPorts (place_of words.now.listen) (place_of words.now.peer) (H.asked out.old.host) (H.asked out.new.host) }
+    ensures tells { (end : SidecarEnd) × IsEnd end × TellsEnd end result (W.contents out.old.output) (W.contents out.new.output) }
+    ensures unread { out.new.input ≡ out.old.input }
+    ensures sink { result ≡ SidecarStatus.SinkFault → W.write_faults out.old.output < W.write_faults out.new.output }
+    ensures port { result ≡ SidecarStatus.PortFault → (H.bind_faults out.old.host < H.bind_faults out.new.host) ⊎ (N.dial_faults out.old.net < N.dial_faults out.new.net) }
+    ensures ports_back { H.ports_out out.new.host ≡ H.ports_out out.old.host }
+    ensures disks { (H.disks_out out.new.host ≡ H.disks_out out.old.host) × (H.open_faults out.new.host ≡ H.open_faults out.old.host) }
+{
+    let end = run_sidecar(rt, alloc, words, &mut out.host, &mut out.net, &mut out.time);
+    tell_sidecar(alloc, &end, &mut out.output)
+}
+
 /// Does what the words after the program's name say, and returns the status with which the program ends:
 /// 0 done, 2 the words have no reading, 3 a line of the script or a text of the schedule is refused, 4 the source
 /// failed, 5 the sink failed, 6 a disk failed, 7 a port failed, 8 out of memory, 9 the file isn't a journal of this
-/// server, 10 the script exceeds its limit of 67,108,864 bytes or 1,000,000 lines.
+/// server, 10 the script exceeds its limit of 67,108,864 bytes or 1,000,000 lines, 11 the placement wasn't heard or refused
+/// the sidecar, 12 the application gave no configuration, 13 the store refused the sidecar's boot.
 /// `replay`, `schedule` and `drill` are described at `run_plain`. `placement`, with `--journal PATH`, `--listen ADDR` and
 /// perhaps `--new` and `--sessions N`: a placement over the journal at the path is served at the address, each connection
 /// in a thread of its own, until N connections were served, or without an end. With `--new` the file is made if there is
-/// none. Own.
+/// none; with `--http ADDR` its state is answered there over HTTP. `store`, with the same options but the last: a store over
+/// the files at the path and at the path with `.2` behind it, in the same way; the second file is made in any case.
+/// `sidecar`: a sidecar of an application, which serves callers and other sidecars at two addresses, with a placement and a
+/// store at two others. Own.
 pub fn run<R: Threads + Wait + Sync, I: Source, W: Sink, N: Dial, T: Clock, H: Host>(
     rt: &R,
     alloc: Global,
@@ -98,23 +156,36 @@ pub fn run<R: Threads + Wait + Sync, I: Source, W: Sink, N: Dial, T: Clock, H: H
     ensures drilled { (d : Drilling) → reading (map string_bytes words.now) ≡ Some (Drill d) → (ended : Status) × (result ≡ code_of ended)
         × DrillEnds d ended (W.contents out.old.output) (W.contents out.new.output) × DrillsHonestly d × (out.new.input ≡ out.old.input) }
 
-    // A placement asks its host for nothing but the path and the address of its words, prints nothing but the place of a
+    // A placement asks its host for nothing but the path and the addresses of its words, prints nothing but the place of a
     // damage, and leaves the source unread.
-    ensures placed { (p : Hosting) → reading (map string_bytes words.now) ≡ Some (Placement p) → (ended : ServerStatus) × (result ≡ server_code ended)
-        × AsksOnly p.journal (place_of p.listen) (H.asked out.old.host) (H.asked out.new.host)
+    ensures placed { (p : Placing) → reading (map string_bytes words.now) ≡ Some (Placement p) → (ended : ServerStatus) × (result ≡ server_code ended)
+        × AsksOnly p.server.journal (place_of p.server.listen) p.http (H.asked out.old.host) (H.asked out.new.host)
         × TellsServer ended (W.contents out.old.output) (W.contents out.new.output) × (out.new.input ≡ out.old.input) }
 
-    // A fault of the source, the sink, a disk or a port is reported only if its count of faults rose. Each port is given
+    // A store asks for nothing but the path of its words, the same with `.2` behind it, and the address; else the same.
+    ensures stored { (p : Hosting) → reading (map string_bytes words.now) ≡ Some (Store p) → (ended : ServerStatus) × (result ≡ server_code ended)
+        × AsksStore p.journal (place_of p.listen) (H.asked out.old.host) (H.asked out.new.host)
+        × TellsServer ended (W.contents out.old.output) (W.contents out.new.output) × (out.new.input ≡ out.old.input) }
+
+    // A sidecar asks for nothing but the two addresses of its words, and leaves the source unread. It says that it had to
+    // stop only if the placement wasn't heard for 5,000 milliseconds, or refused it.
+    ensures seated { (s : Seating) → reading (map string_bytes words.now) ≡ Some (Sidecar s) → (end : SidecarEnd) × (ended : SidecarStatus) × IsEnd end × (result ≡ sidecar_code ended)
+        × AsksPorts (place_of s.listen) (place_of s.peer) (H.asked out.old.host) (H.asked out.new.host)
+        × TellsEnd end ended (W.contents out.old.output) (W.contents out.new.output) × (out.new.input ≡ out.old.input) }
+
+    // A fault of the source, the sink, a disk, a port or the dialler is reported only if its count of faults rose. Each port is given
     // back, and each disk; if memory runs out, a server's disk may be lost.
     ensures source { result ≡ 4 → I.read_faults out.old.input < I.read_faults out.new.input }
     ensures sink { result ≡ 5 → W.write_faults out.old.output < W.write_faults out.new.output }
     ensures disk { result ≡ 6 → H.open_faults out.old.host < H.open_faults out.new.host }
-    ensures port { result ≡ 7 → H.bind_faults out.old.host < H.bind_faults out.new.host }
+    ensures port { result ≡ 7 → (H.bind_faults out.old.host < H.bind_faults out.new.host) ⊎ (N.dial_faults out.old.net < N.dial_faults out.new.net) }
     ensures ports_back { H.ports_out out.new.host ≡ H.ports_out out.old.host }
     ensures disks_back { result ≢ 8 → H.disks_out out.new.host ≡ H.disks_out out.old.host }
 {
     match read_words(alloc, words) {
         Ok(CommandWords::Placement(words)) => placement(rt, alloc, &words, out) as u8,
+        Ok(CommandWords::Store(words)) => store(rt, alloc, &words, out) as u8,
+        Ok(CommandWords::Sidecar(words)) => sidecar(rt, alloc, &words, out) as u8,
         Err(WordsError::OutOfMemory) => Status::OutOfMemory as u8,
         _ => run_plain(alloc, words, &mut out.input, &mut out.output),
     }

@@ -1,8 +1,8 @@
 -- Worked examples of the reading.
-use Rattle.std.proofs.Common.{◌≡◌, ℕ, Bool, true, false, [], ◌∷◌, Option, None, Some, codes, refl}
+use Rattle.std.proofs.Common.{◌≡◌, ℕ, Bool, true, false, List, [], ◌∷◌, Option, None, Some, codes, refl}
 use Rattle.actor_names.specs.Addresses.{part_reading, port_reading}
 use Rattle.command_words.specs.Options.{Text, read_from}
-use Rattle.command_words.specs.Reading.{Said, Replay, Schedule, Drill, Placement, reading, is_placement, has_options}
+use Rattle.command_words.specs.Reading.{Said, Replay, Schedule, Drill, Placement, Sidecar, reading, is_placement, has_options}
 
 abbrev asks : Text → Text → Said
 asks now period = Schedule (record { now = now; due = []; period = period; ttl = []; count = 10 })
@@ -101,7 +101,7 @@ seed_is_not_empty = refl
 
 -- `placement` at the journal `j` and at 1.2.3.4:5
 abbrev places : Bool → Option ℕ → Said
-places is_new sessions = Placement (record { journal = codes "j"; listen = record { ip = 16909060; port = 5 }; is_new = is_new; sessions = sessions })
+places is_new sessions = Placement (record { server = record { journal = codes "j"; listen = record { ip = 16909060; port = 5 }; is_new = is_new; sessions = sessions }; http = None })
 
 placement_alone : reading (codes "placement" ∷ codes "--journal" ∷ codes "j" ∷ codes "--listen=1.2.3.4:5" ∷ []) ≡ Some (places false None)
 unfolding read_from part_reading port_reading
@@ -134,6 +134,65 @@ journal_is_not_empty = refl
 address_has_a_port : reading (codes "placement" ∷ codes "--journal=j" ∷ codes "--listen=1.2.3.4" ∷ []) ≡ None
 unfolding read_from part_reading port_reading
 address_has_a_port = refl
+
+placement_with_state :
+    reading (codes "placement" ∷ codes "--http=0.0.0.1:80" ∷ codes "--journal=j" ∷ codes "--listen=1.2.3.4:5" ∷ [])
+    ≡ Some (Placement (record { server = record { journal = codes "j"; listen = record { ip = 16909060; port = 5 }; is_new = false; sessions = None }; http = Some (record { ip = 1; port = 80 }) }))
+unfolding read_from part_reading port_reading
+placement_with_state = refl
+
+store_has_no_state : reading (codes "store" ∷ codes "--http=0.0.0.1:80" ∷ codes "--journal=j" ∷ codes "--listen=1.2.3.4:5" ∷ []) ≡ None
+unfolding read_from part_reading port_reading
+store_has_no_state = refl
+
+-- `sidecar` of the application `a`, at five places, with this word for its node and these words behind the others
+abbrev sidecar_line : Text → List Text → List Text
+sidecar_line node more =
+    codes "sidecar" ∷ node ∷ codes "--app-id=a" ∷ codes "--app=0.0.0.1:2" ∷ codes "--listen=0.0.0.3:4" ∷ codes "--peer=0.0.0.5:6"
+    ∷ codes "--placement=0.0.0.7:8" ∷ codes "--store=0.0.0.9:10" ∷ more
+
+-- what they say with the node `n`
+abbrev seats : Text → ℕ → Option ℕ → Said
+seats space parts sessions = Sidecar (record {
+  node = codes "n";
+  app = codes "a";
+  space = space;
+  app_at = record { ip = 1; port = 2 };
+  listen = record { ip = 3; port = 4 };
+  peer = record { ip = 5; port = 6 };
+  placement = record { ip = 7; port = 8 };
+  store = record { ip = 9; port = 10 };
+  parts = parts;
+  sessions = sessions;
+})
+
+sidecar_alone : reading (sidecar_line (codes "--node=n") []) ≡ Some (seats (codes "default") 4 None)
+unfolding read_from part_reading port_reading
+sidecar_alone = refl
+
+sidecar_with_all : reading (sidecar_line (codes "--node=n") (codes "--parts=016" ∷ codes "--space" ∷ codes "b" ∷ codes "--sessions=7" ∷ [])) ≡ Some (seats (codes "b") 16 (Some 7))
+unfolding read_from part_reading port_reading
+sidecar_with_all = refl
+
+sidecar_needs_its_node : reading (sidecar_line (codes "--parts=1") []) ≡ None
+unfolding read_from part_reading port_reading
+sidecar_needs_its_node = refl
+
+node_has_no_capital : reading (sidecar_line (codes "--node=N") []) ≡ None
+unfolding read_from part_reading port_reading
+node_has_no_capital = refl
+
+parts_from_one : reading (sidecar_line (codes "--node=n") (codes "--parts=0" ∷ [])) ≡ None
+unfolding read_from part_reading port_reading
+parts_from_one = refl
+
+parts_to_16 : reading (sidecar_line (codes "--node=n") (codes "--parts=17" ∷ [])) ≡ None
+unfolding read_from part_reading port_reading
+parts_to_16 = refl
+
+space_is_not_empty : reading (sidecar_line (codes "--node=n") (codes "--space=" ∷ [])) ≡ None
+unfolding read_from part_reading port_reading
+space_is_not_empty = refl
 
 placement_without_reading : is_placement (codes "placement" ∷ codes "--help" ∷ []) ≡ true
 placement_without_reading = refl

@@ -6,4 +6,5 @@ pub mod Flags
 pub mod Defaults
 pub mod Steps
 pub mod Bridge
+pub mod Seated
 pub mod Examples

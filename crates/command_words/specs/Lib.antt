@@ -4,3 +4,4 @@ pub mod Reading
 pub mod Told
 pub mod Commands
 pub mod Given
+pub mod Seated

@@ -2,7 +2,9 @@
 use Rattle.command_words.specs.declared.options.CommandOption.{CommandOption}
 use Rattle.command_words.specs.declared.options.OptionKind.{OptionKind}
 use Rattle.command_words.specs.declared.options.OptionKind.TheVariants as kind
-use Rattle.command_words.specs.declared.placement.PlacementWords.{PlacementWords}
+use Rattle.command_words.specs.declared.server.PlacementWords.{PlacementWords}
+use Rattle.command_words.specs.declared.server.ServerWords.{ServerWords}
+use Rattle.command_words.specs.declared.sidecar.SidecarWords.{SidecarWords}
 use Rattle.command_words.specs.declared.meaning.Meaning.{Meaning}
 use Rattle.command_words.specs.declared.meaning.Meaning.TheVariants as meaning
 use Rattle.command_words.specs.declared.reading.CommandWords.{CommandWords}
@@ -11,7 +13,7 @@ use Rattle.command_words.specs.declared.reading.DrillWords.{DrillWords}
 use Rattle.command_words.specs.declared.reading.ScheduleWords.{ScheduleWords}
 use Rattle.command_words.specs.Options.{Text, Kind, Needed, Optional, Flag, Refused, Names, Gives}
 use Rattle.command_words.specs.Options.{Meaning as Meant}
-use Rattle.command_words.specs.Reading.{Asking, Drilling, Hosting, Said, Replay, Schedule, Drill, Placement}
+use Rattle.command_words.specs.Reading.{Asking, Drilling, Hosting, Placing, Seating, Said, Replay, Schedule, Drill, Placement, Store, Sidecar}
 
 abbrev pub told_kind : OptionKind → Kind
 told_kind kind.Needed = Needed
@@ -32,11 +34,30 @@ told_schedule s = record { now = s.now.now; due = s.due.now; period = s.period.n
 abbrev pub told_drill : DrillWords → Drilling
 told_drill d = record { seed = d.seed; steps = d.steps }
 
-abbrev pub told_placement : PlacementWords → Hosting
-told_placement p = record { journal = p.journal.now; listen = p.listen; is_new = p.is_new; sessions = p.sessions }
+abbrev pub told_server : ServerWords → Hosting
+told_server p = record { journal = p.journal.now; listen = p.listen; is_new = p.is_new; sessions = p.sessions }
+
+abbrev pub told_placement : PlacementWords → Placing
+told_placement p = record { server = told_server p.server; http = p.http }
+
+abbrev pub told_sidecar : SidecarWords → Seating
+told_sidecar s = record {
+  node = s.node.now;
+  app = s.app.now;
+  space = s.space.now;
+  app_at = s.app_at;
+  listen = s.listen;
+  peer = s.peer;
+  placement = s.placement;
+  store = s.store;
+  parts = s.parts;
+  sessions = s.sessions;
+}
 
 abbrev pub told : CommandWords → Said
 told words.Replay = Replay
 told (words.Schedule s) = Schedule (told_schedule s)
 told (words.Drill d) = Drill (told_drill d)
 told (words.Placement p) = Placement (told_placement p)
+told (words.Store p) = Store (told_server p)
+told (words.Sidecar s) = Sidecar (told_sidecar s)

@@ -1,7 +1,8 @@
 // The words of the command line.
 //
 // Promise: `read_words` gives the command with all that the words say if they have a reading (`specs/Reading`), and
-// refuses only words that have none; else it ran out of memory. Depends on actor_names (numbers, addresses) and clap.
+// refuses only words that have none; else it ran out of memory. Depends on actor_names (numbers, names, addresses) and
+// clap.
 #![tactic(auto)]
 
 mod count;
@@ -10,12 +11,14 @@ mod form;
 mod matches;
 mod meaning;
 mod options;
-mod placement;
 mod reading;
+mod server;
+mod sidecar;
 
 pub use error::WordsError;
-pub use placement::PlacementWords;
 pub use reading::{CommandWords, DrillWords, ScheduleWords, read_words};
+pub use server::{PlacementWords, ServerWords};
+pub use sidecar::SidecarWords;
 
 #[cfg(test)]
 mod tests;

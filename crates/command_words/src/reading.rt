@@ -3,14 +3,15 @@ ghost use Rattle.std.specs.Prelude.{◌≡◌, true, None, Some, IfOk, IfErr, Ma
 ghost use Rattle.command_words.specs.declared.error.WordsError.TheVariants.{Usage, OutOfMemory};
 ghost use Rattle.command_words.specs.Given.{Holds};
 ghost use Rattle.command_words.specs.Options.{Given, options_given};
-ghost use Rattle.command_words.specs.Reading.{reading, has_options, replay_said, schedule_said, schedule_options, count_or_ten, drill_said, drill_options, placement_said, placement_options};
+ghost use Rattle.command_words.specs.Reading.{reading, has_options, replay_said, schedule_said, schedule_options, count_or_ten, drill_said, drill_options, placement_said, store_said, sidecar_said, placement_options, server_options, sidecar_options, served_by, is_server};
 ghost use Rattle.command_words.specs.Told.{told, told_option};
 
 use crate::count::{read_count, read_number};
 use crate::error::WordsError;
 use crate::matches::{read_options, text_of};
 use crate::options::{CommandOption, needed, optional};
-use crate::placement::{PlacementWords, placement_words};
+use crate::server::{PlacementWords, ServerWords, placement_words, store_words};
+use crate::sidecar::{SidecarWords, sidecar_words};
 use clap::ArgMatches;
 use std::alloc::Global;
 
@@ -55,6 +56,10 @@ pub enum CommandWords<'a> {
     Drill(DrillWords),
     /// `placement`: serve the placement of actors.
     Placement(PlacementWords<'a>),
+    /// `store`: serve the state and the reminders of actors.
+    Store(ServerWords<'a>),
+    /// `sidecar`: serve the actors of an application.
+    Sidecar(SidecarWords<'a>),
 }
 
 /// The options of `schedule`.
@@ -145,6 +150,53 @@ fn placement_command<'a>(alloc: Global, words: &'a [String]) -> Result<CommandWo
     }
 }
 
+/// The command `store` with the words after its name.
+fn store_command<'a>(alloc: Global, words: &'a [String]) -> Result<CommandWords<'a>, WordsError>
+    ensures { MatchResult result
+        (λ c. option_and_then store_said (options_given server_options (map string_bytes words.entry.now)) ≡ Some (told c))
+        (λ e. e ≡ Usage → option_and_then store_said (options_given server_options (map string_bytes words.entry.now)) ≡ None) }
+{
+    match store_words(alloc, words) {
+        Ok(words) => Ok(CommandWords::Store(words)),
+        Err(error) => Err(error),
+    }
+}
+
+/// The command `sidecar` with the words after its name.
+fn sidecar_command<'a>(alloc: Global, words: &'a [String]) -> Result<CommandWords<'a>, WordsError>
+    ensures { MatchResult result
+        (λ c. option_and_then sidecar_said (options_given sidecar_options (map string_bytes words.entry.now)) ≡ Some (told c))
+        (λ e. e ≡ Usage → option_and_then sidecar_said (options_given sidecar_options (map string_bytes words.entry.now)) ≡ None) }
+{
+    match sidecar_words(alloc, words) {
+        Ok(words) => Ok(CommandWords::Sidecar(words)),
+        Err(error) => Err(error),
+    }
+}
+
+/// A server, `placement`, `store` or `sidecar`, with the words after its name.
+fn server_command<'a>(
+    alloc: Global,
+    command: &str,
+    words: &'a [String],
+) -> Result<CommandWords<'a>, WordsError>
+    ensures said { MatchResult result
+        (λ c. served_by command.now (map string_bytes words.entry.now) ≡ Some (told c))
+        (λ e. e ≡ Usage → served_by command.now (map string_bytes words.entry.now) ≡ None) }
+    ensures memory { IfErr result (λ e. e ≡ OutOfMemory → is_server command.now ≡ true) }
+{
+    if command == "placement" {
+        return placement_command(alloc, words);
+    }
+    if command == "store" {
+        return store_command(alloc, words);
+    }
+    if command == "sidecar" {
+        return sidecar_command(alloc, words);
+    }
+    Err(WordsError::Usage)
+}
+
 /// The words after `replay`: none.
 fn replay_words<'a>(words: &'a [String]) -> Result<CommandWords<'a>, WordsError>
     ensures { MatchResult result
@@ -159,11 +211,14 @@ fn replay_words<'a>(words: &'a [String]) -> Result<CommandWords<'a>, WordsError>
 
 /// Reads the words after the program's name: the first is the command, `replay` without options, `schedule` with
 /// `--now M` and perhaps `--due T`, `--period T`, `--ttl T` and `--count N`, N from 1 to 1,000 and 10 if it isn't
-/// given, `drill` with `--seed N`, below 2^64, and `--steps N`, up to 200,000, or `placement` with `--journal PATH`,
-/// of at least one byte, `--listen ADDR`, an address and a port, and perhaps `--new` and `--sessions N`, N from 1 and
-/// below 2^64. Options are written `--name value` or `--name=value`, in any order, each at most once, and `--new`
-/// without a value; a value that is a word of its own doesn't begin with `-`. Help and version words have no reading.
-/// Own.
+/// given, `drill` with `--seed N`, below 2^64, and `--steps N`, up to 200,000, or `placement` or `store` with
+/// `--journal PATH`, of at least one byte, `--listen ADDR`, an address and a port, and perhaps `--new` and `--sessions N`, N
+/// from 1 and below 2^64; `placement` perhaps with `--http ADDR`; or `sidecar` with `--node N` and `--app-id A`, each of
+/// 1 to 64 lowercase letters, digits and `-`, `--app ADDR`, `--listen ADDR`, `--peer ADDR`, `--placement ADDR`,
+/// `--store ADDR`, and perhaps `--parts P`, from 1 to 16 and 4 if it isn't given, `--space S`, of the form of a node and
+/// `default` if it isn't given, and `--sessions N`. Options are written `--name value` or `--name=value`, in any order,
+/// each at most once, and `--new` without a value; a value that is a word of its own doesn't begin with `-`. Help and
+/// version words have no reading. Own.
 pub fn read_words<'a>(alloc: Global, words: &'a [String]) -> Result<CommandWords<'a>, WordsError>
     // The command is what the words read as.
     ensures read { IfOk result (λ c. reading (map string_bytes words.entry.now) ≡ Some (told c)) }
@@ -183,10 +238,7 @@ pub fn read_words<'a>(alloc: Global, words: &'a [String]) -> Result<CommandWords
             if command.as_str() == "drill" {
                 return drill_words(alloc, rest);
             }
-            if command.as_str() == "placement" {
-                return placement_command(alloc, rest);
-            }
-            Err(WordsError::Usage)
+            server_command(alloc, command.as_str(), rest)
         }
     }
 }

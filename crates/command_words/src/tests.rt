@@ -1,5 +1,5 @@
 // Words that have a reading and words that have none.
-use crate::{CommandWords, PlacementWords, WordsError, read_words};
+use crate::{CommandWords, PlacementWords, ServerWords, SidecarWords, WordsError, read_words};
 use std::alloc::Global;
 use std::process::Abort;
 use std::test::Fail;
@@ -13,8 +13,8 @@ fn words_of(alloc: Global, line: &str) -> Result<Vec<String>, Fail> {
     Ok(words)
 }
 
-/// What the words of `placement` say: the journal, the address and port as numbers, whether it is new, the sessions.
-fn placed(alloc: Global, words: PlacementWords) -> Result<String, Fail> {
+/// What the words of a server say: the journal, the address and port as numbers, whether it is new, the sessions.
+fn hosted(alloc: Global, words: ServerWords) -> Result<String, Fail> {
     let journal = words.journal;
     let ip = words.listen.ip;
     let port = words.listen.port;
@@ -23,8 +23,44 @@ fn placed(alloc: Global, words: PlacementWords) -> Result<String, Fail> {
     Ok(format!(in alloc; "[{journal}] {ip} {port} {is_new} {sessions}")?)
 }
 
+/// The same of a placement, with the address and port of its state behind it if they are given.
+fn placed(alloc: Global, words: PlacementWords) -> Result<String, Fail> {
+    let text = hosted(alloc, words.server)?;
+    match words.http {
+        None => Ok(text),
+        Some(at) => {
+            let ip = at.ip;
+            let port = at.port;
+            Ok(format!(in alloc; "{text} {ip} {port}")?)
+        }
+    }
+}
+
+/// What the words of a sidecar say: its node, application and space, the parts, the sessions, and the address and port
+/// of its five places.
+fn seated(alloc: Global, words: SidecarWords) -> Result<String, Fail> {
+    let node = words.node;
+    let app = words.app;
+    let space = words.space;
+    let parts = words.parts;
+    let sessions = words.sessions.unwrap_or(0);
+    let mut text = format!(in alloc; "sidecar [{node}] [{app}] [{space}] {parts} {sessions}")?;
+    for at in [
+        words.app_at,
+        words.listen,
+        words.peer,
+        words.placement,
+        words.store,
+    ] {
+        let ip = at.ip;
+        let port = at.port;
+        text = format!(in alloc; "{text} {ip} {port}")?;
+    }
+    Ok(text)
+}
+
 /// What a line says: the texts of `schedule` with its count, each in brackets, `drill` with its numbers, what
-/// `placement` says, or `replay` or `usage`.
+/// a server's words say, or `replay` or `usage`.
 fn said(alloc: Global, line: &str) -> Result<String, Fail> {
     let words = words_of(alloc, line)?;
     let text = match read_words(alloc, words.as_slice()) {
@@ -43,6 +79,11 @@ fn said(alloc: Global, line: &str) -> Result<String, Fail> {
             format!(in alloc; "drill {seed} {steps}")?
         }
         Ok(CommandWords::Placement(words)) => placed(alloc, words)?,
+        Ok(CommandWords::Store(words)) => {
+            let text = hosted(alloc, words)?;
+            format!(in alloc; "store {text}")?
+        }
+        Ok(CommandWords::Sidecar(words)) => seated(alloc, words)?,
         Err(WordsError::Usage) => String::from_str(alloc, "usage")?,
         Err(WordsError::OutOfMemory) => String::from_str(alloc, "memory")?,
     };
@@ -55,7 +96,7 @@ fn expect(rt: &impl Abort, said: &String, wanted: &str, line: &str) {
 
 #[test]
 fn words_with_a_reading(rt: HostRuntime) -> Result<(), Fail> {
-    let table: [(&str, &str); 26] = [
+    let table: [(&str, &str); 31] = [
         ("replay", "replay"),
         ("schedule --now x", "[x] [] [] [] 10"),
         ("schedule --now=x", "[x] [] [] [] 10"),
@@ -106,6 +147,26 @@ fn words_with_a_reading(rt: HostRuntime) -> Result<(), Fail> {
             "placement --journal=j --listen=1.2.3.4:5 --sessions=18446744073709551615",
             "[j] 16909060 5 false 18446744073709551615",
         ),
+        (
+            "placement --http 0.0.0.1:80 --journal=j --listen=1.2.3.4:5",
+            "[j] 16909060 5 false 0 1 80",
+        ),
+        (
+            "store --new --journal j --sessions=7 --listen 1.2.3.4:5",
+            "store [j] 16909060 5 true 7",
+        ),
+        (
+            "sidecar --node=n --app-id=a --app=0.0.0.1:2 --listen=0.0.0.3:4 --peer=0.0.0.5:6 --placement=0.0.0.7:8 --store=0.0.0.9:10",
+            "sidecar [n] [a] [default] 4 0 1 2 3 4 5 6 7 8 9 10",
+        ),
+        (
+            "sidecar --node=n --app-id=a --app=0.0.0.1:2 --listen=0.0.0.3:4 --peer=0.0.0.5:6 --placement=0.0.0.7:8 --store=0.0.0.9:10 --parts=1 --space=default --sessions=1",
+            "sidecar [n] [a] [default] 1 1 1 2 3 4 5 6 7 8 9 10",
+        ),
+        (
+            "sidecar --sessions 007 --space b-1 --parts 016 --store 0.0.0.9:10 --placement 0.0.0.7:8 --peer 0.0.0.5:6 --listen 0.0.0.3:4 --app 0.0.0.1:2 --app-id a-2 --node 3",
+            "sidecar [3] [a-2] [b-1] 16 7 1 2 3 4 5 6 7 8 9 10",
+        ),
     ];
     let alloc = rt.alloc();
     for (line, wanted) in table {
@@ -116,7 +177,7 @@ fn words_with_a_reading(rt: HostRuntime) -> Result<(), Fail> {
 
 #[test]
 fn words_without_a_reading(rt: HostRuntime) -> Result<(), Fail> {
-    let table: [&str; 61] = [
+    let table: [&str; 81] = [
         "",
         "Replay",
         "replays",
@@ -178,6 +239,26 @@ fn words_without_a_reading(rt: HostRuntime) -> Result<(), Fail> {
         "placement --journal=j --listen=1.2.3.4:5 --sessions=0",
         "placement --journal=j --listen=1.2.3.4:5 --sessions=18446744073709551616",
         "placement --journal --new --listen=1.2.3.4:5",
+        "placement --journal=j --listen=1.2.3.4:5 --http=1.2.3.4",
+        "placement --journal=j --listen=1.2.3.4:5 --http",
+        "placement --http=1.2.3.4:5 --journal=j",
+        "store --journal=j --listen=1.2.3.4:5 --http=1.2.3.4:6",
+        "store --journal=j",
+        "store --journal= --listen=1.2.3.4:5",
+        "sidecar --app-id=a --app=0.0.0.1:2 --listen=0.0.0.3:4 --peer=0.0.0.5:6 --placement=0.0.0.7:8 --store=0.0.0.9:10",
+        "sidecar --node=n --app=0.0.0.1:2 --listen=0.0.0.3:4 --peer=0.0.0.5:6 --placement=0.0.0.7:8 --store=0.0.0.9:10",
+        "sidecar --node=n --app-id=a --app=0.0.0.1:2 --listen=0.0.0.3:4 --placement=0.0.0.7:8 --store=0.0.0.9:10",
+        "sidecar --node=n --app-id=a --app=0.0.0.1:2 --listen=0.0.0.3:4 --peer=0.0.0.5:6 --placement=0.0.0.7:8",
+        "sidecar --node= --app-id=a --app=0.0.0.1:2 --listen=0.0.0.3:4 --peer=0.0.0.5:6 --placement=0.0.0.7:8 --store=0.0.0.9:10",
+        "sidecar --node=n --app-id=a_b --app=0.0.0.1:2 --listen=0.0.0.3:4 --peer=0.0.0.5:6 --placement=0.0.0.7:8 --store=0.0.0.9:10",
+        "sidecar --node=n --app-id=a --app=0.0.0.1 --listen=0.0.0.3:4 --peer=0.0.0.5:6 --placement=0.0.0.7:8 --store=0.0.0.9:10",
+        "sidecar --node=n --app-id=a --app=0.0.0.1:2 --listen=0.0.0.3:4 --peer=0.0.0.5:65536 --placement=0.0.0.7:8 --store=0.0.0.9:10",
+        "sidecar --node=n --app-id=a --app=0.0.0.1:2 --listen=0.0.0.3:4 --peer=0.0.0.5:6 --placement=0.0.0.7:8 --store=0.0.0.9:10 --parts=0",
+        "sidecar --node=n --app-id=a --app=0.0.0.1:2 --listen=0.0.0.3:4 --peer=0.0.0.5:6 --placement=0.0.0.7:8 --store=0.0.0.9:10 --parts=17",
+        "sidecar --node=n --app-id=a --app=0.0.0.1:2 --listen=0.0.0.3:4 --peer=0.0.0.5:6 --placement=0.0.0.7:8 --store=0.0.0.9:10 --parts=",
+        "sidecar --node=n --app-id=a --app=0.0.0.1:2 --listen=0.0.0.3:4 --peer=0.0.0.5:6 --placement=0.0.0.7:8 --store=0.0.0.9:10 --space=b:1",
+        "sidecar --node=n --app-id=a --app=0.0.0.1:2 --listen=0.0.0.3:4 --peer=0.0.0.5:6 --placement=0.0.0.7:8 --store=0.0.0.9:10 --sessions=0",
+        "sidecar --node=n --app-id=a --app=0.0.0.1:2 --listen=0.0.0.3:4 --peer=0.0.0.5:6 --placement=0.0.0.7:8 --store=0.0.0.9:10 --new",
     ];
     let alloc = rt.alloc();
     for line in table {

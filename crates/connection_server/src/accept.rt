@@ -1,8 +1,11 @@
 // The connections of a port, each in a thread of its own.
 ghost use Rattle.std.specs.Prelude.{◌≡◌, ◌<◌, ◌≤◌};
 ghost use Rattle.connection_server.specs.declared.accept.ServerEnd.TheVariants.{PortFault};
+ghost use Rattle.connection_server.specs.declared.duty.Duty.{Duty};
 
+use crate::duty::Duty;
 use crate::service::Service;
+use crate::works::{finish_from, turns_from};
 use actor_ports::{Conn, Listen, PortError};
 use std::sync::Wait;
 use std::thread;
@@ -20,12 +23,13 @@ pub enum ServerEnd {
 }
 
 /// Accepts connections until `most` were served or the service is over, and serves each by `serve` in a thread of its own,
-/// or itself if no thread can be made. It makes a turn before each accept if `turns` says so. It returns when all
-/// connections have ended.
-pub(crate) fn accept_all<
+/// or itself if no thread can be made. Before each accept it makes a turn of each work from number `idle` on. It returns
+/// when all connections have ended, and gives its pass back.
+fn accept_all<
     R: Threads + Wait + Sync,
     V: Service<P>,
     F: Fn(P, C) + Sync,
+    W: Fn(Duty, P) -> P + Sync,
     C: Conn,
     P: Drop + Send,
     L: Listen<Link = C>,
@@ -33,22 +37,26 @@ pub(crate) fn accept_all<
     rt: &R,
     service: &V,
     serve: &F,
+    duty: &W,
     pass: P,
     port: L,
     most: Option<u64>,
-    turns: bool,
-) -> (L, ServerEnd)
+    idle: u32,
+) -> (L, ServerEnd, P)
     requires pass { V.admits service.now pass }
     requires serves { (p : P) (c : C) → V.admits service.now p → F.pre serve.now p c }
+    requires duties { (d : Duty) (p : P) → V.admits service.now p → W.pre duty.now d p }
+    requires keeps { (d : Duty) (p : P) (q : P) → V.admits service.now p → W.post duty.now d p q → V.admits service.now q }
     ensures never_falls { L.listen_faults port ≤ L.listen_faults result.0 }
     ensures cause { result.1 ≡ PortFault → L.listen_faults port < L.listen_faults result.0 }
+    ensures admits { V.admits service.now result.2 }
 {
     thread::scope(
         thread::scope_env(),
         rt,
-        |scope| -> (L, ServerEnd)
-            requires { V.admits service.now pass × ((p : P) (c : C) → V.admits service.now p → F.pre serve.now p c) }
-            ensures { (L.listen_faults port ≤ L.listen_faults result.0) × (result.1 ≡ PortFault → L.listen_faults port < L.listen_faults result.0) }
+        |scope| -> (L, ServerEnd, P)
+            requires { V.admits service.now pass × ((p : P) (c : C) → V.admits service.now p → F.pre serve.now p c) × ((d : Duty) (p : P) → V.admits service.now p → W.pre duty.now d p) × ((d : Duty) (p : P) (q : P) → V.admits service.now p → W.post duty.now d p q → V.admits service.now q) }
+            ensures { (L.listen_faults port ≤ L.listen_faults result.0) × (result.1 ≡ PortFault → L.listen_faults port < L.listen_faults result.0) × V.admits service.entry.now result.2 }
         {
             let mut pass = pass;
             let mut port = port;
@@ -57,16 +65,16 @@ pub(crate) fn accept_all<
                 if service.is_over() || most == Some(served) {
                     break;
                 }
-                if turns {
-                    service.turn(rt, &mut pass);
-                }
+                pass = turns_from(&*service, &*duty, idle, pass);
                 let conn = match port.accept() {
                     Ok(conn) => conn,
-                    Err(PortError::Failed) => return (port, ServerEnd::PortFault),
-                    Err(PortError::OutOfMemory) => return (port, ServerEnd::OutOfMemory),
+                    Err(PortError::Failed) => return (port, ServerEnd::PortFault, pass),
+                    Err(PortError::OutOfMemory) => return (port, ServerEnd::OutOfMemory, pass),
                 };
                 served = served.saturating_add(1);
-                let Some(own) = service.split(&mut pass) else {
+                let (kept, own) = service.split(pass);
+                pass = kept;
+                let Some(own) = own else {
                     continue;
                 };
                 let job = move ||
@@ -76,7 +84,41 @@ pub(crate) fn accept_all<
                     value();
                 }
             }
-            (port, ServerEnd::Served)
+            (port, ServerEnd::Served, pass)
         },
     )
+}
+
+/// Accepts connections and serves them as `accept_all` does. Then the service is over, the loops that wait for a
+/// connection are woken, and the works whose turns were made here are finished.
+pub(crate) fn accept_to_end<
+    R: Threads + Wait + Sync,
+    V: Service<P>,
+    F: Fn(P, C) + Sync,
+    W: Fn(Duty, P) -> P + Sync,
+    C: Conn,
+    P: Drop + Send,
+    L: Listen<Link = C>,
+>(
+    rt: &R,
+    service: &V,
+    serve: &F,
+    duty: &W,
+    pass: P,
+    port: L,
+    most: Option<u64>,
+    idle: u32,
+) -> (L, ServerEnd)
+    requires pass { V.admits service.now pass }
+    requires serves { (p : P) (c : C) → V.admits service.now p → F.pre serve.now p c }
+    requires duties { (d : Duty) (p : P) → V.admits service.now p → W.pre duty.now d p }
+    requires keeps { (d : Duty) (p : P) (q : P) → V.admits service.now p → W.post duty.now d p q → V.admits service.now q }
+    ensures never_falls { L.listen_faults port ≤ L.listen_faults result.0 }
+    ensures cause { result.1 ≡ PortFault → L.listen_faults port < L.listen_faults result.0 }
+{
+    let (port, end, pass) = accept_all(rt, service, serve, duty, pass, port, most, idle);
+    service.end();
+    let pass = duty(Duty::Wake, pass);
+    finish_from(service, duty, idle, pass);
+    (port, end)
 }

@@ -1,8 +1,7 @@
 // A service that counts what it serves.
-use crate::{Service, serve_port};
+use crate::{Duty, Service, serve_port};
 use actor_ports::{MemConn, MemListen};
 use std::alloc::Global;
-use std::sync::Wait;
 use std::sync::atomic::{AtomicBool, AtomicU64, Ordering};
 use std::test::Fail;
 
@@ -18,13 +17,13 @@ struct Pass;
 impl Service<Pass> for Counting {
     ghost admits = { λ _ _. Unit {0} };
 
-    fn split(&self, _pass: &mut Pass) -> Option<Pass> {
-        Some(Pass)
+    fn split(&self, pass: Pass) -> (Pass, Option<Pass>) {
+        (pass, Some(Pass))
     }
 
-    fn turn<R: Wait>(&self, _rt: &R, _pass: &mut Pass) {}
-
-    fn rest(&self, _pass: &mut Pass) {}
+    fn works(&self) -> u32 {
+        1
+    }
 
     fn is_over(&self) -> bool {
         self.over.load(Ordering::SeqCst)
@@ -57,6 +56,7 @@ fn each_connection_is_served_once(rt: HostRuntime) -> Result<(), Fail> {
         &|_: Pass, _: MemConn| {
             served.fetch_add(1, Ordering::SeqCst);
         },
+        &|_: Duty, pass: Pass| -> Pass { pass },
         Pass,
         port,
         Some(3),

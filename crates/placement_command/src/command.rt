@@ -20,7 +20,7 @@ pub enum PlacementEnd {
     Done,
     /// The disk wasn't opened, or it failed.
     DiskFault,
-    /// The port wasn't bound, or it failed.
+    /// A port wasn't bound, or it failed.
     PortFault,
     /// The file isn't a placement's journal, or has no room for the record of the restart, at this offset.
     Damaged { offset: u64 },
@@ -28,8 +28,8 @@ pub enum PlacementEnd {
     OutOfMemory,
 }
 
-/// Opens the placement's journal, binds its port and serves it, until as many connections were served as the words say,
-/// or without an end. It ends earlier if the disk or the port fails.
+/// Opens the placement's journal, binds its ports and serves it, until as many connections were served as the words say,
+/// or without an end. It ends earlier if the disk or a port fails.
 pub fn run_placement<R: Threads + Wait + Sync, H: Host, N: Dial, K: Clock>(
     rt: &R,
     alloc: Global,
@@ -38,21 +38,21 @@ pub fn run_placement<R: Threads + Wait + Sync, H: Host, N: Dial, K: Clock>(
     net: &N,
     clock: &mut K,
 ) -> PlacementEnd
-    ensures asks { AsksOnly words.now.journal.now (place_of words.now.listen) (H.asked host.old) (H.asked host.new) }
+    ensures asks { AsksOnly words.now.server.journal.now (place_of words.now.server.listen) words.now.http (H.asked host.old) (H.asked host.new) }
     // A fault is answered only if the host's count of such faults rose.
     ensures disk_cause { result ≡ PlacementEnd.DiskFault → H.open_faults host.old < H.open_faults host.new }
     ensures port_cause { result ≡ PlacementEnd.PortFault → H.bind_faults host.old < H.bind_faults host.new }
     ensures never_fall { (H.open_faults host.old ≤ H.open_faults host.new) × (H.bind_faults host.old ≤ H.bind_faults host.new) }
-    // Port and disk are given back; if memory ran out, the disk may be lost.
-    ensures port_back { H.ports_out host.new ≡ H.ports_out host.old }
+    // Each port and the disk are given back; if memory ran out, the disk may be lost.
+    ensures ports_back { H.ports_out host.new ≡ H.ports_out host.old }
     ensures disk_back { result ≢ PlacementEnd.OutOfMemory → H.disks_out host.new ≡ H.disks_out host.old }
 {
-    let disk = match host.open_disk(words.journal, words.is_new) {
+    let disk = match host.open_disk(words.server.journal, words.server.is_new) {
         Ok(disk) => disk,
         Err(PortError::Failed) => return PlacementEnd::DiskFault,
         Err(PortError::OutOfMemory) => return PlacementEnd::OutOfMemory,
     };
-    match PlacementNode::open(alloc, disk, words.is_new, clock.now_ms()) {
+    match PlacementNode::open(alloc, disk, words.server.is_new, clock.now_ms()) {
         Ok(node) => serve_node(rt, alloc, node, words, host, net, clock),
         Err((error, disk)) => {
             host.done_disk(disk);

@@ -1,10 +1,11 @@
-// The command `placement`: its disk, its port, and the placement over them as a server.
+// The command `placement`: its disk, its ports, and the placement over them as a server.
 //
-// Promise: it asks its host for nothing but its own path and address, gives back what it was given, and ends for a fault
+// Promise: it asks its host for nothing but its own path and addresses, gives back what it was given, and ends for a fault
 // of a disk or a port only if the host's count of such faults rose (`specs/Commands`). Depends on `placement_server`,
 // `placement_node`, `host_ports` and `command_words`.
 #![tactic(auto)]
 
+mod back;
 mod command;
 mod ends;
 mod serving;

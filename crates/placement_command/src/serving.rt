@@ -1,67 +1,40 @@
-// An open placement: its port, and the server.
-ghost use Rattle.std.specs.Prelude.{◌≡◌, ◌≢◌, ◌<◌, ◌≤◌, ◌+◌, IsTrue};
+// An open placement: its ports, and the server.
+ghost use Rattle.std.specs.Prelude.{◌≡◌, ◌≢◌, ◌<◌, ◌≤◌, ◌+◌};
 ghost use Rattle.host_ports.specs.Hosts.{place_of};
-ghost use Rattle.placement_command.specs.Commands.{AsksPort};
+ghost use Rattle.placement_command.specs.Commands.{AsksPorts};
 
+use crate::back::{ended, give_back, unbound};
 use crate::command::PlacementEnd;
-use actor_ports::{Clock, Dial, PortError};
-use command_words::PlacementWords;
-use connection_server::ServerEnd;
+use actor_names::Address;
+use actor_ports::{Clock, Dial};
+use command_words::{PlacementWords, ServerWords};
 use host_ports::Host;
 use placement_node::PlacementNode;
-use placement_server::{PlacementServed, serve_placement};
+use placement_server::{serve_placement, serve_placement_and_state};
 use std::alloc::Global;
 use std::sync::Wait;
 use std::thread::Threads;
 
-// Gives back the disk of a node, and answers whether it has failed.
-fn give_back<H: Host>(host: &mut H, node: PlacementNode<H::Store>) -> bool
-    requires { 0 < H.disks_out host.old }
-    ensures failed { IsTrue result → H.open_faults host.old < H.open_faults host.new }
-    ensures never_falls { H.open_faults host.old ≤ H.open_faults host.new }
-    ensures out { H.disks_out host.old ≡ H.disks_out host.new + 1 }
-    ensures ports { (H.ports_out host.new ≡ H.ports_out host.old) × (H.bind_faults host.new ≡ H.bind_faults host.old) }
-    ensures asks { H.asked host.new ≡ H.asked host.old }
-{
-    let (disk, _) = node.close();
-    let failed = H::disk_failed(&disk);
-    host.done_disk(disk);
-    failed
-}
-
-/// Binds the port and serves the node there, and gives back port and disk.
-pub(crate) fn serve_node<R: Threads + Wait + Sync, H: Host, N: Dial, K: Clock>(
+// Serves the node at one port, and gives back port and disk.
+fn serve_frames<R: Threads + Wait + Sync, H: Host, N: Dial, K: Clock>(
     rt: &R,
     alloc: Global,
     node: PlacementNode<H::Store>,
-    words: &PlacementWords<'_>,
+    port: H::Port,
+    words: &ServerWords<'_>,
     host: &mut H,
-    net: &N,
-    clock: &K,
+    net: N,
+    clock: K,
 ) -> PlacementEnd
-    requires { 0 < H.disks_out host.old }
-    ensures asks { AsksPort (place_of words.now.listen) (H.asked host.old) (H.asked host.new) }
+    requires disk { 0 < H.disks_out host.old }
+    requires port { 0 < H.ports_out host.old }
+    ensures asks { H.asked host.new ≡ H.asked host.old }
     ensures disk_cause { result ≡ PlacementEnd.DiskFault → H.open_faults host.old < H.open_faults host.new }
     ensures port_cause { result ≡ PlacementEnd.PortFault → H.bind_faults host.old < H.bind_faults host.new }
     ensures never_fall { (H.open_faults host.old ≤ H.open_faults host.new) × (H.bind_faults host.old ≤ H.bind_faults host.new) }
-    ensures port_back { H.ports_out host.new ≡ H.ports_out host.old }
+    ensures port_back { H.ports_out host.old ≡ H.ports_out host.new + 1 }
     ensures disk_back { result ≢ PlacementEnd.OutOfMemory → H.disks_out host.old ≡ H.disks_out host.new + 1 }
 {
-    let port = match host.bind(&words.listen) {
-        Ok(port) => port,
-        Err(error) => {
-            give_back(host, node);
-            return match error {
-                PortError::Failed => PlacementEnd::PortFault,
-                PortError::OutOfMemory => PlacementEnd::OutOfMemory,
-            };
-        }
-    };
-    let (Ok(net), Ok(clock)) = (net.another(), clock.another()) else {
-        host.done_port(port);
-        give_back(host, node);
-        return PlacementEnd::OutOfMemory;
-    };
     let (port, served) = serve_placement(
         rt,
         alloc,
@@ -74,19 +47,99 @@ pub(crate) fn serve_node<R: Threads + Wait + Sync, H: Host, N: Dial, K: Clock>(
     );
     let port_failed = H::port_failed(&port);
     host.done_port(port);
-    match served {
-        Err(_) => PlacementEnd::OutOfMemory,
-        Ok(PlacementServed { node, end }) => {
-            if give_back(host, node) {
-                return PlacementEnd::DiskFault;
-            }
-            if port_failed {
-                return PlacementEnd::PortFault;
-            }
-            match end {
-                ServerEnd::OutOfMemory => PlacementEnd::OutOfMemory,
-                _ => PlacementEnd::Done,
-            }
+    ended(host, served, port_failed)
+}
+
+// Serves the node at one port and its state at another, and gives back both ports and the disk.
+fn serve_both<R: Threads + Wait + Sync, H: Host, N: Dial, K: Clock>(
+    rt: &R,
+    alloc: Global,
+    node: PlacementNode<H::Store>,
+    port: H::Port,
+    state: H::Port,
+    state_at: Address,
+    words: &ServerWords<'_>,
+    host: &mut H,
+    net: N,
+    clock: K,
+) -> PlacementEnd
+    requires disk { 0 < H.disks_out host.old }
+    requires ports { 1 < H.ports_out host.old }
+    ensures asks { H.asked host.new ≡ H.asked host.old }
+    ensures disk_cause { result ≡ PlacementEnd.DiskFault → H.open_faults host.old < H.open_faults host.new }
+    ensures port_cause { result ≡ PlacementEnd.PortFault → H.bind_faults host.old < H.bind_faults host.new }
+    ensures never_fall { (H.open_faults host.old ≤ H.open_faults host.new) × (H.bind_faults host.old ≤ H.bind_faults host.new) }
+    ensures ports_back { H.ports_out host.old ≡ H.ports_out host.new + 2 }
+    ensures disk_back { result ≢ PlacementEnd.OutOfMemory → H.disks_out host.old ≡ H.disks_out host.new + 1 }
+{
+    let (port, state, served) = serve_placement_and_state(
+        rt,
+        alloc,
+        node,
+        port,
+        words.listen,
+        state,
+        state_at,
+        clock,
+        net,
+        words.sessions,
+    );
+    let port_failed = H::port_failed(&port);
+    let state_failed = H::port_failed(&state);
+    host.done_port(port);
+    host.done_port(state);
+    ended(host, served, port_failed || state_failed)
+}
+
+/// Binds the ports and serves the node there, and gives back ports and disk.
+pub(crate) fn serve_node<R: Threads + Wait + Sync, H: Host, N: Dial, K: Clock>(
+    rt: &R,
+    alloc: Global,
+    node: PlacementNode<H::Store>,
+    words: &PlacementWords<'_>,
+    host: &mut H,
+    net: &N,
+    clock: &K,
+) -> PlacementEnd
+    requires { 0 < H.disks_out host.old }
+    ensures asks { AsksPorts (place_of words.now.server.listen) words.now.http (H.asked host.old) (H.asked host.new) }
+    ensures disk_cause { result ≡ PlacementEnd.DiskFault → H.open_faults host.old < H.open_faults host.new }
+    ensures port_cause { result ≡ PlacementEnd.PortFault → H.bind_faults host.old < H.bind_faults host.new }
+    ensures never_fall { (H.open_faults host.old ≤ H.open_faults host.new) × (H.bind_faults host.old ≤ H.bind_faults host.new) }
+    ensures ports_back { H.ports_out host.new ≡ H.ports_out host.old }
+    ensures disk_back { result ≢ PlacementEnd.OutOfMemory → H.disks_out host.old ≡ H.disks_out host.new + 1 }
+{
+    let (Ok(net), Ok(clock)) = (net.another(), clock.another()) else {
+        give_back(host, node);
+        return PlacementEnd::OutOfMemory;
+    };
+    let port = match host.bind(&words.server.listen) {
+        Ok(port) => port,
+        Err(error) => {
+            give_back(host, node);
+            return unbound(error);
+        }
+    };
+    let Some(state_at) = words.http else {
+        return serve_frames(rt, alloc, node, port, &words.server, host, net, clock);
+    };
+    match host.bind(&state_at) {
+        Ok(state) => serve_both(
+            rt,
+            alloc,
+            node,
+            port,
+            state,
+            state_at,
+            &words.server,
+            host,
+            net,
+            clock,
+        ),
+        Err(error) => {
+            host.done_port(port);
+            give_back(host, node);
+            unbound(error)
         }
     }
 }

@@ -1,5 +1,5 @@
 // The server.
-ghost use Rattle.std.specs.Prelude.{◌≡◌, ◌<◌, ◌≤◌, List, IfOk};
+ghost use Rattle.std.specs.Prelude.{◌≡◌, ◌<◌, ◌≤◌, ◌⊎◌, List, IfOk};
 ghost use Rattle.connection_server.specs.declared.accept.ServerEnd.TheVariants.{PortFault};
 ghost use Rattle.step_gate.specs.declared.view.HistoryEntry.{HistoryEntry};
 ghost use Rattle.step_gate.specs.Gates.{IsSeatOf};
@@ -9,11 +9,11 @@ ghost use Rattle.placement_node.specs.declared.reply.NodeReply.{NodeReply};
 ghost use Rattle.placement_node.specs.Node.{NodeAllows};
 
 use crate::pass::Pass;
-use crate::service::PlacementService;
-use crate::session::serve_one;
+use crate::service::{PlacementService, do_duty};
+use crate::session::{serve_one, serve_state};
 use actor_names::{Address, OutOfMemory};
 use actor_ports::{Clock, Conn, Dial, Listen};
-use connection_server::{ServerEnd, serve_port};
+use connection_server::{Duty, ServerEnd, serve_port, serve_ports};
 use disk_model::Disk;
 use placement_node::PlacementNode;
 use std::alloc::Global;
@@ -53,13 +53,62 @@ fn serve_at<
     let service = PlacementService {
         gate,
         at,
+        state_at: None,
         over: AtomicBool::new(false),
     };
     let shared = &service;
     let serve = |pass: Pass<D, K, N>, conn: C|
         requires { IsSeatOf NodeAllows shared.now.gate.now pass.seat }
     { serve_one(rt, alloc, shared, pass, conn) };
-    serve_port(rt, shared, &serve, pass, port, most)
+    let duty = |duty: Duty, pass: Pass<D, K, N>| -> Pass<D, K, N>
+        requires { IsSeatOf NodeAllows shared.now.gate.now pass.seat }
+        ensures { IsSeatOf NodeAllows shared.entry.now.gate.now result.seat }
+    { do_duty(rt, shared, duty, pass) };
+    serve_port(rt, shared, &serve, &duty, pass, port, most)
+}
+
+// Serves the placement behind this gate, and its state at a second port.
+fn serve_both_at<
+    R: Threads + Wait + Sync,
+    D: Disk + Drop + Send,
+    C: Conn,
+    L: Listen<Link = C>,
+    K: Clock,
+    N: Dial,
+>(
+    rt: &R,
+    alloc: Global,
+    gate: &Gate<PlacementNode<D>>,
+    pass: Pass<D, K, N>,
+    port: L,
+    at: Address,
+    state: L,
+    state_at: Address,
+    most: Option<u64>,
+) -> (L, L, ServerEnd)
+    requires { IsSeatOf NodeAllows gate.now pass.seat }
+    ensures never_falls { L.listen_faults port ≤ L.listen_faults result.0 }
+    ensures state_never_falls { L.listen_faults state ≤ L.listen_faults result.1 }
+    ensures cause { result.2 ≡ PortFault → (L.listen_faults port < L.listen_faults result.0) ⊎ (L.listen_faults state < L.listen_faults result.1) }
+{
+    let service = PlacementService {
+        gate,
+        at,
+        state_at: Some(state_at),
+        over: AtomicBool::new(false),
+    };
+    let shared = &service;
+    let serve = |pass: Pass<D, K, N>, conn: C|
+        requires { IsSeatOf NodeAllows shared.now.gate.now pass.seat }
+    { serve_one(rt, alloc, shared, pass, conn) };
+    let beside = |pass: Pass<D, K, N>, conn: C|
+        requires { IsSeatOf NodeAllows shared.now.gate.now pass.seat }
+    { serve_state(rt, alloc, shared, pass, conn) };
+    let duty = |duty: Duty, pass: Pass<D, K, N>| -> Pass<D, K, N>
+        requires { IsSeatOf NodeAllows shared.now.gate.now pass.seat }
+        ensures { IsSeatOf NodeAllows shared.entry.now.gate.now result.seat }
+    { do_duty(rt, shared, duty, pass) };
+    serve_ports(rt, shared, &serve, &beside, &duty, pass, port, state, most)
 }
 
 /// Serves the placement at a port until `most` connections were served (without a limit if it is `None`), the node has
@@ -100,4 +149,47 @@ pub fn serve_placement<
     let (port, end) = serve_at(rt, alloc, &gate, pass, port, at, most);
     let node = gate.close(rt, seat);
     (port, Ok(PlacementServed { node, end }))
+}
+
+/// Serves the placement at a port as `serve_placement` does, and its state over HTTP at a second one, without a limit of
+/// connections. The end of either port ends both. If no thread can be made for the second port, its connections get no
+/// answer.
+pub fn serve_placement_and_state<
+    R: Threads + Wait + Sync,
+    D: Disk + Drop + Send,
+    C: Conn,
+    L: Listen<Link = C>,
+    K: Clock,
+    N: Dial,
+>(
+    rt: &R,
+    alloc: Global,
+    node: PlacementNode<D>,
+    port: L,
+    at: Address,
+    state: L,
+    state_at: Address,
+    clock: K,
+    net: N,
+    most: Option<u64>,
+) -> (L, L, Result<PlacementServed<D>, OutOfMemory>)
+    ensures never_falls { L.listen_faults port ≤ L.listen_faults result.0 }
+    ensures state_never_falls { L.listen_faults state ≤ L.listen_faults result.1 }
+    ensures cause { IfOk result.2 (λ s. s.end ≡ PortFault → (L.listen_faults port < L.listen_faults result.0) ⊎ (L.listen_faults state < L.listen_faults result.1)) }
+    ensures history { IfOk result.2 (λ s. (h : List (HistoryEntry NodeEvent NodeReply)) × HistoryLeadsTo NodeAllows node h s.node) }
+{
+    let (gate, seat) = match Gate::new(alloc, node) {
+        Ok(made) => made,
+        Err(error) => return (port, state, Err(error)),
+    };
+    let mut seat = seat;
+    let own = gate.split_in(&mut seat);
+    let pass = Pass {
+        seat: own,
+        clock,
+        net,
+    };
+    let (port, state, end) = serve_both_at(rt, alloc, &gate, pass, port, at, state, state_at, most);
+    let node = gate.close(rt, seat);
+    (port, state, Ok(PlacementServed { node, end }))
 }

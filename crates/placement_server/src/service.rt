@@ -1,11 +1,12 @@
 // What the placement's threads share, and its turns.
+ghost use Rattle.std.specs.Prelude.{◌≡◌};
 ghost use Rattle.step_gate.specs.Gates.{IsSeatOf};
 ghost use Rattle.placement_node.specs.Node.{NodeAllows};
 
 use crate::pass::Pass;
 use actor_names::Address;
 use actor_ports::{Clock, Dial};
-use connection_server::Service;
+use connection_server::{Duty, Service};
 use disk_model::Disk;
 use frame_wire::{Frame, Refusal};
 use placement_node::{NodeEvent, NodeReply, PlacementNode};
@@ -17,13 +18,32 @@ use step_gate::Gate;
 // How long the server waits between two Ticks, in milliseconds.
 const PAUSE_MS: u64 = 1_000;
 
-/// What the placement's threads share: the gate of its node, the address at which the server listens, and whether the
-/// server is over.
+/// What the placement's threads share: the gate of its node, the addresses at which the server listens for frames and, if
+/// it does, for HTTP, and whether the server is over.
 #[derive(Drop)]
 pub(crate) struct PlacementService<'a, D: Disk> {
     pub(crate) gate: &'a Gate<PlacementNode<D>>,
     pub(crate) at: Address,
+    pub(crate) state_at: Option<Address>,
     pub(crate) over: AtomicBool,
+}
+
+// Makes a connection to an address and gives it back, so that a loop that waits there goes on.
+fn knock<N: Dial>(net: &mut N, at: Address) {
+    if let Ok(link) = net.dial(at.ip, at.port) {
+        net.done(link);
+    }
+}
+
+impl<D: Disk> PlacementService<'_, D> {
+    /// Says that the server is over, and wakes the loops that wait for a connection.
+    pub(crate) fn stop<N: Dial>(&self, net: &mut N) {
+        self.over.store(true, Ordering::SeqCst);
+        knock(net, self.at);
+        if let Some(at) = self.state_at {
+            knock(net, at);
+        }
+    }
 }
 
 // Whether the node has lost its disk.
@@ -39,34 +59,20 @@ fn has_lost(reply: &NodeReply) -> bool {
 impl<D: Disk + Drop + Send, K: Clock, N: Dial> Service<Pass<D, K, N>> for PlacementService<'_, D> {
     ghost admits = { λ v p. IsSeatOf NodeAllows v.gate.now p.seat };
 
-    fn split(&self, pass: &mut Pass<D, K, N>) -> Option<Pass<D, K, N>> {
-        let clock = pass.clock.another().ok()?;
-        let net = pass.net.another().ok()?;
+    fn split(&self, pass: Pass<D, K, N>) -> (Pass<D, K, N>, Option<Pass<D, K, N>>) {
+        let Ok(clock) = pass.clock.another() else {
+            return (pass, None);
+        };
+        let Ok(net) = pass.net.another() else {
+            return (pass, None);
+        };
+        let mut pass = pass;
         let seat = self.gate.split_in(&mut pass.seat);
-        Some(Pass { seat, clock, net })
+        (pass, Some(Pass { seat, clock, net }))
     }
 
-    /// One Tick. The server is over if the node has lost its disk; then the loop that waits for a connection is woken by
-    /// one.
-    fn turn<R: Wait>(&self, rt: &R, pass: &mut Pass<D, K, N>) {
-        let tick = NodeEvent {
-            event: PlaceEvent::Tick,
-            now: pass.clock.now_ms(),
-        };
-        let lost = match self.gate.call_in(rt, &mut pass.seat, tick) {
-            Ok(reply) => has_lost(&reply),
-            Err(_) => true,
-        };
-        if lost {
-            self.over.store(true, Ordering::SeqCst);
-            if let Ok(link) = pass.net.dial(self.at.ip, self.at.port) {
-                pass.net.done(link);
-            }
-        }
-    }
-
-    fn rest(&self, pass: &mut Pass<D, K, N>) {
-        pass.clock.pause(PAUSE_MS);
+    fn works(&self) -> u32 {
+        1
     }
 
     fn is_over(&self) -> bool {
@@ -75,5 +81,66 @@ impl<D: Disk + Drop + Send, K: Clock, N: Dial> Service<Pass<D, K, N>> for Placem
 
     fn end(&self) {
         self.over.store(true, Ordering::SeqCst);
+    }
+}
+
+// One Tick. The server is over if the node has lost its disk.
+fn tick<R: Wait, D: Disk + Drop + Send, K: Clock, N: Dial>(
+    rt: &R,
+    service: &PlacementService<'_, D>,
+    pass: Pass<D, K, N>,
+) -> Pass<D, K, N>
+    requires { IsSeatOf NodeAllows service.now.gate.now pass.seat }
+    ensures { IsSeatOf NodeAllows service.now.gate.now result.seat }
+{
+    let mut pass = pass;
+    let tick = NodeEvent {
+        event: PlaceEvent::Tick,
+        now: pass.clock.now_ms(),
+    };
+    let lost = match service.gate.call_in(rt, &mut pass.seat, tick) {
+        Ok(reply) => has_lost(&reply),
+        Err(_) => true,
+    };
+    if lost {
+        service.stop(&mut pass.net);
+    }
+    pass
+}
+
+// Makes a connection to each port, if there are two: the loop of one may still wait for one.
+fn wake<D: Disk, K: Clock, N: Dial>(
+    service: &PlacementService<'_, D>,
+    pass: Pass<D, K, N>,
+) -> Pass<D, K, N>
+    ensures { result.seat ≡ pass.seat }
+{
+    let mut pass = pass;
+    if let Some(at) = service.state_at {
+        knock(&mut pass.net, service.at);
+        knock(&mut pass.net, at);
+    }
+    pass
+}
+
+/// What a thread does beside the connections: the Ticks are the one work.
+pub(crate) fn do_duty<R: Wait, D: Disk + Drop + Send, K: Clock, N: Dial>(
+    rt: &R,
+    service: &PlacementService<'_, D>,
+    duty: Duty,
+    pass: Pass<D, K, N>,
+) -> Pass<D, K, N>
+    requires { IsSeatOf NodeAllows service.now.gate.now pass.seat }
+    ensures { IsSeatOf NodeAllows service.now.gate.now result.seat }
+{
+    match duty {
+        Duty::Turn(_) => tick(rt, service, pass),
+        Duty::Rest(_) => {
+            let mut pass = pass;
+            pass.clock.pause(PAUSE_MS);
+            pass
+        }
+        Duty::Finish(_) => pass,
+        Duty::Wake => wake(service, pass),
     }
 }

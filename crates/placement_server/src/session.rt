@@ -1,18 +1,16 @@
-// One connection.
+// One connection: of frames, or of HTTP.
 ghost use Rattle.step_gate.specs.Gates.{IsSeatOf};
 ghost use Rattle.placement_node.specs.Node.{NodeAllows};
 
 use crate::pass::Pass;
 use crate::service::PlacementService;
 use actor_ports::{Clock, Conn, Dial, SessionEnd};
-use control_serve::placement_session;
+use control_serve::{placement_session, placement_state_session};
 use disk_model::Disk;
 use std::alloc::Global;
 use std::sync::Wait;
-use std::sync::atomic::Ordering;
 
-/// Serves a connection until it ends. The server is over if the node has lost its disk; then the loop that waits for a
-/// connection is woken by one.
+/// Serves a connection of frames until it ends. The server is over if the node has lost its disk.
 pub(crate) fn serve_one<R: Wait, D: Disk + Drop + Send, C: Conn, K: Clock, N: Dial>(
     rt: &R,
     alloc: Global,
@@ -28,9 +26,26 @@ pub(crate) fn serve_one<R: Wait, D: Disk + Drop + Send, C: Conn, K: Clock, N: Di
     let mut net = net;
     let (_, end) = placement_session(rt, alloc, service.gate, seat, &mut conn, &mut clock);
     if let SessionEnd::Broken { requests: _ } = end {
-        service.over.store(true, Ordering::SeqCst);
-        if let Ok(link) = net.dial(service.at.ip, service.at.port) {
-            net.done(link);
-        }
+        service.stop(&mut net);
+    }
+}
+
+/// Serves a connection of HTTP until it ends. The server is over if the node has lost its disk.
+pub(crate) fn serve_state<R: Wait, D: Disk + Drop + Send, C: Conn, K: Clock, N: Dial>(
+    rt: &R,
+    alloc: Global,
+    service: &PlacementService<'_, D>,
+    pass: Pass<D, K, N>,
+    conn: C,
+)
+    requires { IsSeatOf NodeAllows service.now.gate.now pass.seat }
+{
+    let Pass { seat, clock, net } = pass;
+    let mut conn = conn;
+    let mut clock = clock;
+    let mut net = net;
+    let (_, end) = placement_state_session(rt, alloc, service.gate, seat, &mut conn, &mut clock);
+    if let SessionEnd::Broken { requests: _ } = end {
+        service.stop(&mut net);
     }
 }

@@ -1,9 +1,11 @@
 use Rattle.std.proofs.Common.{◌≡◌, refl}
 use Rattle.plain_commands.specs.declared.status.Status.TheVariants as status
 use Rattle.actors_top.specs.declared.server.ServerStatus.TheVariants as server
+use Rattle.actors_top.specs.declared.sidecar.SidecarStatus.TheVariants as seat
+use Rattle.sidecar_command.specs.declared.ends.SidecarEnd.TheVariants as ends
 use Rattle.host_ports.specs.Hosts.{place_of}
 use Rattle.world_drill.proofs.Honest.{drill_honest}
-use Rattle.actors_top.proofs.Same.{nothing_written, nothing_asked_for}
+use Rattle.actors_top.proofs.Same.{nothing_written, nothing_asked_for, no_store_asked, no_ports_asked}
 use Rattle.actors_top.proofs.top.run.Goals as goal
 
 pub returns-in-Err-OutOfMemory-clause-scheduled : goal.returns-in-Err-OutOfMemory-clause-scheduled
@@ -13,4 +15,10 @@ pub returns-in-Err-OutOfMemory-clause-drilled : goal.returns-in-Err-OutOfMemory-
 returns-in-Err-OutOfMemory-clause-drilled g c = λ d is. (status.OutOfMemory, refl, nothing_written (g.W.Sink.contents c.args.out.now.output), drill_honest d.seed d.steps, refl)
 
 pub returns-in-Err-OutOfMemory-clause-placed : goal.returns-in-Err-OutOfMemory-clause-placed
-returns-in-Err-OutOfMemory-clause-placed g c = λ p is. (server.OutOfMemory, refl, nothing_asked_for p.journal (place_of p.listen) (g.H.Host.asked c.args.out.now.host), nothing_written (g.W.Sink.contents c.args.out.now.output), refl)
+returns-in-Err-OutOfMemory-clause-placed g c = λ p is. (server.OutOfMemory, refl, nothing_asked_for p.server.journal (place_of p.server.listen) p.http (g.H.Host.asked c.args.out.now.host), nothing_written (g.W.Sink.contents c.args.out.now.output), refl)
+
+pub returns-in-Err-OutOfMemory-clause-stored : goal.returns-in-Err-OutOfMemory-clause-stored
+returns-in-Err-OutOfMemory-clause-stored g c = λ p is. (server.OutOfMemory, refl, no_store_asked p.journal (place_of p.listen) (g.H.Host.asked c.args.out.now.host), nothing_written (g.W.Sink.contents c.args.out.now.output), refl)
+
+pub returns-in-Err-OutOfMemory-clause-seated : goal.returns-in-Err-OutOfMemory-clause-seated
+returns-in-Err-OutOfMemory-clause-seated g c = λ s is. (ends.OutOfMemory, seat.OutOfMemory, tt, refl, no_ports_asked (place_of s.listen) (place_of s.peer) (g.H.Host.asked c.args.out.now.host), nothing_written (g.W.Sink.contents c.args.out.now.output), refl)

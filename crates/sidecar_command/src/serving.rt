@@ -1,0 +1,119 @@
+// A sidecar that has started: its ports, and the server.
+ghost use Rattle.std.specs.Prelude.{◌≡◌, ◌<◌, ◌≤◌, ◌+◌};
+ghost use Rattle.frame_wire.specs.declared.frame.Frame.TheVariants as frames;
+ghost use Rattle.frame_wire.specs.Frames.{payload};
+ghost use Rattle.host_ports.specs.Hosts.{place_of};
+ghost use Rattle.sidecar_node.specs.Nodes.{IsSeatsOf, host_of};
+ghost use Rattle.sidecar_command.specs.Commands.{AsksPorts, IsEnd};
+
+use crate::ends::{SidecarEnd, ended, unbound};
+use actor_ports::{Clock, Dial};
+use command_words::SidecarWords;
+use host_ports::Host;
+use link_exchange::Links;
+use sidecar_node::{Seats, SidecarNode};
+use sidecar_server::{SidecarPlaces, serve_sidecar};
+use std::alloc::Global;
+use std::sync::Wait;
+use std::thread::Threads;
+
+// What the sidecar calls, by diallers of its own.
+fn own_links<N: Dial>(words: &SidecarWords<'_>, net: &N) -> Option<Links<N>> {
+    let app = net.another().ok()?;
+    let peers = net.another().ok()?;
+    let store = net.another().ok()?;
+    Some(Links::new(app, peers, store, words.app_at, words.store))
+}
+
+// Serves the sidecar at its ports, and gives both back.
+fn serve_bound<R: Threads + Wait + Sync, H: Host, N: Dial, K: Clock>(
+    rt: &R,
+    alloc: Global,
+    node: &SidecarNode,
+    seats: Seats,
+    callers: H::Port,
+    peers: H::Port,
+    words: &SidecarWords<'_>,
+    host: &mut H,
+    links: Links<N>,
+    net: N,
+    clock: K,
+) -> SidecarEnd
+    requires seats { IsSeatsOf node.now seats }
+    requires own { payload.Fits (frames.Register (host_of node.now)) }
+    requires ports { 1 < H.ports_out host.old }
+    ensures asks { H.asked host.new ≡ H.asked host.old }
+    ensures port_cause { result ≡ SidecarEnd.PortFault → H.bind_faults host.old < H.bind_faults host.new }
+    ensures ends { IsEnd result }
+    ensures never_falls { H.bind_faults host.old ≤ H.bind_faults host.new }
+    ensures ports_back { H.ports_out host.old ≡ H.ports_out host.new + 2 }
+    ensures disks { (H.disks_out host.new ≡ H.disks_out host.old) × (H.open_faults host.new ≡ H.open_faults host.old) }
+{
+    let places = SidecarPlaces {
+        callers: words.listen,
+        peers: words.peer,
+        placement: words.placement,
+    };
+    let (callers, peers, served) = serve_sidecar(
+        rt,
+        alloc,
+        node,
+        seats,
+        callers,
+        peers,
+        places,
+        links,
+        net,
+        clock,
+        words.sessions,
+    );
+    let callers_failed = H::port_failed(&callers);
+    let peers_failed = H::port_failed(&peers);
+    host.done_port(callers);
+    host.done_port(peers);
+    match served {
+        Ok(served) => ended(served, callers_failed || peers_failed),
+        Err(_) => SidecarEnd::OutOfMemory,
+    }
+}
+
+/// Binds the two ports and serves the sidecar there, and gives both back.
+pub(crate) fn serve_started<R: Threads + Wait + Sync, H: Host, N: Dial, K: Clock>(
+    rt: &R,
+    alloc: Global,
+    node: &SidecarNode,
+    seats: Seats,
+    words: &SidecarWords<'_>,
+    host: &mut H,
+    net: &N,
+    clock: &K,
+) -> SidecarEnd
+    requires seats { IsSeatsOf node.now seats }
+    requires own { payload.Fits (frames.Register (host_of node.now)) }
+    ensures asks { AsksPorts (place_of words.now.listen) (place_of words.now.peer) (H.asked host.old) (H.asked host.new) }
+    ensures port_cause { result ≡ SidecarEnd.PortFault → H.bind_faults host.old < H.bind_faults host.new }
+    ensures ends { IsEnd result }
+    ensures never_falls { H.bind_faults host.old ≤ H.bind_faults host.new }
+    ensures ports_back { H.ports_out host.new ≡ H.ports_out host.old }
+    ensures disks { (H.disks_out host.new ≡ H.disks_out host.old) × (H.open_faults host.new ≡ H.open_faults host.old) }
+{
+    let Some(links) = own_links(words, net) else {
+        return SidecarEnd::OutOfMemory;
+    };
+    let (Ok(net), Ok(clock)) = (net.another(), clock.another()) else {
+        return SidecarEnd::OutOfMemory;
+    };
+    let callers = match host.bind(&words.listen) {
+        Ok(port) => port,
+        Err(error) => return unbound(error),
+    };
+    match host.bind(&words.peer) {
+        Ok(peers) => serve_bound(
+            rt, alloc, node, seats, callers, peers, words, host, links, net, clock,
+        ),
+        Err(error) => {
+            host.done_port(callers);
+            unbound(error)
+        }
+    }
+}

@@ -1,0 +1,140 @@
+// The turns with the placement.
+ghost use Rattle.std.specs.Prelude.{IfSome};
+ghost use Rattle.sidecar_server.specs.Passes.{Admits};
+ghost use Rattle.sidecar_server.specs.Watch.{WatchTakes};
+
+use crate::pass::Pass;
+use crate::service::SidecarService;
+use crate::watch::{WatchEvent, is_final};
+use actor_ports::{Clock, Dial};
+use placement_beats::{TurnEnd, leave_turn, placement_turn};
+use sidecar_node::stop_turn;
+use std::sync::Wait;
+
+// Stops all parts; then the sidecar is over.
+fn stop<R: Wait, N: Dial, K: Clock>(
+    rt: &R,
+    service: &SidecarService<'_>,
+    pass: Pass<N, K>,
+) -> Pass<N, K>
+    requires { Admits service.now.node.now service.now.watch.now pass.seats pass.watch }
+    ensures { Admits service.now.node.now service.now.watch.now result.seats result.watch }
+{
+    let mut pass = pass;
+    let (seats, _) = stop_turn(rt, service.node, pass.seats);
+    pass.seats = seats;
+    service.close(&mut pass.net);
+    pass
+}
+
+/// Tells the watch what has happened, and stops the sidecar if it has to stop.
+pub(crate) fn tell_watch<R: Wait, N: Dial, K: Clock>(
+    rt: &R,
+    service: &SidecarService<'_>,
+    pass: Pass<N, K>,
+    event: WatchEvent,
+) -> Pass<N, K>
+    requires admits { Admits service.now.node.now service.now.watch.now pass.seats pass.watch }
+    requires event { WatchTakes event }
+    ensures { Admits service.now.node.now service.now.watch.now result.seats result.watch }
+{
+    let mut pass = pass;
+    match service.watch.call_in(rt, &mut pass.watch, event) {
+        Ok(None) => pass,
+        _ => stop(rt, service, pass),
+    }
+}
+
+// What the watch is to be told of a turn that ended so, the placement being heard at this moment.
+fn heard_of(end: TurnEnd, heard: u64) -> Option<WatchEvent>
+    ensures { IfSome result WatchTakes }
+{
+    match end {
+        TurnEnd::Next => Some(WatchEvent::Heard { at: heard }),
+        TurnEnd::Refused { reply } => {
+            if is_final(&reply) {
+                return Some(WatchEvent::Refused { reply });
+            }
+            Some(WatchEvent::Heard { at: heard })
+        }
+        _ => None,
+    }
+}
+
+// The link to the placement, dialled if there is none.
+fn linked<N: Dial>(
+    service: &SidecarService<'_>,
+    net: &mut N,
+    link: Option<N::Link>,
+) -> Option<N::Link> {
+    match link {
+        Some(link) => Some(link),
+        None => net.dial(service.placement.ip, service.placement.port).ok(),
+    }
+}
+
+// The link, if the turn over it ended well.
+fn kept_link<L: Drop>(end: TurnEnd, link: L) -> Option<L> {
+    match end {
+        TurnEnd::Next => Some(link),
+        _ => {
+            drop(link);
+            None
+        }
+    }
+}
+
+/// One turn with the placement, over the link that is left or a new one. After a turn that didn't end well the next one
+/// dials again.
+pub(crate) fn beat<R: Wait, N: Dial, K: Clock>(
+    rt: &R,
+    service: &SidecarService<'_>,
+    pass: Pass<N, K>,
+) -> Pass<N, K>
+    requires { Admits service.now.node.now service.now.watch.now pass.seats pass.watch }
+    ensures { Admits service.now.node.now service.now.watch.now result.seats result.watch }
+{
+    let mut pass = pass;
+    let left = pass.link.take();
+    let Some(link) = linked(service, &mut pass.net, left) else {
+        return pass;
+    };
+    let mut link = link;
+    let (seats, end) = placement_turn(
+        rt,
+        service.alloc,
+        service.node,
+        pass.seats,
+        &mut pass.book,
+        &mut link,
+        &mut pass.clock,
+    );
+    pass.seats = seats;
+    pass.link = kept_link(end, link);
+    match heard_of(end, pass.book.heard) {
+        None => pass,
+        Some(event) => tell_watch(rt, service, pass, event),
+    }
+}
+
+/// Stops all parts and leaves the placement, over the link that is left or a new one.
+pub(crate) fn leave<R: Wait, N: Dial, K: Clock>(
+    rt: &R,
+    service: &SidecarService<'_>,
+    pass: Pass<N, K>,
+) -> Pass<N, K>
+    requires { Admits service.now.node.now service.now.watch.now pass.seats pass.watch }
+    ensures { Admits service.now.node.now service.now.watch.now result.seats result.watch }
+{
+    let mut pass = pass;
+    let (seats, _) = stop_turn(rt, service.node, pass.seats);
+    pass.seats = seats;
+    let left = pass.link.take();
+    let Some(link) = linked(service, &mut pass.net, left) else {
+        return pass;
+    };
+    let mut link = link;
+    let (seats, _) = leave_turn(rt, service.alloc, service.node, pass.seats, &mut link);
+    pass.seats = seats;
+    pass
+}

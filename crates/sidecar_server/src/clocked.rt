@@ -1,0 +1,92 @@
+// What a sidecar does by the clock.
+ghost use Rattle.sidecar_server.specs.Passes.{Admits};
+
+use crate::beats::tell_watch;
+use crate::pass::Pass;
+use crate::service::SidecarService;
+use crate::watch::WatchEvent;
+use actor_ports::{Clock, Dial};
+use closing_turns::closing_turn;
+use reminder_turns::reminder_turn;
+use std::sync::Wait;
+use tick_turns::tick_turn;
+
+/// Looks whether the placement is still heard.
+pub(crate) fn look<R: Wait, N: Dial, K: Clock>(
+    rt: &R,
+    service: &SidecarService<'_>,
+    pass: Pass<N, K>,
+) -> Pass<N, K>
+    requires { Admits service.now.node.now service.now.watch.now pass.seats pass.watch }
+    ensures { Admits service.now.node.now service.now.watch.now result.seats result.watch }
+{
+    let mut pass = pass;
+    let now = pass.clock.now_ms();
+    tell_watch(rt, service, pass, WatchEvent::Look { now })
+}
+
+/// Deactivates the actors whose time is over. How that ends doesn't matter: the next turn goes on.
+pub(crate) fn close_idle<R: Wait, N: Dial, K: Clock>(
+    rt: &R,
+    service: &SidecarService<'_>,
+    pass: Pass<N, K>,
+) -> Pass<N, K>
+    requires { Admits service.now.node.now service.now.watch.now pass.seats pass.watch }
+    ensures { Admits service.now.node.now service.now.watch.now result.seats result.watch }
+{
+    let mut pass = pass;
+    let (seats, _) = closing_turn(
+        rt,
+        service.alloc,
+        service.node,
+        pass.seats,
+        &mut pass.links,
+        &mut pass.clock,
+    );
+    pass.seats = seats;
+    pass
+}
+
+/// Runs the timers that are due.
+pub(crate) fn run_timers<R: Wait, N: Dial, K: Clock>(
+    rt: &R,
+    service: &SidecarService<'_>,
+    pass: Pass<N, K>,
+) -> Pass<N, K>
+    requires { Admits service.now.node.now service.now.watch.now pass.seats pass.watch }
+    ensures { Admits service.now.node.now service.now.watch.now result.seats result.watch }
+{
+    let mut pass = pass;
+    let (seats, _) = tick_turn(
+        rt,
+        service.alloc,
+        service.node,
+        pass.seats,
+        &mut pass.links,
+        &mut pass.clock,
+    );
+    pass.seats = seats;
+    pass
+}
+
+/// Runs the reminders that are due.
+pub(crate) fn run_reminders<R: Wait, N: Dial, K: Clock>(
+    rt: &R,
+    service: &SidecarService<'_>,
+    pass: Pass<N, K>,
+) -> Pass<N, K>
+    requires { Admits service.now.node.now service.now.watch.now pass.seats pass.watch }
+    ensures { Admits service.now.node.now service.now.watch.now result.seats result.watch }
+{
+    let mut pass = pass;
+    let (seats, _) = reminder_turn(
+        rt,
+        service.alloc,
+        service.node,
+        pass.seats,
+        &mut pass.links,
+        &mut pass.clock,
+    );
+    pass.seats = seats;
+    pass
+}

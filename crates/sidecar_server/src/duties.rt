@@ -1,0 +1,93 @@
+// What a thread of a sidecar does beside the connections.
+ghost use Rattle.sidecar_server.specs.Passes.{Admits};
+
+use crate::beats::{beat, leave};
+use crate::clocked::{close_idle, look, run_reminders, run_timers};
+use crate::pass::Pass;
+use crate::service::SidecarService;
+use actor_ports::{Clock, Dial};
+use connection_server::Duty;
+use std::sync::Wait;
+
+// The works: the turns with the placement, the watch, the deactivation of idle actors, timers, and reminders as the last.
+const BEATS: u32 = 0;
+
+const WATCH: u32 = 1;
+
+const CLOSING: u32 = 2;
+
+const TIMERS: u32 = 3;
+
+// How long they wait between two turns, in milliseconds.
+const USUAL_PAUSE_MS: u64 = 200;
+
+const TIMERS_PAUSE_MS: u64 = 100;
+
+const REMINDERS_PAUSE_MS: u64 = 1_000;
+
+// How long a work waits between two turns.
+fn pause_of(work: u32) -> u64 {
+    if work == TIMERS {
+        return TIMERS_PAUSE_MS;
+    }
+    if work < TIMERS {
+        return USUAL_PAUSE_MS;
+    }
+    REMINDERS_PAUSE_MS
+}
+
+// One turn of a work.
+fn turn<R: Wait, N: Dial, K: Clock>(
+    rt: &R,
+    service: &SidecarService<'_>,
+    work: u32,
+    pass: Pass<N, K>,
+) -> Pass<N, K>
+    requires { Admits service.now.node.now service.now.watch.now pass.seats pass.watch }
+    ensures { Admits service.now.node.now service.now.watch.now result.seats result.watch }
+{
+    if work == BEATS {
+        return beat(rt, service, pass);
+    }
+    if work == WATCH {
+        return look(rt, service, pass);
+    }
+    if work == CLOSING {
+        return close_idle(rt, service, pass);
+    }
+    if work == TIMERS {
+        return run_timers(rt, service, pass);
+    }
+    run_reminders(rt, service, pass)
+}
+
+/// What a thread does beside the connections. With the last of its turns the sidecar leaves the placement.
+pub(crate) fn do_duty<R: Wait, N: Dial, K: Clock>(
+    rt: &R,
+    service: &SidecarService<'_>,
+    duty: Duty,
+    pass: Pass<N, K>,
+) -> Pass<N, K>
+    requires { Admits service.now.node.now service.now.watch.now pass.seats pass.watch }
+    ensures { Admits service.now.node.now service.now.watch.now result.seats result.watch }
+{
+    match duty {
+        Duty::Turn(work) => turn(rt, service, work, pass),
+        Duty::Rest(work) => {
+            let mut pass = pass;
+            pass.clock.pause(pause_of(work));
+            pass
+        }
+        Duty::Finish(work) => {
+            if work == BEATS {
+                return leave(rt, service, pass);
+            }
+            pass
+        }
+        Duty::Wake => {
+            let mut pass = pass;
+            service.close(&mut pass.net);
+            pass
+        }
+    }
+}

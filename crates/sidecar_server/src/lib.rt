@@ -1,0 +1,20 @@
+// A sidecar as a server: its two ports, its turns with the placement, its turns by the clock, and a watch over all.
+//
+// Promise: each thread has seats of its own at the gates of the sidecar's parts; the server stops of its own accord only if
+// the placement wasn't heard for 5,000 milliseconds, or has refused the sidecar (`specs/Watch`); it ends for a fault of a
+// port only if one of its ports has one. Depends on `sidecar_sessions`, `placement_beats`, `closing_turns`, `tick_turns`,
+// `reminder_turns`, `sidecar_node`, `connection_server`, `step_gate`, `link_exchange` and `actor_ports`.
+#![tactic(auto)]
+
+mod beats;
+mod clocked;
+mod crossing;
+mod duties;
+mod pass;
+mod server;
+mod service;
+mod session;
+mod watch;
+
+pub use server::{SidecarPlaces, SidecarServed, serve_sidecar};
+pub use watch::{StopCause, Watch, WatchEvent};

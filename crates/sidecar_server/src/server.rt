@@ -1,0 +1,139 @@
+// The server.
+ghost use Rattle.std.specs.Prelude.{◌≡◌, ◌<◌, ◌≤◌, ◌⊎◌, IfOk};
+ghost use Rattle.connection_server.specs.declared.accept.ServerEnd.TheVariants.{PortFault};
+ghost use Rattle.frame_wire.specs.declared.frame.Frame.TheVariants as frames;
+ghost use Rattle.frame_wire.specs.Frames.{payload};
+ghost use Rattle.sidecar_node.specs.Nodes.{IsSeatsOf, host_of};
+ghost use Rattle.sidecar_server.specs.Passes.{Admits};
+ghost use Rattle.sidecar_server.specs.Watch.{IsSound};
+
+use crate::crossing::{node_crosses, seats_cross};
+use crate::duties::do_duty;
+use crate::pass::Pass;
+use crate::service::SidecarService;
+use crate::session::serve_at;
+use crate::watch::{StopCause, Watch};
+use actor_names::{Address, OutOfMemory};
+use actor_ports::{Clock, Conn, Dial, Listen};
+use actors_api::Side;
+use connection_server::{Duty, ServerEnd, serve_ports};
+use link_exchange::Links;
+use placement_beats::PlacementBook;
+use sidecar_node::{Seats, SidecarNode};
+use std::alloc::Global;
+use std::sync::Wait;
+use std::sync::atomic::AtomicBool;
+use std::thread::Threads;
+use step_gate::Gate;
+
+/// Where a sidecar listens for its callers and for other sidecars, and where the placement listens.
+#[derive(Clone, Copy, Debug)]
+pub struct SidecarPlaces {
+    pub callers: Address,
+    pub peers: Address,
+    pub placement: Address,
+}
+
+/// How a server ended, and why its sidecar had to stop, if it had to.
+#[derive(Clone, Copy, Debug)]
+pub struct SidecarServed {
+    pub end: ServerEnd,
+    pub stop: Option<StopCause>,
+}
+
+// Serves the sidecar under this watch.
+fn serve_watched<R: Threads + Wait + Sync, C: Conn, L: Listen<Link = C>, N: Dial, K: Clock>(
+    rt: &R,
+    alloc: Global,
+    node: &SidecarNode,
+    watch: &Gate<Watch>,
+    pass: Pass<N, K>,
+    callers: L,
+    peers: L,
+    places: SidecarPlaces,
+    most: Option<u64>,
+) -> (L, L, ServerEnd)
+    requires { Admits node.now watch.now pass.seats pass.watch }
+    ensures never_falls { L.listen_faults callers ≤ L.listen_faults result.0 }
+    ensures peers_never_falls { L.listen_faults peers ≤ L.listen_faults result.1 }
+    ensures cause { result.2 ≡ PortFault → (L.listen_faults callers < L.listen_faults result.0) ⊎ (L.listen_faults peers < L.listen_faults result.1) }
+{
+    seats_cross();
+    node_crosses();
+    let service = SidecarService {
+        alloc,
+        node,
+        watch,
+        placement: places.placement,
+        callers: places.callers,
+        peers: places.peers,
+        over: AtomicBool::new(false),
+    };
+    let shared = &service;
+    let serve = |pass: Pass<N, K>, conn: C|
+        requires { Admits shared.now.node.now shared.now.watch.now pass.seats pass.watch }
+    { serve_at(rt, shared, Side::Caller, pass, conn) };
+    let beside = |pass: Pass<N, K>, conn: C|
+        requires { Admits shared.now.node.now shared.now.watch.now pass.seats pass.watch }
+    { serve_at(rt, shared, Side::Peer, pass, conn) };
+    let duty = |duty: Duty, pass: Pass<N, K>| -> Pass<N, K>
+        requires { Admits shared.now.node.now shared.now.watch.now pass.seats pass.watch }
+        ensures { Admits shared.entry.now.node.now shared.entry.now.watch.now result.seats result.watch }
+    { do_duty(rt, shared, duty, pass) };
+    serve_ports(
+        rt, shared, &serve, &beside, &duty, pass, callers, peers, most,
+    )
+}
+
+/// Serves a sidecar at its two ports until `most` connections of callers were served (without a limit if it is `None`), the
+/// sidecar has to stop, or a port fails. Each connection has a thread of its own. Beside them the sidecar speaks with the
+/// placement and looks whether it is heard, every 200 milliseconds; it deactivates idle actors as often, runs the timers
+/// that are due every 100 milliseconds, and the reminders every 1,000. At the end all parts are stopped, and the sidecar
+/// leaves the placement. Its host must be one that a Register frame can carry.
+pub fn serve_sidecar<R: Threads + Wait + Sync, C: Conn, L: Listen<Link = C>, N: Dial, K: Clock>(
+    rt: &R,
+    alloc: Global,
+    node: &SidecarNode,
+    seats: Seats,
+    callers: L,
+    peers: L,
+    places: SidecarPlaces,
+    links: Links<N>,
+    net: N,
+    clock: K,
+    most: Option<u64>,
+) -> (L, L, Result<SidecarServed, OutOfMemory>)
+    requires seats { IsSeatsOf node.now seats }
+    requires host { payload.Fits (frames.Register (host_of node.now)) }
+    ensures never_falls { L.listen_faults callers ≤ L.listen_faults result.0 }
+    ensures peers_never_falls { L.listen_faults peers ≤ L.listen_faults result.1 }
+    ensures cause { IfOk result.2 (λ s. s.end ≡ PortFault → (L.listen_faults callers < L.listen_faults result.0) ⊎ (L.listen_faults peers < L.listen_faults result.1)) }
+    ensures stop { IfOk result.2 (λ s. IsSound s.stop) }
+{
+    let mut clock = clock;
+    let now = clock.now_ms();
+    let (gate, seat) = match Gate::new(alloc, Watch::new(now)) {
+        Ok(made) => made,
+        Err(error) => return (callers, peers, Err(error)),
+    };
+    let mut seat = seat;
+    let own = gate.split_in(&mut seat);
+    let pass = Pass {
+        seats,
+        watch: own,
+        links,
+        net,
+        clock,
+        book: PlacementBook {
+            acked: None,
+            heard: now,
+        },
+        link: None,
+    };
+    let (callers, peers, end) = serve_watched(
+        rt, alloc, node, &gate, pass, callers, peers, places, most,
+    );
+    let watch = gate.close(rt, seat);
+    let stop = watch.stop();
+    (callers, peers, Ok(SidecarServed { end, stop }))
+}

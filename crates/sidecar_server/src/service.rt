@@ -1,0 +1,103 @@
+// What the threads of a sidecar share.
+ghost use Rattle.sidecar_server.specs.Passes.{Admits};
+
+use crate::pass::Pass;
+use crate::watch::Watch;
+use actor_names::Address;
+use actor_ports::{Clock, Dial};
+use connection_server::Service;
+use link_exchange::Links;
+use placement_beats::PlacementBook;
+use sidecar_node::SidecarNode;
+use std::alloc::Global;
+use std::sync::atomic::{AtomicBool, Ordering};
+use step_gate::Gate;
+
+// How many works a sidecar has (`duties`).
+const WORKS: u32 = 5;
+
+/// What the threads of a sidecar share: its node, the gate of the watch, the address of the placement, those at which it
+/// listens itself, and whether it is over.
+#[derive(Drop)]
+pub(crate) struct SidecarService<'a> {
+    pub(crate) alloc: Global,
+    pub(crate) node: &'a SidecarNode,
+    pub(crate) watch: &'a Gate<Watch>,
+    pub(crate) placement: Address,
+    pub(crate) callers: Address,
+    pub(crate) peers: Address,
+    pub(crate) over: AtomicBool,
+}
+
+// Makes a connection to an address and gives it back, so that a loop that waits there goes on.
+fn knock<N: Dial>(net: &mut N, at: Address) {
+    if let Ok(link) = net.dial(at.ip, at.port) {
+        net.done(link);
+    }
+}
+
+impl SidecarService<'_> {
+    /// Says that the sidecar is over, and wakes the loops that wait for a connection.
+    pub(crate) fn close<N: Dial>(&self, net: &mut N) {
+        self.over.store(true, Ordering::SeqCst);
+        knock(net, self.callers);
+        knock(net, self.peers);
+    }
+}
+
+impl<N: Dial, K: Clock> Service<Pass<N, K>> for SidecarService<'_> {
+    ghost admits = { λ v p. Admits v.node.now v.watch.now p.seats p.watch };
+
+    fn split(&self, pass: Pass<N, K>) -> (Pass<N, K>, Option<Pass<N, K>>) {
+        let (Ok(app), Ok(peers), Ok(store)) = (
+            pass.links.app.another(),
+            pass.links.peers.another(),
+            pass.links.store.another(),
+        ) else {
+            return (pass, None);
+        };
+        let (Ok(net), Ok(clock)) = (pass.net.another(), pass.clock.another()) else {
+            return (pass, None);
+        };
+        let links = Links {
+            app,
+            peers,
+            store,
+            app_at: pass.links.app_at,
+            store_at: pass.links.store_at,
+        };
+        let book = PlacementBook {
+            acked: None,
+            heard: pass.book.heard,
+        };
+        let mut pass = pass;
+        let (kept, given) = self.node.split(self.alloc, pass.seats);
+        pass.seats = kept;
+        let Ok(seats) = given else {
+            return (pass, None);
+        };
+        let watch = self.watch.split_in(&mut pass.watch);
+        let other = Pass {
+            seats,
+            watch,
+            links,
+            net,
+            clock,
+            book,
+            link: None,
+        };
+        (pass, Some(other))
+    }
+
+    fn works(&self) -> u32 {
+        WORKS
+    }
+
+    fn is_over(&self) -> bool {
+        self.over.load(Ordering::SeqCst)
+    }
+
+    fn end(&self) {
+        self.over.store(true, Ordering::SeqCst);
+    }
+}

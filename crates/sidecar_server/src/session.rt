@@ -1,0 +1,43 @@
+// One connection of a sidecar.
+ghost use Rattle.sidecar_server.specs.Passes.{Admits};
+
+use crate::pass::Pass;
+use crate::service::SidecarService;
+use actor_ports::{Clock, Conn, Dial};
+use actors_api::Side;
+use sidecar_sessions::sidecar_session;
+use std::sync::Wait;
+
+/// Serves a connection of this port until it ends.
+pub(crate) fn serve_at<R: Wait, C: Conn, N: Dial, K: Clock>(
+    rt: &R,
+    service: &SidecarService<'_>,
+    side: Side,
+    pass: Pass<N, K>,
+    conn: C,
+)
+    requires { Admits service.now.node.now service.now.watch.now pass.seats pass.watch }
+{
+    let Pass {
+        seats,
+        watch: _,
+        links,
+        net: _,
+        clock,
+        book: _,
+        link: _,
+    } = pass;
+    let mut conn = conn;
+    let mut links = links;
+    let mut clock = clock;
+    let _ended = sidecar_session(
+        rt,
+        service.alloc,
+        service.node,
+        seats,
+        side,
+        &mut conn,
+        &mut links,
+        &mut clock,
+    );
+}

@@ -1,0 +1,135 @@
+// The command.
+ghost use Rattle.std.specs.Prelude.{◌≡◌, ◌≢◌, ◌<◌, ◌≤◌, ◌+◌, IfOk, string_bytes};
+ghost use Rattle.host_ports.specs.Hosts.{place_of};
+ghost use Rattle.store_command.specs.Commands.{second_path, AsksOnly, AsksPort, AsksSecond};
+
+use crate::back::give_both;
+use crate::ends::end_of;
+use crate::serving::serve_opened;
+use actor_ports::{Clock, Dial, PortError};
+use command_words::ServerWords;
+use host_ports::Host;
+use std::alloc::{AllocError, Global};
+use std::sync::Wait;
+use std::thread::Threads;
+use store_core::Store;
+
+/// How the command ended.
+#[derive(Clone, Copy, Debug, PartialEq, Eq)]
+pub enum StoreEnd {
+    /// As many connections were served as the words say.
+    Done,
+    /// A disk wasn't opened, or it failed.
+    DiskFault,
+    /// The port wasn't bound, or it failed.
+    PortFault,
+    /// The files aren't a store's journal: the one that counts ceases to be one at this offset, or is too long.
+    Damaged { offset: u64 },
+    /// There was no memory to start.
+    OutOfMemory,
+}
+
+// How the command ends if a disk isn't opened.
+fn unopened(error: PortError) -> StoreEnd
+    ensures disk { result ≡ StoreEnd.DiskFault → error ≡ PortError.Failed }
+    ensures port { result ≢ StoreEnd.PortFault }
+{
+    match error {
+        PortError::Failed => StoreEnd::DiskFault,
+        PortError::OutOfMemory => StoreEnd::OutOfMemory,
+    }
+}
+
+// The path of the second file.
+fn second_path(alloc: Global, path: &str) -> Result<String, AllocError>
+    ensures { IfOk result (λ s. string_bytes s ≡ second_path path.now) }
+{
+    let mut second = String::from_str(alloc, path)?;
+    second.push_str(".2")?;
+    Ok(second)
+}
+
+// Opens the store of two disks and serves it, and gives both back.
+fn run_both<R: Threads + Wait + Sync, H: Host, N: Dial, K: Clock>(
+    rt: &R,
+    alloc: Global,
+    first: H::Store,
+    second: H::Store,
+    words: &ServerWords<'_>,
+    host: &mut H,
+    net: &N,
+    clock: &K,
+) -> StoreEnd
+    requires { 1 < H.disks_out host.old }
+    ensures asks { AsksPort (place_of words.now.listen) (H.asked host.old) (H.asked host.new) }
+    ensures disk_cause { result ≡ StoreEnd.DiskFault → H.open_faults host.old < H.open_faults host.new }
+    ensures port_cause { result ≡ StoreEnd.PortFault → H.bind_faults host.old < H.bind_faults host.new }
+    ensures never_fall { (H.open_faults host.old ≤ H.open_faults host.new) × (H.bind_faults host.old ≤ H.bind_faults host.new) }
+    ensures port_back { H.ports_out host.new ≡ H.ports_out host.old }
+    ensures disks_back { result ≢ StoreEnd.OutOfMemory → H.disks_out host.old ≡ H.disks_out host.new + 2 }
+{
+    match Store::open(alloc, first, second, words.is_new) {
+        Ok(store) => serve_opened(rt, alloc, store, words, host, net, clock),
+        Err((error, first, second)) => {
+            give_both(host, first, second);
+            end_of(error)
+        }
+    }
+}
+
+// Opens the second disk, serves the store of both, and gives both back.
+fn run_first<R: Threads + Wait + Sync, H: Host, N: Dial, K: Clock>(
+    rt: &R,
+    alloc: Global,
+    first: H::Store,
+    path: &str,
+    words: &ServerWords<'_>,
+    host: &mut H,
+    net: &N,
+    clock: &K,
+) -> StoreEnd
+    requires { 0 < H.disks_out host.old }
+    ensures asks { AsksSecond path.now (place_of words.now.listen) (H.asked host.old) (H.asked host.new) }
+    ensures disk_cause { result ≡ StoreEnd.DiskFault → H.open_faults host.old < H.open_faults host.new }
+    ensures port_cause { result ≡ StoreEnd.PortFault → H.bind_faults host.old < H.bind_faults host.new }
+    ensures never_fall { (H.open_faults host.old ≤ H.open_faults host.new) × (H.bind_faults host.old ≤ H.bind_faults host.new) }
+    ensures port_back { H.ports_out host.new ≡ H.ports_out host.old }
+    ensures disks_back { result ≢ StoreEnd.OutOfMemory → H.disks_out host.old ≡ H.disks_out host.new + 1 }
+{
+    match host.open_disk(path, true) {
+        Ok(second) => run_both(rt, alloc, first, second, words, host, net, clock),
+        Err(error) => {
+            host.done_disk(first);
+            unopened(error)
+        }
+    }
+}
+
+/// Opens the store's two files, the second with `.2` behind the path, binds its port and serves it, until as many
+/// connections were served as the words say, or without an end. It ends earlier if a disk or the port fails. The second
+/// file is made if there is none.
+pub fn run_store<R: Threads + Wait + Sync, H: Host, N: Dial, K: Clock>(
+    rt: &R,
+    alloc: Global,
+    words: &ServerWords<'_>,
+    host: &mut H,
+    net: &N,
+    clock: &K,
+) -> StoreEnd
+    ensures asks { AsksOnly words.now.journal.now (place_of words.now.listen) (H.asked host.old) (H.asked host.new) }
+    // A fault is answered only if the host's count of such faults rose.
+    ensures disk_cause { result ≡ StoreEnd.DiskFault → H.open_faults host.old < H.open_faults host.new }
+    ensures port_cause { result ≡ StoreEnd.PortFault → H.bind_faults host.old < H.bind_faults host.new }
+    ensures never_fall { (H.open_faults host.old ≤ H.open_faults host.new) × (H.bind_faults host.old ≤ H.bind_faults host.new) }
+    // The port and both disks are given back; if memory ran out, the disks may be lost.
+    ensures port_back { H.ports_out host.new ≡ H.ports_out host.old }
+    ensures disks_back { result ≢ StoreEnd.OutOfMemory → H.disks_out host.new ≡ H.disks_out host.old }
+{
+    let Ok(second) = second_path(alloc, words.journal) else {
+        return StoreEnd::OutOfMemory;
+    };
+    match host.open_disk(words.journal, words.is_new) {
+        Ok(first) => run_first(rt, alloc, first, second.as_str(), words, host, net, clock),
+        Err(error) => unopened(error),
+    }
+}

@@ -1,0 +1,18 @@
+// How an opening that was refused ends the command.
+ghost use Rattle.std.specs.Prelude.{◌≡◌, ◌≢◌};
+
+use crate::command::StoreEnd;
+use tx_journal::JournalError;
+
+/// How the command ends if the store isn't opened. A file that is too long to be opened is damaged at its length.
+pub(crate) fn end_of(error: JournalError) -> StoreEnd
+    ensures disk { result ≡ StoreEnd.DiskFault → error ≡ JournalError.DiskFault }
+    ensures port { result ≢ StoreEnd.PortFault }
+{
+    match error {
+        JournalError::DiskFault => StoreEnd::DiskFault,
+        JournalError::Damaged { offset } => StoreEnd::Damaged { offset },
+        JournalError::Full { len } => StoreEnd::Damaged { offset: len },
+        _ => StoreEnd::OutOfMemory,
+    }
+}

@@ -1,0 +1,13 @@
+// The command `store`: its two disks, its port, and the store over them as a server.
+//
+// Promise: it asks its host for nothing but its own two paths and its address, gives back what it was given, and ends for
+// a fault of a disk or a port only if the host's count of such faults rose (`specs/Commands`). Depends on `store_server`,
+// `store_core`, `host_ports` and `command_words`.
+#![tactic(auto)]
+
+mod back;
+mod command;
+mod ends;
+mod serving;
+
+pub use command::{StoreEnd, run_store};

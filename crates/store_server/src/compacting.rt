@@ -1,0 +1,110 @@
+// One turn of the compactions: what is asked of the store, and when the next one is due.
+ghost use Rattle.std.specs.Prelude.{◌≡◌, ◌<◌};
+ghost use Rattle.step_gate.specs.Gates.{IsSeatOf};
+ghost use Rattle.store_core.specs.Events.{Allows};
+ghost use Rattle.store_server.specs.Compacting.{came_by, came_of, next_least, Asks, IsTurn};
+
+use disk_model::Disk;
+use std::sync::Wait;
+use step_gate::{Gate, Seat};
+use store_core::{CompactEnd, Store, StoreEvent, StoreOutcome};
+use tx_journal::JournalError;
+
+/// The least length of a file that is written anew, in bytes.
+pub(crate) const USUAL_LEAST: u64 = 67_108_864;
+
+/// What came of a compaction, to the loop that asks for them.
+#[derive(Clone, Copy, Debug, PartialEq, Eq)]
+pub(crate) enum Compaction {
+    /// The file was written anew.
+    Made,
+    /// The file has `len` bytes, fewer than were asked for.
+    Short { len: u64 },
+    /// It wasn't written anew, and the store goes on as before.
+    Kept,
+    /// The store has lost its disk, or takes no more events.
+    Lost,
+}
+
+// What came of a compaction that the journal refused.
+fn came_by(error: &JournalError) -> Compaction
+    ensures { result ≡ came_by error.now }
+{
+    match error {
+        JournalError::DiskFault | JournalError::Reopen => Compaction::Lost,
+        _ => Compaction::Kept,
+    }
+}
+
+// What came of a compaction.
+fn came_of(outcome: &StoreOutcome) -> Compaction
+    ensures { result ≡ came_of outcome.now }
+{
+    match outcome {
+        StoreOutcome::CompactIs { end } => match end {
+            CompactEnd::Compacted { rows: _ } => Compaction::Made,
+            CompactEnd::NotNeeded { len } => Compaction::Short { len: *len },
+            CompactEnd::Failed { error } => came_by(error),
+            CompactEnd::OutOfMemory => Compaction::Kept,
+        },
+        StoreOutcome::Answer { answer: _ } => Compaction::Kept,
+    }
+}
+
+// The least length for the next compaction, after one that left `len` bytes: 67,108,864 bytes, or twice as many as were
+// left where that is more.
+fn next_least(len: u64) -> u64
+    ensures { result ≡ next_least len }
+{
+    let twice = len.saturating_mul(2);
+    if twice < USUAL_LEAST {
+        USUAL_LEAST
+    } else {
+        twice
+    }
+}
+
+// Asks for one compaction.
+fn ask<R: Wait, D: Disk>(
+    rt: &R,
+    gate: &Gate<Store<D>>,
+    seat: &mut Seat<Store<D>>,
+    least: u64,
+    now: u64,
+) -> Compaction
+    requires seat { IsSeatOf Allows gate.now seat.old }
+    requires early { now < 253370764800000 }
+    ensures seat { IsSeatOf Allows gate.now seat.new }
+    ensures asks { Asks least now seat.old seat.new result }
+{
+    match gate.call_in(rt, seat, StoreEvent::Compact { least, now }) {
+        Ok(outcome) => came_of(&outcome),
+        Err(_) => Compaction::Lost,
+    }
+}
+
+/// One compaction at `now`, in milliseconds since 1970, if the file has at least `least` bytes; one that was made is
+/// followed by a question for the length that it left. Returns the least length for the next turn, or `None` if the store
+/// has lost its disk.
+pub(crate) fn compact_turn<R: Wait, D: Disk>(
+    rt: &R,
+    gate: &Gate<Store<D>>,
+    seat: &mut Seat<Store<D>>,
+    least: u64,
+    now: u64,
+) -> Option<u64>
+    requires seat { IsSeatOf Allows gate.now seat.old }
+    requires early { now < 253370764800000 }
+    ensures seat { IsSeatOf Allows gate.now seat.new }
+    ensures turn { IsTurn least now seat.old seat.new result }
+{
+    match ask(rt, gate, seat, least, now) {
+        Compaction::Lost => None,
+        Compaction::Made => match ask(rt, gate, seat, u64::MAX, now) {
+            Compaction::Lost => None,
+            Compaction::Short { len } => Some(next_least(len)),
+            _ => Some(least),
+        },
+        _ => Some(least),
+    }
+}

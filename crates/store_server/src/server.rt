@@ -1,0 +1,112 @@
+// The server.
+ghost use Rattle.std.specs.Prelude.{◌≡◌, ◌<◌, ◌≤◌, List, IfOk};
+ghost use Rattle.connection_server.specs.declared.accept.ServerEnd.TheVariants.{PortFault};
+ghost use Rattle.step_gate.specs.declared.view.HistoryEntry.{HistoryEntry};
+ghost use Rattle.step_gate.specs.Gates.{IsSeatOf};
+ghost use Rattle.step_gate.specs.History.{HistoryLeadsTo};
+ghost use Rattle.store_core.specs.declared.events.StoreEvent.{StoreEvent};
+ghost use Rattle.store_core.specs.declared.events.StoreOutcome.{StoreOutcome};
+ghost use Rattle.store_core.specs.Events.{Allows};
+
+use crate::compacting::USUAL_LEAST;
+use crate::crossing::store_crosses;
+use crate::pass::Pass;
+use crate::service::{StoreService, do_duty};
+use crate::session::serve_one;
+use actor_names::{Address, OutOfMemory};
+use actor_ports::{Clock, Conn, Dial, Listen};
+use connection_server::{Duty, ServerEnd, serve_port};
+use disk_model::Disk;
+use std::alloc::Global;
+use std::sync::Wait;
+use std::sync::atomic::AtomicBool;
+use std::thread::Threads;
+use step_gate::Gate;
+use store_core::Store;
+
+/// How a server ended, with its store.
+#[derive(Drop)]
+pub struct StoreServed<D: Disk> {
+    pub store: Store<D>,
+    pub end: ServerEnd,
+}
+
+// Serves the store behind this gate.
+fn serve_at<
+    R: Threads + Wait + Sync,
+    D: Disk + Drop + Send,
+    C: Conn,
+    L: Listen<Link = C>,
+    K: Clock,
+    N: Dial,
+>(
+    rt: &R,
+    alloc: Global,
+    gate: &Gate<Store<D>>,
+    pass: Pass<D, K, N>,
+    port: L,
+    at: Address,
+    most: Option<u64>,
+) -> (L, ServerEnd)
+    requires { IsSeatOf Allows gate.now pass.seat }
+    ensures never_falls { L.listen_faults port ≤ L.listen_faults result.0 }
+    ensures cause { result.1 ≡ PortFault → L.listen_faults port < L.listen_faults result.0 }
+{
+    store_crosses::<D>();
+    let service = StoreService {
+        gate,
+        at,
+        over: AtomicBool::new(false),
+    };
+    let shared = &service;
+    let serve = |pass: Pass<D, K, N>, conn: C|
+        requires { IsSeatOf Allows shared.now.gate.now pass.seat }
+    { serve_one(rt, alloc, shared, pass, conn) };
+    let duty = |duty: Duty, pass: Pass<D, K, N>| -> Pass<D, K, N>
+        requires { IsSeatOf Allows shared.now.gate.now pass.seat }
+        ensures { IsSeatOf Allows shared.entry.now.gate.now result.seat }
+    { do_duty(rt, shared, duty, pass) };
+    serve_port(rt, shared, &serve, &duty, pass, port, most)
+}
+
+/// Serves the store at a port until `most` connections were served (without a limit if it is `None`), the store has lost
+/// its disk, or the port fails. Each connection has a thread of its own. Every 1,000 milliseconds the store is compacted
+/// if its file has 67,108,864 bytes, or twice what the last compaction left where that is more. If memory runs out before
+/// the first connection, the store is dropped.
+pub fn serve_store<
+    R: Threads + Wait + Sync,
+    D: Disk + Drop + Send,
+    C: Conn,
+    L: Listen<Link = C>,
+    K: Clock,
+    N: Dial,
+>(
+    rt: &R,
+    alloc: Global,
+    store: Store<D>,
+    port: L,
+    clock: K,
+    net: N,
+    at: Address,
+    most: Option<u64>,
+) -> (L, Result<StoreServed<D>, OutOfMemory>)
+    ensures never_falls { L.listen_faults port ≤ L.listen_faults result.0 }
+    ensures cause { IfOk result.1 (λ s. s.end ≡ PortFault → L.listen_faults port < L.listen_faults result.0) }
+    ensures history { IfOk result.1 (λ s. (h : List (HistoryEntry StoreEvent StoreOutcome)) × HistoryLeadsTo Allows store h s.store) }
+{
+    let (gate, seat) = match Gate::new(alloc, store) {
+        Ok(made) => made,
+        Err(error) => return (port, Err(error)),
+    };
+    let mut seat = seat;
+    let own = gate.split_in(&mut seat);
+    let pass = Pass {
+        seat: own,
+        clock,
+        net,
+        least: USUAL_LEAST,
+    };
+    let (port, end) = serve_at(rt, alloc, &gate, pass, port, at, most);
+    let store = gate.close(rt, seat);
+    (port, Ok(StoreServed { store, end }))
+}

@@ -1,0 +1,41 @@
+// One connection.
+ghost use Rattle.step_gate.specs.Gates.{IsSeatOf};
+ghost use Rattle.store_core.specs.Events.{Allows};
+
+use crate::pass::Pass;
+use crate::service::StoreService;
+use actor_ports::{Clock, Conn, Dial, SessionEnd};
+use disk_model::Disk;
+use std::alloc::Global;
+use std::sync::Wait;
+use std::sync::atomic::Ordering;
+use store_serve::store_session;
+
+/// Serves a connection until it ends. The server is over if the store has lost its disk; then the loop that waits for a
+/// connection is woken by one.
+pub(crate) fn serve_one<R: Wait, D: Disk + Drop + Send, C: Conn, K: Clock, N: Dial>(
+    rt: &R,
+    alloc: Global,
+    service: &StoreService<'_, D>,
+    pass: Pass<D, K, N>,
+    conn: C,
+)
+    requires { IsSeatOf Allows service.now.gate.now pass.seat }
+{
+    let Pass {
+        seat,
+        clock,
+        net,
+        least: _,
+    } = pass;
+    let mut conn = conn;
+    let mut clock = clock;
+    let mut net = net;
+    let (_, end) = store_session(rt, alloc, service.gate, seat, &mut conn, &mut clock);
+    if let SessionEnd::Broken { requests: _ } = end {
+        service.over.store(true, Ordering::SeqCst);
+        if let Ok(link) = net.dial(service.at.ip, service.at.port) {
+            net.done(link);
+        }
+    }
+}

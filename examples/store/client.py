@@ -1,0 +1,148 @@
+"""Commands to a store and its answers, as docs/frames.md has them, and what examples/store/run does with them."""
+import os
+import socket
+import struct
+import sys
+import threading
+import time
+
+
+def name(text):
+    return bytes([len(text)]) + text.encode()
+
+
+def blob(data):
+    return struct.pack(">I", len(data)) + data
+
+
+def text(data):
+    return struct.pack(">H", len(data)) + data.encode()
+
+
+def node(word):
+    return name("default") + name(word)
+
+
+def stamp(word, boot, part, number):
+    return node(word) + struct.pack(">QBQ", boot, part, number)
+
+
+def actor(word):
+    return name("default") + name("counter") + name(word)
+
+
+def frame(kind, fields):
+    return struct.pack(">IB", 1 + len(fields), kind) + fields
+
+
+def boot(word):
+    return frame(32, node(word))
+
+
+def upsert(key, value):
+    return bytes([1]) + text(key) + blob(value.encode()) + bytes([0])
+
+
+def transaction(whose, word, operations):
+    return frame(33, whose + actor(word) + struct.pack(">H", len(operations)) + b"".join(operations))
+
+
+def get(word, key):
+    return frame(34, actor(word) + text(key))
+
+
+def whole(link, count):
+    found = b""
+    while len(found) < count:
+        more = link.recv(count - len(found))
+        if not more:
+            raise ConnectionError("the connection ended")
+        found += more
+    return found
+
+
+def ask(link, message):
+    """Sends a command, and returns the words of its answer."""
+    link.sendall(message)
+    (length,) = struct.unpack(">I", whole(link, 4))
+    answer = whole(link, length)
+    kind, fields = answer[0], answer[1:]
+    if kind == 48:
+        return "booted %d" % struct.unpack(">Q", fields)
+    if kind == 49:
+        return "done"
+    if kind == 50:
+        return "value " + fields[4:].decode()
+    if kind == 51:
+        return "not there"
+    if kind == 55:
+        return "refused %d" % fields[0]
+    return "kind %d" % kind
+
+
+def dial(port):
+    for _ in range(500):
+        try:
+            return socket.create_connection(("127.0.0.1", port), timeout=10)
+        except OSError:
+            time.sleep(0.02)
+    sys.exit("nobody listens")
+
+
+def load(port, links):
+    """Sets key after key on so many connections until the server is gone. Returns the keys that were acknowledged."""
+    with dial(port) as link:
+        drawn = int(ask(link, boot("load")).split()[1])
+    told = [[] for _ in range(links)]
+
+    def one(part):
+        number = 1
+        try:
+            with dial(port) as link:
+                while True:
+                    key = "%d-%d-%d" % (drawn, part, number)
+                    if ask(link, transaction(stamp("load", drawn, part, number), "i", [upsert(key, key)])) != "done":
+                        return
+                    told[part].append(key)
+                    number += 1
+        except OSError:
+            return
+
+    threads = [threading.Thread(target=one, args=(part,)) for part in range(links)]
+    for thread in threads:
+        thread.start()
+    for thread in threads:
+        thread.join()
+    return [key for keys in told for key in keys]
+
+
+def lost(port, file):
+    """How many of the keys in a file don't have their own text as their value."""
+    missing = 0
+    with dial(port) as link, open(file, encoding="utf-8") as keys:
+        for key in keys.read().split():
+            if ask(link, get("i", key)) != "value " + key:
+                missing += 1
+    return missing
+
+
+def main():
+    command, port = sys.argv[1], int(sys.argv[2])
+    if command == "load":
+        print("".join(key + os.linesep for key in load(port, int(sys.argv[3]))), end="")
+        return
+    if command == "lost":
+        print(lost(port, sys.argv[3]))
+        return
+    with dial(port) as link:
+        if command == "boot":
+            print(ask(link, boot(sys.argv[3])))
+        elif command == "get":
+            print(ask(link, get("i", sys.argv[3])))
+        elif command == "set":
+            word, drawn, number, key, value = sys.argv[3:8]
+            whose = stamp(word, int(drawn), 0, int(number))
+            print(ask(link, transaction(whose, "i", [upsert(key, value)])), ask(link, get("i", key)))
+
+
+main()
