@@ -19,8 +19,11 @@ use std::{env, io};
 /// How long a dial waits for its answer, in milliseconds.
 const CONNECT_MS: u64 = 5_000;
 
-/// How long a link to another process waits for a byte, in milliseconds.
+/// How long a link to a placement or a store waits for a byte, in milliseconds. One to an application waits without an end.
 const LINK_WAIT_MS: u64 = 10_000;
+
+/// How long a link to another sidecar waits for a byte, in milliseconds.
+const PEER_WAIT_MS: u64 = 300_000;
 
 /// How long a connection to a server waits for a byte, in milliseconds.
 const CONNECTION_WAIT_MS: u64 = 60_000;
@@ -57,6 +60,8 @@ fn status<
         input,
         output: WriterSink::new(io::writer(&rt)),
         net: TcpDial::new(rt.alloc(), rt, Some(CONNECT_MS), Some(LINK_WAIT_MS)),
+        app: TcpDial::new(rt.alloc(), rt, Some(CONNECT_MS), None),
+        peers: TcpDial::new(rt.alloc(), rt, Some(CONNECT_MS), Some(PEER_WAIT_MS)),
         time: SystemClock::new(rt),
         host: SystemHost::new(rt.alloc(), rt, Some(CONNECTION_WAIT_MS)),
     };

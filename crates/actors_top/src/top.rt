@@ -25,7 +25,7 @@ use command_words::{
 use host_ports::Host;
 use placement_command::{PlacementEnd, run_placement};
 use plain_commands::{Status, run_plain};
-use sidecar_command::run_sidecar;
+use sidecar_command::{Callees, run_sidecar};
 use std::alloc::Global;
 use std::sync::Wait;
 use std::thread::Threads;
@@ -38,8 +38,13 @@ pub struct Outside<I, W, N, T, H> {
     pub input: I,
     /// The sink of what the command prints.
     pub output: W,
-    /// What makes connections.
+    /// What makes connections to a placement, a store, and at the start.
     pub net: N,
+    /// What makes a sidecar's connections to its application. An application that is given up while it works would let turns
+    /// of one actor mix there.
+    pub app: N,
+    /// What makes its connections to other sidecars.
+    pub peers: N,
     /// What gives the time.
     pub time: T,
     /// What opens disks and binds ports.
@@ -111,7 +116,19 @@ fn sidecar<R: Threads + Wait + Sync, I: Source, W: Sink, N: Dial, T: Clock, H: H
     ensures ports_back { H.ports_out out.new.host ≡ H.ports_out out.old.host }
     ensures disks { (H.disks_out out.new.host ≡ H.disks_out out.old.host) × (H.open_faults out.new.host ≡ H.open_faults out.old.host) }
 {
-    let end = run_sidecar(rt, alloc, words, &mut out.host, &mut out.net, &mut out.time);
+    let callees = Callees {
+        app: &out.app,
+        peers: &out.peers,
+    };
+    let end = run_sidecar(
+        rt,
+        alloc,
+        words,
+        &mut out.host,
+        &mut out.net,
+        &callees,
+        &mut out.time,
+    );
     tell_sidecar(alloc, &end, &mut out.output)
 }
 

@@ -3,6 +3,7 @@ ghost use Rattle.std.specs.Prelude.{◌≡◌, ◌<◌, ◌≤◌, ◌⊎◌, If
 ghost use Rattle.host_ports.specs.Hosts.{place_of};
 ghost use Rattle.sidecar_command.specs.Commands.{AsksPorts, IsEnd};
 
+use crate::callees::Callees;
 use crate::ends::{SidecarEnd, unstarted};
 use crate::serving::serve_started;
 use actor_names::{OutOfMemory, read_app_id, read_node, read_space};
@@ -46,13 +47,15 @@ fn parts_of(words: &SidecarWords<'_>) -> u8
 
 /// Runs a sidecar. The store draws its boot, and its application says what it hosts; then it binds its two ports and serves
 /// them, until as many connections of callers were served as the words say, or without an end. It ends earlier if it
-/// doesn't start, has to stop, or a port fails.
+/// doesn't start, has to stop, or a port fails. It starts by `net`, which gives it the connections to the placement and the
+/// store too; those of turns come from `callees`.
 pub fn run_sidecar<R: Threads + Wait + Sync, H: Host, N: Dial, K: Clock>(
     rt: &R,
     alloc: Global,
     words: &SidecarWords<'_>,
     host: &mut H,
     net: &mut N,
+    callees: &Callees<'_, N>,
     clock: &mut K,
 ) -> SidecarEnd
     ensures asks { AsksPorts (place_of words.now.listen) (place_of words.now.peer) (H.asked host.old) (H.asked host.new) }
@@ -76,5 +79,5 @@ pub fn run_sidecar<R: Threads + Wait + Sync, H: Host, N: Dial, K: Clock>(
         Ok(made) => made,
         Err(_) => return SidecarEnd::OutOfMemory,
     };
-    serve_started(rt, alloc, &node, seats, words, host, net, clock)
+    serve_started(rt, alloc, &node, seats, words, host, net, callees, clock)
 }

@@ -6,11 +6,13 @@
 // `host_ports`, `connection_server`, `command_words`, `round_core` and `actor_ports`.
 #![tactic(auto)]
 
+mod callees;
 mod command;
 mod ends;
 mod serving;
 mod telling;
 
+pub use callees::Callees;
 pub use command::run_sidecar;
 pub use ends::SidecarEnd;
 pub use telling::push_end;

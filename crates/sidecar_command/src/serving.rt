@@ -6,6 +6,7 @@ ghost use Rattle.host_ports.specs.Hosts.{place_of};
 ghost use Rattle.sidecar_node.specs.Nodes.{IsSeatsOf, host_of};
 ghost use Rattle.sidecar_command.specs.Commands.{AsksPorts, IsEnd};
 
+use crate::callees::Callees;
 use crate::ends::{SidecarEnd, ended, unbound};
 use actor_ports::{Clock, Dial};
 use command_words::SidecarWords;
@@ -18,9 +19,13 @@ use std::sync::Wait;
 use std::thread::Threads;
 
 // What the sidecar calls, by diallers of its own.
-fn own_links<N: Dial>(words: &SidecarWords<'_>, net: &N) -> Option<Links<N>> {
-    let app = net.another().ok()?;
-    let peers = net.another().ok()?;
+fn own_links<N: Dial>(
+    words: &SidecarWords<'_>,
+    net: &N,
+    callees: &Callees<'_, N>,
+) -> Option<Links<N>> {
+    let app = callees.app.another().ok()?;
+    let peers = callees.peers.another().ok()?;
     let store = net.another().ok()?;
     Some(Links::new(app, peers, store, words.app_at, words.store))
 }
@@ -86,6 +91,7 @@ pub(crate) fn serve_started<R: Threads + Wait + Sync, H: Host, N: Dial, K: Clock
     words: &SidecarWords<'_>,
     host: &mut H,
     net: &N,
+    callees: &Callees<'_, N>,
     clock: &K,
 ) -> SidecarEnd
     requires seats { IsSeatsOf node.now seats }
@@ -97,7 +103,7 @@ pub(crate) fn serve_started<R: Threads + Wait + Sync, H: Host, N: Dial, K: Clock
     ensures ports_back { H.ports_out host.new ≡ H.ports_out host.old }
     ensures disks { (H.disks_out host.new ≡ H.disks_out host.old) × (H.open_faults host.new ≡ H.open_faults host.old) }
 {
-    let Some(links) = own_links(words, net) else {
+    let Some(links) = own_links(words, net, callees) else {
         return SidecarEnd::OutOfMemory;
     };
     let (Ok(net), Ok(clock)) = (net.another(), clock.another()) else {
