@@ -136,4 +136,5 @@ def main():
         print(join_until_cut(port, int(sys.argv[3])))
 
 
-main()
+if __name__ == "__main__":
+    main()

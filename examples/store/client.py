@@ -116,6 +116,24 @@ def load(port, links):
     return [key for keys in told for key in keys]
 
 
+def boot_together(port, word, links):
+    """Holds so many connections open at once, and draws a boot on each. Returns how many different ones were answered."""
+    held = [dial(port) for _ in range(links)]
+    answers = []
+
+    def one(link):
+        answers.append(ask(link, boot(word)))
+
+    threads = [threading.Thread(target=one, args=(link,)) for link in held]
+    for thread in threads:
+        thread.start()
+    for thread in threads:
+        thread.join()
+    for link in held:
+        link.close()
+    return len({answer for answer in answers if answer.startswith("booted ")})
+
+
 def lost(port, file):
     """How many of the keys in a file don't have their own text as their value."""
     missing = 0
@@ -134,6 +152,14 @@ def main():
     if command == "lost":
         print(lost(port, sys.argv[3]))
         return
+    if command == "together":
+        print(boot_together(port, "together", 64))
+        return
+    if command == "half":
+        link = dial(port)
+        link.sendall(boot("half")[:7])
+        time.sleep(float(sys.argv[3]))
+        return
     with dial(port) as link:
         if command == "boot":
             print(ask(link, boot(sys.argv[3])))
@@ -145,4 +171,5 @@ def main():
             print(ask(link, transaction(whose, "i", [upsert(key, value)])), ask(link, get("i", key)))
 
 
-main()
+if __name__ == "__main__":
+    main()

@@ -1,0 +1,28 @@
+// One case and its answer.
+use crate::beats::{beat, leave};
+use crate::bytes::{add, bytes_of};
+use crate::sessions::{cuts, session};
+use std::alloc::Global;
+use std::sync::Wait;
+
+/// The name of a case and its answer; `None` if it is none, or memory ran out.
+pub(crate) fn answer<R: Wait>(rt: &R, alloc: Global, line: &str) -> Option<String> {
+    let (name, case) = line.split_once(' ')?;
+    let mut text = String::new(alloc);
+    add(name, &mut text)?;
+    add(" ", &mut text)?;
+    add_answer(rt, alloc, case, &mut text)?;
+    Some(text)
+}
+
+fn add_answer<R: Wait>(rt: &R, alloc: Global, case: &str, text: &mut String) -> Option<()> {
+    let (word, rest) = case.split_once(' ')?;
+    match word {
+        "session" => session(rt, alloc, rest, false, text),
+        "turns" => session(rt, alloc, rest, true, text),
+        "cuts" => cuts(rt, alloc, bytes_of(alloc, rest)?.as_slice(), text),
+        "beat" => beat(rt, alloc, bytes_of(alloc, rest)?.as_slice(), text),
+        "leave" => leave(rt, alloc, bytes_of(alloc, rest)?.as_slice(), text),
+        _ => None,
+    }
+}

@@ -1,0 +1,34 @@
+// A sidecar over connections in memory, as a table: each line of the input is a case, and the line printed for it is its
+// answer. A line begins with the name of its case, which is printed again. Bytes other than printable ones are written
+// `\r`, `\n` and `\xHH`, a backslash too, and the signs `;` and `|` inside of bytes.
+//
+//     NAME session BYTES|APP;APP|STORE;..    how a session over a caller's bytes ends and what it writes, then what each link
+//                                            to the application and to the store was sent; APP and STORE are what one answers
+//     NAME turns BYTES|APP;APP|STORE;..      the same, and after the session a tick and a turn with the reminders
+//     NAME cuts BYTES                        at how many cuts of the bytes the session ends without a response, of how many
+//     NAME beat BYTES                        how a turn of a new sidecar with the placement ends that answers so, and what it sent
+//     NAME leave BYTES                       the same of a turn in which it leaves, and how the turn with the placement after it ends
+//
+// The sidecar is `n1`, of boot 1, with one part. Its application hosts `order`, with reentrancy. There are at most six links
+// to each. It has no contracts that another crate needs. Depends on sidecar_start, sidecar_sessions, placement_beats,
+// tick_turns, reminder_turns, sidecar_node, link_exchange, actors_api, frame_wire, actor_names and actor_ports.
+#![tactic(auto)]
+
+mod beats;
+mod bytes;
+mod case;
+mod links;
+mod node;
+mod sessions;
+
+use std::io;
+
+fn main(rt: HostRuntime) -> io::Result<()> {
+    for line in rt.lines(rt.alloc()) {
+        match case::answer(&rt, rt.alloc(), line?.as_str()) {
+            Some(answer) => println!(rt; "{answer}")?,
+            None => println!(rt; "no case, or out of memory")?,
+        }
+    }
+    Ok(())
+}
