@@ -45,17 +45,17 @@ pub(crate) fn tell_watch<R: Wait, N: Dial, K: Clock>(
     }
 }
 
-// What the watch is to be told of a turn that ended so, the placement being heard at this moment.
-fn heard_of(end: TurnEnd, heard: u64) -> Option<WatchEvent>
+// What the watch is to be told of a turn that began at this moment and ended so.
+fn heard_of(end: TurnEnd, began: u64) -> Option<WatchEvent>
     ensures { IfSome result WatchTakes }
 {
     match end {
-        TurnEnd::Next => Some(WatchEvent::Heard { at: heard }),
+        TurnEnd::Next => Some(WatchEvent::Heard { at: began }),
         TurnEnd::Refused { reply } => {
             if is_final(&reply) {
                 return Some(WatchEvent::Refused { reply });
             }
-            Some(WatchEvent::Heard { at: heard })
+            Some(WatchEvent::Heard { at: began })
         }
         _ => None,
     }
@@ -100,6 +100,8 @@ pub(crate) fn beat<R: Wait, N: Dial, K: Clock>(
         return pass;
     };
     let mut link = link;
+    // The placement can't have heard this turn's frame before it began.
+    let began = pass.clock.now_ms();
     let (seats, end) = placement_turn(
         rt,
         service.alloc,
@@ -111,7 +113,7 @@ pub(crate) fn beat<R: Wait, N: Dial, K: Clock>(
     );
     pass.seats = seats;
     pass.link = kept_link(end, link);
-    match heard_of(end, pass.book.heard) {
+    match heard_of(end, began) {
         None => pass,
         Some(event) => tell_watch(rt, service, pass, event),
     }
