@@ -8,14 +8,27 @@ use Rattle.actor_names.specs.Same.{same_key, key_before}
 use Rattle.part_cells.specs.Cells.{cell_at, drop_cell, insert_cell, put_cell, keep_cell, is_kept}
 use Rattle.part_cells.proofs.KeyOrders.{same_key-true}
 
-pub In-front : (l m : List ActorCell) (d : ActorCell) → In d l → In d (l ++ m)
-In-front [] m d i = absurd i
-In-front (c ∷ l) m d (inl e) = inl e
-In-front (c ∷ l) m d (inr i) = inr (In-front l m d i)
+-- ---- lists
 
-pub In-back : (l m : List ActorCell) (d : ActorCell) → In d m → In d (l ++ m)
-In-back [] m d i = i
-In-back (c ∷ l) m d i = inr (In-back l m d i)
+-- a list is cut at each of its elements
+pub cut : {A : Type 0} (xs : List A) (x : A) → In x xs → (l : List A) × (r : List A) × (xs ≡ l ++ x ∷ r)
+cut [] x i = absurd i
+cut (y ∷ xs) x (inl e) = ([], xs, ap (λ z. z ∷ xs) (sym e))
+cut (y ∷ xs) x (inr i) = let m = cut xs x i in (y ∷ m.0, m.1, ap (λ ys. y ∷ ys) m.2)
+
+pub In-front : {A : Type 0} (l m : List A) (x : A) → In x l → In x (l ++ m)
+In-front [] m x i = absurd i
+In-front (y ∷ l) m x (inl e) = inl e
+In-front (y ∷ l) m x (inr i) = inr (In-front l m x i)
+
+pub In-back : {A : Type 0} (l m : List A) (x : A) → In x m → In x (l ++ m)
+In-back [] m x i = i
+In-back (y ∷ l) m x i = inr (In-back l m x i)
+
+pub In-either : {A : Type 0} (l m : List A) (x : A) → In x (l ++ m) → In x l ⊎ In x m
+In-either [] m x i = inr i
+In-either (y ∷ l) m x (inl e) = inl (inl e)
+In-either (y ∷ l) m x (inr i) = elim (In-either l m x i) [ inl j ↦ inl (inr j) | inr j ↦ inr j ]
 
 -- ---- the cell that is found
 
@@ -93,13 +106,6 @@ In-insert-itself (c ∷ cs) x =
     let more = In-insert-itself cs x in
     cond_both (key_before x.key c.key) _ _ (In x) (λ _. inl refl) (λ _. inr more)
 
-pub In-inserted : (cs : List ActorCell) (x y : ActorCell) → In y cs → In y (insert_cell cs x)
-In-inserted [] x y i = absurd i
-In-inserted (c ∷ cs) x y (inl e) = cond_both (key_before x.key c.key) _ _ (In y) (λ _. inr (inl e)) (λ _. inl e)
-In-inserted (c ∷ cs) x y (inr i) =
-    let more = In-inserted cs x y i in
-    cond_both (key_before x.key c.key) _ _ (In y) (λ _. inr (inr i)) (λ _. inr more)
-
 -- a cell that was put, or one of another key
 pub In-put_cell : (cs : List ActorCell) (x y : ActorCell) → In y (put_cell cs x) → (y ≡ x) ⊎ (In y cs × (same_key x.key y.key ≡ false))
 In-put_cell cs x y h = elim (In-insert_cell (drop_cell cs x.key) x y h) [ inl e ↦ inl e | inr i ↦ inr (In-drop_cell cs x.key y i, other_key cs x.key y i) ]
@@ -111,10 +117,3 @@ In-keep_cell cs x y h =
     (λ k i. elim (In-put_cell cs x y i) [ inl e ↦ inl (e, k) | inr j ↦ inr j ])
     (λ _ i. inr (In-drop_cell cs x.key y i, other_key cs x.key y i))
     h
-
--- a cell of another key stays
-pub In-put-other : (cs : List ActorCell) (x y : ActorCell) → In y cs → same_key x.key y.key ≡ false → In y (put_cell cs x)
-In-put-other cs x y i f = In-inserted (drop_cell cs x.key) x y (In-left cs x.key y i f)
-
-pub In-keep-other : (cs : List ActorCell) (x y : ActorCell) → In y cs → same_key x.key y.key ≡ false → In y (keep_cell cs x)
-In-keep-other cs x y i f = cond_both (is_kept x) _ _ (In y) (λ _. In-put-other cs x y i f) (λ _. In-left cs x.key y i f)

@@ -1,4 +1,4 @@
--- Cells in order, cut at one of them: a cell that is looked for or changed is on one side of the cut.
+-- Cells in order, cut at one of them, which is looked for, dropped or changed.
 use Rattle.std.proofs.Common.{◌≡◌, false, List, [], ◌∷◌, ◌++◌, Some, refl, ap, ◌∙◌, inl, inr}
 use Rattle.std.specs.declared.cmp.Ordering.TheVariants.{Less, Equal, Greater}
 use Rattle.std.proofs.lemmas.Bool.{cond_both, cond-true, cond-false}
@@ -8,8 +8,8 @@ use Rattle.part_cells.specs.declared.actor_cell.ActorCell.{ActorCell}
 use Rattle.actor_names.specs.Same.{same_key, key_cmp, key_before}
 use Rattle.part_cells.specs.Cells.{cell_at, drop_cell, insert_cell, put_cell}
 use Rattle.part_cells.specs.Order.{AreInOrder}
-use Rattle.part_cells.proofs.KeyOrders.{key_cmp_total, before, same_keys, before_keys, after_equal, after_greater, before_equal}
-use Rattle.part_cells.proofs.Elements.{at-none, drop-none}
+use Rattle.part_cells.proofs.KeyOrders.{before, same_keys, before_keys, after_equal, before_equal}
+use Rattle.part_cells.proofs.Elements.{drop-none}
 use Rattle.part_cells.proofs.Orders.{before_middle, behind_middle}
 
 -- ---- keys on each side
@@ -32,28 +32,17 @@ module _ (key : ActorKey) (cs : List ActorCell) where
   others_greater h c i = same_keys c.key key Greater (h c i)
 
 module _ (key : ActorKey) (l : List ActorCell) (x : ActorCell) (r : List ActorCell) (o : AreInOrder (l ++ x ∷ r)) where
-  front_less : key_cmp x.key key ≡ Less → AreLess key l
-  front_less h c i = let t = key_cmp_total in t.trans c.key x.key key (before c.key x.key (before_middle l x r o c i)) h
-
   front_same : key_cmp x.key key ≡ Equal → AreLess key l
   front_same h c i = before_equal c.key x.key key h (before c.key x.key (before_middle l x r o c i))
 
   behind_same : key_cmp x.key key ≡ Equal → AreGreater key r
   behind_same h c i = after_equal x.key c.key key h (before x.key c.key (behind_middle l x r o c i))
 
-  behind_greater : key_cmp x.key key ≡ Greater → AreGreater key (x ∷ r)
-  behind_greater h c (inl e) = rw e h
-  behind_greater h c (inr i) = after_greater x.key c.key key h (before x.key c.key (behind_middle l x r o c i))
-
 -- ---- cells of two lists
 
 at_back : (key : ActorKey) (l m : List ActorCell) → AreOthers key l → cell_at (l ++ m) key ≡ cell_at m key
 at_back key [] m h = refl
 at_back key (c ∷ l) m h = cond-false (same_key key c.key) _ _ (h c (inl refl)) ∙ at_back key l m (λ d i. h d (inr i))
-
-at_front : (key : ActorKey) (l m : List ActorCell) → AreOthers key m → cell_at (l ++ m) key ≡ cell_at l key
-at_front key [] m h = at-none key m h
-at_front key (c ∷ l) m h = rw (at_front key l m h) refl
 
 drop-append : (key : ActorKey) (l m : List ActorCell) → drop_cell (l ++ m) key ≡ drop_cell l key ++ drop_cell m key
 drop-append key [] m = refl
@@ -73,30 +62,11 @@ module _ (e : ActorCell) where
   insert_here [] h = refl
   insert_here (c ∷ m) h = cond-true (key_before e.key c.key) _ _ (before_keys c.key e.key Greater (h c (inl refl)))
 
-  insert_front : (l m : List ActorCell) → AreGreater e.key m → insert_cell (l ++ m) e ≡ insert_cell l e ++ m
-  insert_front [] m h = insert_here m h
-  insert_front (c ∷ l) m h =
-      let more = insert_front l m h in
-      cond_both (key_before e.key c.key) (e ∷ c ∷ l) (c ∷ insert_cell l e) (λ r. insert_cell (c ∷ l ++ m) e ≡ r ++ m)
-      (λ t. cond-true (key_before e.key c.key) _ _ t)
-      (λ f. cond-false (key_before e.key c.key) _ _ f ∙ ap (λ ds. c ∷ ds) more)
-
 -- ---- what is found, dropped and put at a cut
 
 module _ (key : ActorKey) (l : List ActorCell) (x : ActorCell) (r : List ActorCell) (o : AreInOrder (l ++ x ∷ r)) where
-  pub at_right : key_cmp x.key key ≡ Less → cell_at (l ++ x ∷ r) key ≡ cell_at r key
-  at_right h = at_back key l (x ∷ r) (others_less key l (front_less key l x r o h)) ∙ cond-false (same_key key x.key) _ _ (same_keys x.key key Less h)
-
   pub at_here : key_cmp x.key key ≡ Equal → cell_at (l ++ x ∷ r) key ≡ Some x
   at_here h = at_back key l (x ∷ r) (others_less key l (front_same key l x r o h)) ∙ cond-true (same_key key x.key) _ _ (same_keys x.key key Equal h)
-
-  pub at_left : key_cmp x.key key ≡ Greater → cell_at (l ++ x ∷ r) key ≡ cell_at l key
-  at_left h = at_front key l (x ∷ r) (others_greater key (x ∷ r) (behind_greater key l x r o h))
-
-  pub drop_right : key_cmp x.key key ≡ Less → drop_cell (l ++ x ∷ r) key ≡ l ++ x ∷ drop_cell r key
-  drop_right h =
-      drop-append key l (x ∷ r)
-      ∙ (λ i. drop-none key l (others_less key l (front_less key l x r o h)) i ++ cond-false (same_key key x.key) (drop_cell r key) (x ∷ drop_cell r key) (same_keys x.key key Less h) i)
 
   pub drop_here : key_cmp x.key key ≡ Equal → drop_cell (l ++ x ∷ r) key ≡ l ++ r
   drop_here h =
@@ -104,23 +74,9 @@ module _ (key : ActorKey) (l : List ActorCell) (x : ActorCell) (r : List ActorCe
       ∙ (λ i. drop-none key l (others_less key l (front_same key l x r o h)) i ++ cond-true (same_key key x.key) (drop_cell r key) (x ∷ drop_cell r key) (same_keys x.key key Equal h) i)
       ∙ ap (λ ds. l ++ ds) (drop-none key r (others_greater key r (behind_same key l x r o h)))
 
-  pub drop_left : key_cmp x.key key ≡ Greater → drop_cell (l ++ x ∷ r) key ≡ drop_cell l key ++ x ∷ r
-  drop_left h =
-      drop-append key l (x ∷ r) ∙ ap (λ ds. drop_cell l key ++ ds) (drop-none key (x ∷ r) (others_greater key (x ∷ r) (behind_greater key l x r o h)))
-
 module _ (e : ActorCell) (l : List ActorCell) (x : ActorCell) (r : List ActorCell) (o : AreInOrder (l ++ x ∷ r)) where
-  pub put_right : key_cmp x.key e.key ≡ Less → put_cell (l ++ x ∷ r) e ≡ l ++ x ∷ put_cell r e
-  put_right h =
-      ap (λ ds. insert_cell ds e) (drop_right e.key l x r o h)
-      ∙ insert_back e l (x ∷ drop_cell r e.key) (front_less e.key l x r o h)
-      ∙ ap (λ ds. l ++ ds) (cond-false (key_before e.key x.key) _ _ (before_keys x.key e.key Less h))
-
   pub put_here : key_cmp x.key e.key ≡ Equal → put_cell (l ++ x ∷ r) e ≡ l ++ e ∷ r
   put_here h =
       ap (λ ds. insert_cell ds e) (drop_here e.key l x r o h)
       ∙ insert_back e l r (front_same e.key l x r o h)
       ∙ ap (λ ds. l ++ ds) (insert_here e r (behind_same e.key l x r o h))
-
-  pub put_left : key_cmp x.key e.key ≡ Greater → put_cell (l ++ x ∷ r) e ≡ put_cell l e ++ x ∷ r
-  put_left h =
-      ap (λ ds. insert_cell ds e) (drop_left e.key l x r o h) ∙ insert_front e (drop_cell l e.key) (x ∷ r) (behind_greater e.key l x r o h)

@@ -29,9 +29,6 @@ is_less Greater e = absurd (cc)
 pub before : (a b : ActorKey) → key_before a b ≡ true → key_cmp a b ≡ Less
 before a b e = is_less (key_cmp a b) e
 
-pub less_before : (a b : ActorKey) → key_cmp a b ≡ Less → key_before a b ≡ true
-less_before a b e = ap is_lt e
-
 pub same_keys : (a b : ActorKey) (o : Ordering) → key_cmp a b ≡ o → same_key b a ≡ is_eq (ordering_reverse o)
 same_keys a b o e =
     let kinds = slice_cmp nat_cmp b.kind a.kind in

@@ -5,4 +5,8 @@ pub mod Forks
 pub mod Changes
 pub mod Sizes
 pub mod Calls
-mod Tops
+pub mod Placed
+pub mod Keeping
+pub mod Writes
+pub mod SlotPasses
+pub mod Settled

@@ -8,20 +8,13 @@ use Rattle.actor_names.specs.Same.{same_key, key_before}
 use Rattle.part_cells.specs.Cells.{drop_cell, insert_cell, put_cell, keep_cell, is_kept}
 use Rattle.part_cells.specs.Order.{AreInOrder}
 use Rattle.part_cells.proofs.KeyOrders.{key_trans, key_after}
-use Rattle.part_cells.proofs.Elements.{In-front, In-back, In-drop_cell, In-insert_cell, other_key}
+use Rattle.part_cells.proofs.Elements.{In-back, In-drop_cell, In-insert_cell, other_key}
 
 -- ---- the parts of cells in order
-
-pub order_front : (l m : List ActorCell) → AreInOrder (l ++ m) → AreInOrder l
-order_front [] m o = tt
-order_front (c ∷ l) m o = (λ d i. o.0 d (In-front l m d i), order_front l m o.1)
 
 pub order_back : (l m : List ActorCell) → AreInOrder (l ++ m) → AreInOrder m
 order_back [] m o = o
 order_back (c ∷ l) m o = order_back l m o.1
-
-pub order_behind : (l : List ActorCell) (x : ActorCell) (r : List ActorCell) → AreInOrder (l ++ x ∷ r) → AreInOrder r
-order_behind l x r o = let m = order_back l (x ∷ r) o in m.1
 
 -- those before a cell have keys before its own
 pub before_middle : (l : List ActorCell) (x : ActorCell) (r : List ActorCell) → AreInOrder (l ++ x ∷ r) → (d : ActorCell) → In d l → key_before d.key x.key ≡ true

@@ -45,24 +45,15 @@ module _ (f : ActorCell → ℕ) where
   within_total (d ∷ cs) c (inl e) = let q = ap f e in omega arith
   within_total (d ∷ cs) c (inr i) = let m = within_total cs c i in omega arith
 
-  total-drop_cell : (cs : List ActorCell) (key : ActorKey) → total f (drop_cell cs key) ≤ total f cs
-  total-drop_cell [] key = omega arith
-  total-drop_cell (c ∷ cs) key =
-      let more = total-drop_cell cs key in
-      cond_both (same_key key c.key) _ _ (λ r. total f r ≤ total f (c ∷ cs)) (λ _. omega arith) (λ _. omega arith)
-
-  total-insert_cell : (cs : List ActorCell) (x : ActorCell) → total f (insert_cell cs x) ≡ total f cs + f x
+  pub total-insert_cell : (cs : List ActorCell) (x : ActorCell) → total f (insert_cell cs x) ≡ total f cs + f x
   total-insert_cell [] x = omega arith
   total-insert_cell (c ∷ cs) x =
       let more = total-insert_cell cs x in
       cond_both (key_before x.key c.key) _ _ (λ r. total f r ≡ total f (c ∷ cs) + f x) (λ _. omega arith) (λ _. omega arith)
 
   -- the sum loses the number of a cell that is taken
-  total-taken : (cs : List ActorCell) (key : ActorKey) (c : ActorCell) → cell_at cs key ≡ Some c → AreInOrder cs → total f (drop_cell cs key) + f c ≡ total f cs
+  pub total-taken : (cs : List ActorCell) (key : ActorKey) (c : ActorCell) → cell_at cs key ≡ Some c → AreInOrder cs → total f (drop_cell cs key) + f c ≡ total f cs
   total-taken cs key c e o = let n = total-insert_cell (drop_cell cs key) c in let same = ap (total f) (insert-taken cs key c e o) in omega arith
-
-  pub total-put_cell : (cs : List ActorCell) (x : ActorCell) → total f (put_cell cs x) ≤ total f cs + f x
-  total-put_cell cs x = let n = total-insert_cell (drop_cell cs x.key) x in let d = total-drop_cell cs x.key in omega arith
 
   pub total-put-found : (cs : List ActorCell) (x c : ActorCell) → cell_at cs x.key ≡ Some c → AreInOrder cs → total f (put_cell cs x) + f c ≡ total f cs + f x
   total-put-found cs x c e o = let n = total-insert_cell (drop_cell cs x.key) x in let d = total-taken cs x.key c e o in omega arith

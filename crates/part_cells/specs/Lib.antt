@@ -1,4 +1,3 @@
 pub mod Cells
 pub mod Order
-pub mod Tree
-pub mod Index
+pub mod Slots

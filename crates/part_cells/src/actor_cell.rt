@@ -1,7 +1,4 @@
 // What a part keeps of one actor.
-ghost use Rattle.std.specs.Prelude.{◌≡◌};
-ghost use Rattle.part_cells.specs.Cells.{is_kept};
-
 use actor_names::ActorKey;
 use turn_core::Cell;
 
@@ -18,11 +15,4 @@ pub struct ActorCell {
     pub closing: bool,
     /// When its last turn or hold ended, in milliseconds since 1970.
     pub last: u64,
-}
-
-/// Whether a cell is kept: it is active, or a call is in its queue.
-pub fn is_kept(cell: &ActorCell) -> bool
-    ensures { result ≡ is_kept cell.now }
-{
-    cell.active || cell.inner.waiting() > 0
 }

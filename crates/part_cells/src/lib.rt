@@ -1,18 +1,28 @@
-// The cells of a part, in order of key in a search tree, and an index from calls to actors.
+// The cells of a part in slots, with a map from keys to slots, in order of key, and an index from calls to slots.
 //
-// Promise: a `Tree` is seen as the list of its cells, and each of its changes is a change of that list, as defined
-// in `specs/Cells`. Depends on `turn_core` and `actor_names`.
+// Promise: `Cells` is seen as the list of its cells in order of key, and each of its changes is a change of that list,
+// as defined in `specs/Cells` and `specs/Slots`. The index has one entry for each call that is open or waits, and no
+// other. Depends on `turn_core`, `actor_names` and `slab`.
 #![tactic(auto)]
 
 mod actor_cell;
-mod balance;
-mod change;
-mod index;
-mod tree;
+mod adding;
+mod asking;
+mod call_slots;
+mod cells;
+mod closing;
+mod draining;
+mod dropping;
+mod ending;
+mod holding;
+mod opening;
+mod passes;
+mod polling;
+mod stopping;
 
-pub use actor_cell::{ActorCell, is_kept};
-pub use index::CallIndex;
-pub use tree::{Node, Root, Tree, leaf};
+pub use actor_cell::ActorCell;
+pub use cells::Cells;
+pub use passes::CellTest;
 
 #[cfg(test)]
 mod tests;

@@ -1,190 +1,114 @@
-// Keys in an awkward order, compared with lists that the library sorts; the heights of trees, which no contract
-// bounds; and that the calls that may run out of memory succeed if there is enough.
+// Cells that come in an awkward order of keys, wait and go. No contract says that `add` and `ask` succeed if there is
+// enough memory.
 use super::*;
 use actor_names::{ActorKey, read_key};
 use std::alloc::Global;
-use std::marker::Model;
 use std::test::Fail;
-use turn_core::Cell;
+use turn_core::{Asked, Cell, CellEnd};
 
-/// Cells in order.
+// Whether the actor's last moment is before this one.
 #[derive(Drop)]
-struct Cells {
-    tree: Tree,
+struct IsBefore {
+    moment: u64,
 }
 
-impl Model for Cells {
-    ghost use Rattle.std.specs.Prelude.{List};
-    ghost use Rattle.part_cells.specs.declared.actor_cell.ActorCell.{ActorCell};
-    ghost use Rattle.part_cells.specs.Order.{AreInOrder};
+impl CellTest for IsBefore {
+    ghost use Rattle.std.specs.Prelude.{nat_lt};
 
-    ghost Value = { List ActorCell };
+    ghost holds = { λ t c. nat_lt c.last t.moment };
 
-    ghost view = { λ a. a.tree };
-
-    ghost invariant = { λ a. AreInOrder a.tree };
-}
-
-impl Cells {
-    fn new() -> Cells {
-        Cells { tree: Tree::new() }
+    fn holds(&self, cell: &ActorCell) -> bool {
+        cell.last < self.moment
     }
-
-    fn put(&mut self, node: Box<Node>) {
-        self.tree.put(node);
-    }
-
-    fn keep(&mut self, node: Box<Node>) {
-        self.tree.keep(node);
-    }
-
-    fn take(&mut self, key: &ActorKey) -> Option<Box<Node>> {
-        self.tree.take(key)
-    }
-
-    // When the actor's last turn ended, if it has a cell.
-    fn last(&self, key: &ActorKey) -> Option<u64> {
-        match self.tree.get(key) {
-            None => None,
-            Some(cell) => Some(cell.last),
-        }
-    }
-}
-
-// The text of the key of an actor that has this number.
-fn key_text(alloc: Global, number: u64) -> Result<Vec<u8>, Fail> {
-    let text = format!(in alloc; "bell/{number}")?;
-    Ok(Vec::from_slice(alloc, text.as_bytes())?)
 }
 
 fn numbered_key(alloc: Global, number: u64) -> Result<ActorKey, Fail> {
-    Ok(read_key(alloc, key_text(alloc, number)?.as_slice())?)
+    let text = format!(in alloc; "bell/{number}")?;
+    Ok(read_key(alloc, text.as_bytes())?)
 }
 
-// A node with the cell of the actor that has this number. It is active, and its last turn ended at this number.
-fn numbered(alloc: Global, number: u64) -> Result<Box<Node>, Fail> {
+// Adds the cell of the actor that has this number, with its first call. Its last turn ended at this number.
+fn add(alloc: Global, cells: &mut Cells, number: u64, call: u64) -> Result<(), Fail> {
+    let key = numbered_key(alloc, number)?;
+    if cells.count() > 1000 {
+        return Err(Fail::from("many calls"));
+    }
+    if let Some(_) = cells.find(&key) {
+        return Err(Fail::from("a cell of this key"));
+    }
+    if let Some(_) = cells.find_call(call) {
+        return Err(Fail::from("a cell with this call"));
+    }
+    let mut inner = Cell::new(alloc, 0)?;
+    let _begun = inner.ask(alloc, call, None, true)?;
     let cell = ActorCell {
-        key: numbered_key(alloc, number)?,
-        inner: Cell::new(alloc, 0)?,
+        key,
+        inner,
         active: true,
         closing: false,
         last: number,
     };
-    Ok(leaf(alloc, cell)?)
-}
-
-// Appends the texts of the keys, from left to right.
-fn list(alloc: Global, tree: &Tree, texts: &mut Vec<Vec<u8>>) -> Result<(), Fail> {
-    match &tree.root {
-        Root::Empty => Ok(()),
-        Root::Full(node) => {
-            list(alloc, &node.left, texts)?;
-            let mut text = Vec::from_slice(alloc, node.cell.key.kind.as_slice())?;
-            text.push(b'/')?;
-            text.extend_from_slice(node.cell.key.id.as_slice())?;
-            texts.push(text)?;
-            list(alloc, &node.right, texts)
-        }
-    }
-}
-
-// The keys of a tree, and the sorted keys of the numbers below 300, with or without every third one.
-fn both_lists(
-    alloc: Global,
-    tree: &Tree,
-    with_thirds: bool,
-) -> Result<(Vec<Vec<u8>>, Vec<Vec<u8>>), Fail> {
-    let mut texts = Vec::new(alloc);
-    list(alloc, tree, &mut texts)?;
-    let mut sorted = Vec::new(alloc);
-    for number in 0..300u64 {
-        if with_thirds || number % 3 != 0 {
-            sorted.push(key_text(alloc, number)?)?;
-        }
-    }
-    sorted.sort()?;
-    Ok((texts, sorted))
-}
-
-#[test]
-fn cells_stand_in_order_of_key(rt: HostRuntime) -> Result<(), Fail> {
-    let alloc = rt.alloc();
-    let mut cells = Cells::new();
-    for step in 0..300u64 {
-        cells.put(numbered(alloc, step * 7 % 300)?);
-    }
-    let (texts, sorted) = both_lists(alloc, &cells.tree, true)?;
-    assert_eq!(rt; texts, sorted);
-    assert!(rt; cells.tree.height() <= 11);
-
-    let mut taken = Vec::new(alloc);
-    for third in 0..100u64 {
-        let key = numbered_key(alloc, third * 3)?;
-        taken.push(cells.take(&key).ok_or("no cell")?)?;
-        assert_eq!(rt; cells.last(&key), None);
-    }
-    let (texts, sorted) = both_lists(alloc, &cells.tree, false)?;
-    assert_eq!(rt; texts, sorted);
-    assert!(rt; cells.tree.height() <= 10);
-
-    for node in taken {
-        cells.put(node);
-    }
-    let (texts, sorted) = both_lists(alloc, &cells.tree, true)?;
-    assert_eq!(rt; texts, sorted);
-    assert_eq!(rt; cells.last(&numbered_key(alloc, 299)?), Some(299));
-    assert_eq!(rt; cells.last(&numbered_key(alloc, 300)?), None);
+    cells.add(alloc, cell, call)?;
     Ok(())
 }
 
-#[test]
-fn rising_keys_make_no_list(rt: HostRuntime) -> Result<(), Fail> {
-    let alloc = rt.alloc();
-    let mut cells = Cells::new();
-    for number in 1000..2000u64 {
-        cells.put(numbered(alloc, number)?);
+// The place of a new call in the queue of the actor that has this number.
+fn ask(alloc: Global, cells: &mut Cells, number: u64, call: u64) -> Result<u64, Fail> {
+    if cells.count() > 1000 {
+        return Err(Fail::from("many calls"));
     }
-    assert!(rt; cells.tree.height() <= 14);
-    for number in 1000..1900u64 {
-        let _taken = cells.take(&numbered_key(alloc, number)?);
+    if let Some(_) = cells.find_call(call) {
+        return Err(Fail::from("a cell with this call"));
     }
-    assert!(rt; cells.tree.height() <= 9);
-    Ok(())
+    let (slot, cell) = cells.find(&numbered_key(alloc, number)?).ok_or("no cell")?;
+    if cell.inner.depth() > 0 {
+        return Err(Fail::from("a cell with chains"));
+    }
+    match cells.ask(alloc, slot, call, None, true)? {
+        Asked::Begun => Ok(0),
+        Asked::Waits { place } => Ok(place),
+    }
+}
+
+// The calls of the turns that end in the actors whose last moment is before this one.
+fn drain(alloc: Global, cells: &mut Cells, moment: u64) -> Result<Vec<u64>, Fail> {
+    let mut ended = Vec::new(alloc);
+    ended.reserve(cells.count())?;
+    if cells.len() > 1000 {
+        return Err(Fail::from("many cells"));
+    }
+    let _over = cells.drain(&IsBefore { moment }, 99, &mut ended);
+    Ok(ended)
 }
 
 #[test]
-fn idle_cell_is_not_kept(rt: HostRuntime) -> Result<(), Fail> {
+fn cells_come_and_go(rt: HostRuntime) -> Result<(), Fail> {
     let alloc = rt.alloc();
-    let mut cells = Cells::new();
-    let key = numbered_key(alloc, 5)?;
-    cells.keep(numbered(alloc, 5)?);
-    assert_eq!(rt; cells.last(&key), Some(5));
-    let mut node = cells.take(&key).ok_or("no cell")?;
-    node.cell.last = 6;
-    cells.keep(node);
-    assert_eq!(rt; cells.last(&key), Some(6));
-    let mut node = cells.take(&key).ok_or("no cell")?;
-    node.cell.active = false;
-    cells.keep(node);
-    assert_eq!(rt; cells.last(&key), None);
-    Ok(())
-}
+    let mut cells = Cells::new(alloc);
+    for step in 0..30u64 {
+        add(alloc, &mut cells, step * 7 % 30, step * 7 % 30 + 1)?;
+    }
+    for number in 0..30u64 {
+        assert_eq!(rt; ask(alloc, &mut cells, number, number + 101)?, 1);
+    }
+    assert_eq!(rt; (cells.len(), cells.count()), (30, 60));
 
-#[test]
-fn index_names_the_actor_of_a_call(rt: HostRuntime) -> Result<(), Fail> {
-    let alloc = rt.alloc();
-    let mut index = CallIndex::new(alloc);
-    for call in 1..100u64 {
-        index.add(alloc, call, &numbered_key(alloc, call % 10)?)?;
-    }
-    index.remove(42);
-    index.add(alloc, 43, &numbered_key(alloc, 77)?)?;
-    for (call, id) in [(41, "1"), (43, "77"), (99, "9")] {
-        let key = index.key(call).ok_or("no call")?;
-        assert_eq!(rt; key.id.as_slice(), id.as_bytes(), "at {call}");
-    }
-    assert!(rt; index.key(42).is_none());
-    index.clear();
-    assert!(rt; index.key(41).is_none());
+    let (slot, _) = cells.find_call(6).ok_or("no call")?;
+    let CellEnd::Ended { next } = cells.end(slot, 6, true, 77) else {
+        return Err(Fail::from("no end"));
+    };
+    assert_eq!(rt; next, Some(106));
+    assert!(rt; cells.find_call(6).is_none());
+    let (_, found) = cells.find_call(106).ok_or("no call")?;
+    assert_eq!(rt; found.last, 77);
+
+    let (_, first) = cells.first(&IsBefore { moment: 3 }).ok_or("no cell")?;
+    assert_eq!(rt; first.last, 0);
+    let ended = drain(alloc, &mut cells, 10)?;
+    let want: [u64; 9] = [1, 2, 3, 4, 5, 7, 8, 9, 10];
+    assert_eq!(rt; ended.as_slice(), want.as_slice());
+    assert_eq!(rt; cells.count(), 50);
+    assert!(rt; cells.find_call(3).is_none());
+    assert!(rt; cells.find_call(103).is_some());
     Ok(())
 }

@@ -1,143 +1,210 @@
--- What is kept beside the cells when a step changes each of them.
-use Rattle.std.proofs.Common.{◌≡◌, ℕ, ◌≤◌, Bool, true, false, not, ◌&&◌, List, [], ◌∷◌, ◌++◌, length, Option, Some, refl, sym, ap, ◌∙◌, subst, arith, append_assoc, length-append}
-use Rattle.std.proofs.lemmas.Bool.{cond_both}
+-- A pass over the cells is a step of each of them.
+use Rattle.std.proofs.Common.{◌≡◌, ℕ, ◌+◌, ◌≤◌, Bool, true, false, not, ◌&&◌, List, [], ◌∷◌, ◌++◌, map, length, Option, None, Some, is_some, refl, sym, ap, ◌∙◌, subst, arith, length-append}
+use Rattle.std.specs.Prelude.{◌==◌, if◌then◌else◌}
+use Rattle.std.proofs.lemmas.Bool.{cond_both, cond-true, cond-false, and_parts}
 use Rattle.actor_names.specs.declared.actor_key.ActorKey.{ActorKey}
 use Rattle.turn_core.specs.declared.cell.Turn.{Turn}
 use Rattle.turn_core.specs.declared.cell.Waiter.{Waiter}
-use Rattle.turn_core.specs.Cell.{is_free, all_moved, next_call, turn_calls}
+use Rattle.turn_core.specs.Cell.{is_free, next_call, turn_calls}
+use Rattle.turn_core.proofs.Leaves.{begins_keeps, moved_keeps}
 use Rattle.part_cells.specs.declared.actor_cell.ActorCell.{ActorCell}
-use Rattle.part_cells.specs.Cells.{calls_in, total_calls}
-use Rattle.part_core.specs.Marks.{marks_of_ends, marks_of_inactive, marks_of_stop, begun_calls, ended_calls}
-use Rattle.part_core.specs.Part.{PartState, CellStep, each_cell, is_own, is_foreign, is_overdue, open_cell, tick_cell, ring_owner}
-use Rattle.part_core.specs.Actors.{IsNumbered, IsIndexed, AreIndexed, AreActorsKept}
+use Rattle.part_cells.specs.Cells.{calls_in, total, total_calls}
+use Rattle.part_cells.specs.Slots.{each_list, open_calls, first_where, late_cell, late_calls, late_number, next_calls, begun_cell, opened_cell, opened_calls, opened_moved}
+use Rattle.part_core.specs.Marks.{marks_of_next, marks_of_ends, marks_of_inactive, marks_of_stop, begun_calls, ended_calls}
+use Rattle.part_core.specs.Part.{PartState, CellStep, each_cell, is_own, is_foreign, is_overdue, open_cell, tick_cell, begin_in, move_in, may_close, first_to_close, ring_owner}
+use Rattle.part_core.specs.Actors.{IsNumbered, AreActorsKept}
 use Rattle.part_core.proofs.Numbers.{numbered_next, next_in_line, numbered_moved, numbered_stopped}
-use Rattle.part_core.proofs.OfCalls.{each_next, each_moved, each_stopped}
-use Rattle.part_core.proofs.Counts.{calls-begun_next, next_cases, begun-in_line}
-use Rattle.part_core.proofs.CallGives.{begun-marks_of_next}
-use Rattle.part_core.proofs.PartOrders.{In-each_cell, order-each_cell}
-use Rattle.part_core.proofs.EachCell.{ended-append, append_nil}
+use Rattle.part_core.proofs.AskedGives.{begun-marks_of_begin}
+use Rattle.part_core.proofs.PartOrders.{In-each_cell}
+use Rattle.part_core.proofs.EachCell.{begun-append, ended-append, append_nil}
 
-pub length-each : (f : ActorCell → CellStep) (cs : List ActorCell) → length (each_cell f cs).cells ≡ length cs
-length-each f [] = refl
-length-each f (c ∷ cs) = let l = length-each f cs in omega arith
+-- ---- cells, marks and counts, by what one cell gives
 
-total-each : (f : ActorCell → CellStep) (cs : List ActorCell) → ((c : ActorCell) → calls_in (f c).cell ≤ calls_in c) → total_calls (each_cell f cs).cells ≤ total_calls cs
-total-each f [] h = omega arith
-total-each f (c ∷ cs) h = let l = total-each f cs h in let m = h c in omega arith
+module _ (f : ActorCell → CellStep) where
+  pub each-cells : (g : ActorCell → ActorCell) → ((c : ActorCell) → g c ≡ (f c).cell) → (cs : List ActorCell) → map g cs ≡ (each_cell f cs).cells
+  each-cells g h [] = refl
+  each-cells g h (c ∷ cs) = λ i. h c i ∷ each-cells g h cs i
 
--- keys, numbers, look-ups and counts of calls stay within what they were
-pub record KeepsEach (drawn : ℕ) (look : ℕ → Option ActorKey) (f : ActorCell → CellStep) : Type 0 where
-  pub key : (c : ActorCell) → (f c).cell.key ≡ c.key
-  pub numbered : (c : ActorCell) → IsNumbered drawn c.inner → IsNumbered drawn (f c).cell.inner
-  pub indexed : (c : ActorCell) → IsIndexed look c → IsIndexed look (f c).cell
-  pub calls : (c : ActorCell) → calls_in (f c).cell ≤ calls_in c
+  pub each-begun : (g : ActorCell → List ℕ) → ((c : ActorCell) → g c ≡ begun_calls (f c).marks) → (cs : List ActorCell) → each_list g cs ≡ begun_calls (each_cell f cs).marks
+  each-begun g h [] = refl
+  each-begun g h (c ∷ cs) = (λ i. h c i ++ each-begun g h cs i) ∙ sym (begun-append (f c).marks (each_cell f cs).marks)
 
-pub kept_each : (drawn size count room room' : ℕ) (look : ℕ → Option ActorKey) (f : ActorCell → CellStep) (cells : List ActorCell)
-    → AreActorsKept drawn cells size look count room → KeepsEach drawn look f → count ≤ room' → AreActorsKept drawn (each_cell f cells).cells size look count room'
-kept_each drawn size count room room' look f cells k e has =
-    record {
-      drawn_fits = k.drawn_fits;
-      in_order = order-each_cell f cells e.key k.in_order;
-      numbered = λ d i. let m = In-each_cell f cells d i in subst (λ (z : ActorCell). IsNumbered drawn z.inner) (sym m.2) (e.numbered m.0 (k.numbered m.0 m.1));
-      few = (let l = length-each f cells in let h = k.few in omega arith);
-      sized = (let l = length-each f cells in let h = k.sized in omega arith);
-      indexed = λ d i. let m = In-each_cell f cells d i in subst (IsIndexed look) (sym m.2) (e.indexed m.0 (k.indexed m.0 m.1));
-      counted = (let l = total-each f cells e.calls in let h = k.counted in omega arith);
-      count_drawn = k.count_drawn;
-      has_room = has;
-    }
+  pub each-ended : (g : ActorCell → List ℕ) → ((c : ActorCell) → g c ≡ ended_calls (f c).marks) → (cs : List ActorCell) → each_list g cs ≡ ended_calls (each_cell f cs).marks
+  each-ended g h [] = refl
+  each-ended g h (c ∷ cs) = (λ i. h c i ++ each-ended g h cs i) ∙ sym (ended-append (f c).marks (each_cell f cs).marks)
 
--- other look-ups are kept
-pub reindexed : (drawn size count room : ℕ) (look look' : ℕ → Option ActorKey) (cells : List ActorCell) → AreActorsKept drawn cells size look count room → AreIndexed look' cells → AreActorsKept drawn cells size look' count room
-reindexed drawn size count room look look' cells k i =
-    record {
-      drawn_fits = k.drawn_fits;
-      in_order = k.in_order;
-      numbered = k.numbered;
-      few = k.few;
-      sized = k.sized;
-      indexed = i;
-      counted = k.counted;
-      count_drawn = k.count_drawn;
-      has_room = k.has_room;
-    }
+  pub each-first : (h : ActorCell → ℕ) → ((c : ActorCell) → h c ≡ (f c).first) → (cs : List ActorCell) → total h cs ≡ (each_cell f cs).first
+  each-first h e [] = refl
+  each-first h e (c ∷ cs) = λ i. e c i + each-first h e cs i
 
-length-all_moved : (ws : List Waiter) → length (all_moved ws) ≡ length ws
-length-all_moved [] = refl
-length-all_moved (w ∷ ws) = let l = length-all_moved ws in omega arith
+  pub each-second : (h : ActorCell → ℕ) → ((c : ActorCell) → h c ≡ (f c).second) → (cs : List ActorCell) → total h cs ≡ (each_cell f cs).second
+  each-second h e [] = refl
+  each-second h e (c ∷ cs) = λ i. e c i + each-second h e cs i
 
-pub opening_keeps : (drawn : ℕ) (look : ℕ → Option ActorKey) (p : PartState) → KeepsEach drawn look (open_cell ring_owner p)
-opening_keeps drawn look p =
-    record {
-      key = λ c. cond_both (is_own ring_owner p c.key) _ _ (λ (s : CellStep). s.cell.key ≡ c.key) (λ _. refl) (λ _. refl);
-      numbered = λ c n. cond_both (is_own ring_owner p c.key) _ _ (λ (s : CellStep). IsNumbered drawn s.cell.inner)
-          (λ _. numbered_next drawn c.inner (next_call (not c.closing) c.inner) (next_in_line (not c.closing) c.inner) n) (λ _. numbered_moved drawn c.inner n);
-      indexed = λ c n. cond_both (is_own ring_owner p c.key) _ _ (λ (s : CellStep). IsIndexed look s.cell)
-          (λ _. each_next (λ m. look m ≡ Some c.key) c.inner (next_call (not c.closing) c.inner) (next_in_line (not c.closing) c.inner) n) (λ _. each_moved (λ m. look m ≡ Some c.key) c.inner n);
-      calls = λ c. cond_both (is_own ring_owner p c.key) _ _ (λ (s : CellStep). calls_in s.cell ≤ calls_in c)
-          (λ _. let m = calls-begun_next c.inner (next_call (not c.closing) c.inner) (next_cases (not c.closing) c.inner) in omega arith)
-          (λ _. let l = length-all_moved c.inner.line in omega arith);
-    }
+  pub length-each : (cs : List ActorCell) → length (each_cell f cs).cells ≡ length cs
+  length-each [] = refl
+  length-each (c ∷ cs) = let l = length-each cs in omega arith
 
-pub ticking_keeps : (drawn now : ℕ) (look : ℕ → Option ActorKey) (p : PartState) → KeepsEach drawn look (tick_cell ring_owner p now)
-ticking_keeps drawn now look p =
-    record {
-      key = λ c. cond_both (not (is_free c.inner) && (is_foreign ring_owner p c.key && is_overdue ring_owner p now c)) _ _ (λ (s : CellStep). s.cell.key ≡ c.key) (λ _. refl) (λ _. refl);
-      numbered = λ c n. cond_both (not (is_free c.inner) && (is_foreign ring_owner p c.key && is_overdue ring_owner p now c)) _ _ (λ (s : CellStep). IsNumbered drawn s.cell.inner)
-          (λ _. numbered_stopped drawn c.inner n) (λ _. n);
-      indexed = λ c n. cond_both (not (is_free c.inner) && (is_foreign ring_owner p c.key && is_overdue ring_owner p now c)) _ _ (λ (s : CellStep). IsIndexed look s.cell)
-          (λ _. each_stopped (λ m. look m ≡ Some c.key) c.inner n) (λ _. n);
-      calls = λ c. cond_both (not (is_free c.inner) && (is_foreign ring_owner p c.key && is_overdue ring_owner p now c)) _ _ (λ (s : CellStep). calls_in s.cell ≤ calls_in c)
-          (λ _. omega arith) (λ _. omega arith);
-    }
+-- ---- an opening
 
--- in each cell no more calls begin than it has
-pub open-short : (p : PartState) (c : ActorCell) → length (begun_calls (open_cell ring_owner p c).marks) ≤ calls_in c
-open-short p c =
-    cond_both (is_own ring_owner p c.key) _ _ (λ (s : CellStep). length (begun_calls s.marks) ≤ calls_in c)
-    (λ _.
-    let next = next_call (not c.closing) c.inner in
-    let e = ap (λ (l : List ℕ). length l) (begun-marks_of_next c.active c.key p.opened next) in
-    let l = begun-in_line c.inner (not c.closing) in
-    omega arith)
-    (λ _. omega arith)
+begun_next : (p : PartState) (c : ActorCell) (next : Option Waiter) → next_calls next ≡ begun_calls (marks_of_next c.active c.key p.opened next)
+begun_next p c None = refl
+begun_next p c (Some w) = sym (begun-marks_of_begin c.active c.key p.opened w.call w.chain)
 
--- ---- a stop
+length-next : (next : Option Waiter) → length (next_calls next) ≡ (if is_some next then 1 else 0)
+length-next None = refl
+length-next (Some w) = refl
+
+module _ (p : PartState) where
+  abbrev pub is_mine : ActorCell → Bool
+  is_mine c = is_own ring_owner p c.key
+
+  pub open-cell : (c : ActorCell) → opened_cell is_mine c ≡ (open_cell ring_owner p c).cell
+  open-cell c = go (is_mine c)
+    where
+      go : (b : Bool) → (if b then begun_cell c (next_call (not c.closing) c.inner) else (move_in ring_owner c).cell) ≡ (if b then begin_in ring_owner p c (next_call (not c.closing) c.inner) else move_in ring_owner c).cell
+      go true = refl
+      go false = refl
+
+  pub open-begun : (c : ActorCell) → opened_calls is_mine c ≡ begun_calls (open_cell ring_owner p c).marks
+  open-begun c = go (is_mine c)
+    where
+      go : (b : Bool) → (if b then next_calls (next_call (not c.closing) c.inner) else []) ≡ begun_calls (if b then begin_in ring_owner p c (next_call (not c.closing) c.inner) else move_in ring_owner c).marks
+      go true = begun_next p c (next_call (not c.closing) c.inner)
+      go false = refl
+
+  pub open-first : (c : ActorCell) → length (opened_calls is_mine c) ≡ (open_cell ring_owner p c).first
+  open-first c = go (is_mine c)
+    where
+      go : (b : Bool) → length (if b then next_calls (next_call (not c.closing) c.inner) else []) ≡ (if b then begin_in ring_owner p c (next_call (not c.closing) c.inner) else move_in ring_owner c).first
+      go true = length-next (next_call (not c.closing) c.inner)
+      go false = refl
+
+  pub open-moved : (c : ActorCell) → opened_moved is_mine c ≡ (open_cell ring_owner p c).second
+  open-moved c = go (is_mine c)
+    where
+      go : (b : Bool) → (if b then 0 else (move_in ring_owner c).second) ≡ (if b then begin_in ring_owner p c (next_call (not c.closing) c.inner) else move_in ring_owner c).second
+      go true = refl
+      go false = refl
+
+  -- the number of calls that begin is the length of their list
+  pub length-begun : (cs : List ActorCell) → length (each_list (opened_calls is_mine) cs) ≡ (each_cell (open_cell ring_owner p) cs).first
+  length-begun [] = refl
+  length-begun (c ∷ cs) =
+      let m = length-begun cs in
+      let l = open-first c in
+      omega (arith, length-append (opened_calls is_mine c) (each_list (opened_calls is_mine) cs))
+
+  pub begun-few : (cs : List ActorCell) → length (each_list (opened_calls is_mine) cs) ≤ length cs
+  begun-few [] = omega arith
+  begun-few (c ∷ cs) =
+      let m = begun-few cs in
+      let l = one c in
+      omega (arith, length-append (opened_calls is_mine c) (each_list (opened_calls is_mine) cs))
+    where
+      one : (c : ActorCell) → length (opened_calls is_mine c) ≤ 1
+      one c = cond_both (is_mine c) (next_calls (next_call (not c.closing) c.inner)) [] (λ (l : List ℕ). length l ≤ 1) (λ _. short (next_call (not c.closing) c.inner)) (λ _. omega arith)
+        where
+          short : (next : Option Waiter) → length (next_calls next) ≤ 1
+          short None = omega arith
+          short (Some w) = omega arith
+
+-- ---- a tick
 
 ended-ends : (key : ActorKey) (ts : List Turn) → ended_calls (marks_of_ends key ts) ≡ turn_calls ts
 ended-ends key [] = refl
 ended-ends key (t ∷ ts) = ap (λ (l : List ℕ). t.call ∷ l) (ended-ends key ts)
 
+module _ (p : PartState) (now : ℕ) where
+  abbrev pub is_late : ActorCell → Bool
+  is_late c = not (is_free c.inner) && (is_foreign ring_owner p c.key && is_overdue ring_owner p now c)
+
+  pub tick-cell : (c : ActorCell) → late_cell is_late now c ≡ (tick_cell ring_owner p now c).cell
+  tick-cell c = cond_both (is_late c) _ _ (λ (s : CellStep). late_cell is_late now c ≡ s.cell) (λ t. cond-true (is_late c) _ _ t) (λ f. cond-false (is_late c) _ _ f)
+
+  pub tick-ended : (c : ActorCell) → late_calls is_late c ≡ ended_calls (tick_cell ring_owner p now c).marks
+  tick-ended c =
+      cond_both (is_late c) _ _ (λ (s : CellStep). late_calls is_late c ≡ ended_calls s.marks)
+      (λ t. cond-true (is_late c) _ _ t ∙ sym (ended-ends c.key c.inner.turns)) (λ f. cond-false (is_late c) _ _ f)
+
+  pub tick-number : (c : ActorCell) → late_number is_late c ≡ (tick_cell ring_owner p now c).first
+  tick-number c = cond_both (is_late c) _ _ (λ (s : CellStep). late_number is_late c ≡ s.first) (λ t. cond-true (is_late c) _ _ t) (λ f. cond-false (is_late c) _ _ f)
+
+-- ---- what is kept
+
+-- numbers and counts of calls stay within what they were
+pub record KeepsEach (drawn : ℕ) (f : ActorCell → CellStep) : Type 0 where
+  pub numbered : (c : ActorCell) → IsNumbered drawn c.inner → IsNumbered drawn (f c).cell.inner
+  pub calls : (c : ActorCell) → calls_in (f c).cell ≤ calls_in c
+
+total-each : (f : ActorCell → CellStep) (cs : List ActorCell) → ((c : ActorCell) → calls_in (f c).cell ≤ calls_in c) → total_calls (each_cell f cs).cells ≤ total_calls cs
+total-each f [] h = omega arith
+total-each f (c ∷ cs) h = let l = total-each f cs h in let m = h c in omega arith
+
+pub kept_each : (drawn room room' : ℕ) (f : ActorCell → CellStep) (cells : List ActorCell) → AreActorsKept drawn cells room → KeepsEach drawn f → room ≤ room' → AreActorsKept drawn (each_cell f cells).cells room'
+kept_each drawn room room' f cells k e has =
+    let t = total-each f cells e.calls in
+    record {
+      drawn_fits = k.drawn_fits;
+      numbered = λ d i. let m = In-each_cell f cells d i in subst (λ (z : ActorCell). IsNumbered drawn z.inner) (sym m.2) (e.numbered m.0 (k.numbered m.0 m.1));
+      few = (let l = length-each f cells in let h = k.few in omega arith);
+      counted = (let h = k.counted in omega arith);
+      has_room = (let h = k.has_room in omega arith);
+    }
+
+pub opening_keeps : (drawn : ℕ) (p : PartState) → KeepsEach drawn (open_cell ring_owner p)
+opening_keeps drawn p =
+    record {
+      numbered = λ c n. cond_both (is_own ring_owner p c.key) _ _ (λ (s : CellStep). IsNumbered drawn s.cell.inner)
+          (λ _. numbered_next drawn c.inner (next_call (not c.closing) c.inner) (next_in_line (not c.closing) c.inner) n) (λ _. numbered_moved drawn c.inner n);
+      calls = λ c. cond_both (is_own ring_owner p c.key) _ _ (λ (s : CellStep). calls_in s.cell ≤ calls_in c)
+          (λ _. let m = (begins_keeps (not c.closing) c.inner).as_many in omega arith)
+          (λ _. let l = (moved_keeps c.inner).as_many in omega arith);
+    }
+
+pub ticking_keeps : (drawn now : ℕ) (p : PartState) → KeepsEach drawn (tick_cell ring_owner p now)
+ticking_keeps drawn now p =
+    record {
+      numbered = λ c n. cond_both (not (is_free c.inner) && (is_foreign ring_owner p c.key && is_overdue ring_owner p now c)) _ _ (λ (s : CellStep). IsNumbered drawn s.cell.inner)
+          (λ _. numbered_stopped drawn c.inner n) (λ _. n);
+      calls = λ c. cond_both (not (is_free c.inner) && (is_foreign ring_owner p c.key && is_overdue ring_owner p now c)) _ _ (λ (s : CellStep). calls_in s.cell ≤ calls_in c)
+          (λ _. omega arith) (λ _. omega arith);
+    }
+
+-- ---- reading passes
+
+pub close-first : (p : PartState) (now : ℕ) (cs : List ActorCell) → first_where (λ c. may_close ring_owner p now c) cs ≡ first_to_close ring_owner p now cs
+close-first p now [] = refl
+close-first p now (c ∷ cs) = ap (λ r. if may_close ring_owner p now c then Some c else r) (close-first p now cs)
+
+-- the cell that may be closed is free
+pub may-first : (p : PartState) (now : ℕ) (cs : List ActorCell) (c : ActorCell) → first_where (λ d. may_close ring_owner p now d) cs ≡ Some c → is_free c.inner ≡ true
+may-first p now [] c e = absurd (cc)
+may-first p now (d ∷ cs) c e =
+    let more = may-first p now cs c in
+    cond_both (may_close ring_owner p now d) (Some d) (first_where (λ z. may_close ring_owner p now z) cs) (λ r. r ≡ Some c → is_free c.inner ≡ true)
+    (λ t q. (
+    let same : d ≡ c = cc in
+    let h = and_parts (d.active && not d.closing) _ t in
+    let f = and_parts (is_free d.inner && (d.inner.holds == 0)) _ h.1 in
+    let g = and_parts (is_free d.inner) (d.inner.holds == 0) f.0 in
+    ap (λ (z : ActorCell). is_free z.inner) (sym same) ∙ g.0
+    ))
+    (λ _ q. more q) e
+
+-- ---- a stop
+
 ended-inactive : (active : Bool) (key : ActorKey) → ended_calls (marks_of_inactive active key) ≡ []
 ended-inactive true key = refl
 ended-inactive false key = refl
 
-pub stop-cell : (c : ActorCell) (cs : List ActorCell) → ended_calls (marks_of_stop (c ∷ cs)) ≡ turn_calls c.inner.turns ++ ended_calls (marks_of_stop cs)
+stop-cell : (c : ActorCell) (cs : List ActorCell) → ended_calls (marks_of_stop (c ∷ cs)) ≡ turn_calls c.inner.turns ++ ended_calls (marks_of_stop cs)
 stop-cell c cs =
     ended-append (marks_of_ends c.key c.inner.turns ++ marks_of_inactive c.active c.key) (marks_of_stop cs)
     ∙ ap (λ (l : List ℕ). l ++ ended_calls (marks_of_stop cs))
     (ended-append (marks_of_ends c.key c.inner.turns) (marks_of_inactive c.active c.key)
     ∙ (λ i. ended-ends c.key c.inner.turns i ++ ended-inactive c.active c.key i) ∙ append_nil (turn_calls c.inner.turns))
 
-pub length-turn_calls : (ts : List Turn) → length (turn_calls ts) ≡ length ts
-length-turn_calls [] = refl
-length-turn_calls (t ∷ ts) = let l = length-turn_calls ts in omega arith
-
--- the calls of open turns, in cells and in a list cut at one of them
-pub stop-append : (l m : List ActorCell) → ended_calls (marks_of_stop (l ++ m)) ≡ ended_calls (marks_of_stop l) ++ ended_calls (marks_of_stop m)
-stop-append [] m = refl
-stop-append (c ∷ l) m =
-    stop-cell c (l ++ m) ∙ ap (λ (z : List ℕ). turn_calls c.inner.turns ++ z) (stop-append l m)
-    ∙ sym (append_assoc (turn_calls c.inner.turns) (ended_calls (marks_of_stop l)) (ended_calls (marks_of_stop m)))
-    ∙ ap (λ (z : List ℕ). z ++ ended_calls (marks_of_stop m)) (sym (stop-cell c l))
-
-pub stop-fork : (l : List ActorCell) (x : ActorCell) (r : List ActorCell) → ended_calls (marks_of_stop (l ++ x ∷ r)) ≡ ended_calls (marks_of_stop l) ++ (turn_calls x.inner.turns ++ ended_calls (marks_of_stop r))
-stop-fork l x r = stop-append l (x ∷ r) ∙ ap (λ (z : List ℕ). ended_calls (marks_of_stop l) ++ z) (stop-cell x r)
-
-pub stop-short : (cs : List ActorCell) → length (ended_calls (marks_of_stop cs)) ≤ total_calls cs
-stop-short [] = omega arith
-stop-short (c ∷ cs) =
-    let e = ap (λ (l : List ℕ). length l) (stop-cell c cs) in
-    let n = length-turn_calls c.inner.turns in
-    let m = stop-short cs in
-    omega (arith, e, length-append (turn_calls c.inner.turns) (ended_calls (marks_of_stop cs)))
+pub stop-ended : (cs : List ActorCell) → each_list open_calls cs ≡ ended_calls (marks_of_stop cs)
+stop-ended [] = refl
+stop-ended (c ∷ cs) = ap (λ (l : List ℕ). turn_calls c.inner.turns ++ l) (stop-ended cs) ∙ sym (stop-cell c cs)

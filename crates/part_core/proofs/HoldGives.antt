@@ -13,7 +13,8 @@ use Rattle.part_core.specs.Marks.{begun_calls, marks_of_next}
 use Rattle.part_core.specs.Part.{PartStep, is_open, is_own, is_spent, most_drawn, hold_cell, hold_part, release_cell, release_part, first_to_close, close_cell, take_closing, closed_with, closed_cell, closed_part, ring_owner}
 use Rattle.part_core.specs.Rooms.{PartView, Gives, GivesInMemory}
 use Rattle.part_core.specs.Actors.{ActorsState, state_of, view_of, begun_next_in}
-use Rattle.part_core.proofs.CallGives.{quiet, begun-marks_of_next}
+use Rattle.part_core.proofs.AskedGives.{quiet}
+use Rattle.part_core.proofs.CallGives.{begun-marks_of_next}
 
 module _ (s : Standing) (old : ActorsState) (key : ActorKey) where
   pub hold_none : cell_at old.cells key ≡ None → Gives (hold_part ring_owner (state_of s old) key) replies.NotActive (view_of s (quiet old))
@@ -72,16 +73,6 @@ module _ (s : Standing) (old : ActorsState) (key : ActorKey) where
 
   closed_as : (c : ActorCell) → cell_at old.cells key ≡ Some c → closed_part ring_owner (state_of s old) key ≡ closed_cell ring_owner (state_of s old) (Some c)
   closed_as c e = ap (λ (f : Option ActorCell). closed_cell ring_owner (state_of s old) f) e
-
-  pub closed_none : cell_at old.cells key ≡ None → Gives (closed_part ring_owner (state_of s old) key) replies.NotClosing (view_of s (quiet old))
-  closed_none e =
-      let view : PartView = view_of s (quiet old) in
-      subst (λ (z : PartStep). Gives z replies.NotClosing view) (sym (ap (λ (f : Option ActorCell). closed_cell ring_owner (state_of s old) f) e)) (refl, refl)
-
-  pub closed_not : (c : ActorCell) → cell_at old.cells key ≡ Some c → c.closing ≡ false → Gives (closed_part ring_owner (state_of s old) key) replies.NotClosing (view_of s (quiet old))
-  closed_not c e f =
-      let view : PartView = view_of s (quiet old) in
-      subst (λ (z : PartStep). Gives z replies.NotClosing view) (sym (closed_as c e ∙ cond-false c.closing _ _ f)) (refl, refl)
 
   pub closed_gives : (c : ActorCell) (next : Option Waiter) (answer : Option ℕ) (cells : List ActorCell) (recent : List ℕ) → cell_at old.cells key ≡ Some c → c.closing ≡ true
       → next ≡ next_call (is_open s.stage && is_own ring_owner (state_of s old) c.key) c.inner → answer ≡ option_map call_of next

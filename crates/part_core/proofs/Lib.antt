@@ -1,15 +1,11 @@
 mod Numbers
-mod OfCalls
-mod Keeping
-mod Founds
-mod Taken
-mod Askings
 mod AskedGives
 mod Counts
+mod Kept
+mod FirstAsks
 mod CallGives
 mod HoldGives
 mod EachCell
-mod Tops
 mod EachKept
 mod Runnings
 mod Shallow

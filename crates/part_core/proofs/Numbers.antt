@@ -1,13 +1,11 @@
 -- Which numbers the calls of a cell have after each change of it.
-use Rattle.std.proofs.Common.{◌≡◌, ℕ, ◌+◌, ◌≤◌, Bool, true, false, ◌&&◌, List, [], ◌∷◌, ◌++◌, length, Option, None, Some, refl, ap, inl, inr, arith, length-append}
-use Rattle.std.specs.Prelude.{nat_lt}
-use Rattle.std.proofs.lemmas.Bool.{cond_both, lt-ltb}
+use Rattle.std.proofs.Common.{◌≡◌, ℕ, ◌+◌, ◌≤◌, Bool, false, ◌&&◌, List, [], ◌∷◌, Option, None, Some, refl, ap, inl, inr, arith}
+use Rattle.std.proofs.lemmas.Bool.{cond_both}
 use Rattle.turn_core.specs.declared.cell.Turn.{Turn}
 use Rattle.turn_core.specs.declared.cell.Waiter.{Waiter}
 use Rattle.std.specs.declared.result.Result.{Result}
 use Rattle.std.specs.declared.result.Result.TheVariants.{Ok, Err}
 use Rattle.turn_core.specs.declared.answer.Asked.{Asked}
-use Rattle.turn_core.specs.declared.answer.Asked.TheVariants as asked
 use Rattle.turn_core.specs.declared.answer.CellError.{CellError}
 use Rattle.turn_core.specs.declared.answer.CellError.TheVariants as deny
 use Rattle.turn_core.specs.Cell.{GivesStep, CellState, AskStep, EndStep, PollStep, new_cell, has_turn, is_free, is_in_cell, admit_call, begun_next, next_call, without_call, waiter_of, cell_end, poll_waiter, cell_poll, with_hold, without_hold, with_line_moved, without_turns, all_moved}
@@ -113,14 +111,3 @@ numbered_moved n c k =
 
 pub numbered_stopped : (n : ℕ) (c : CellState) → IsNumbered n c → IsNumbered n (without_turns c)
 numbered_stopped n c k = record { open_turns = λ t i. absurd i; waiters = k.waiters; held = k.held }
-
--- ---- a call that waits is in the line
-
-pub waits_in_line : (c : CellState) (call : ℕ) (chain : Option (List ℕ)) (may_begin : Bool) (place : ℕ)
-    → Ok (asked.Waits place) ≡ (admit_call c call chain may_begin).answer → nat_lt 0 (length (admit_call c call chain may_begin).cell.line) ≡ true
-waits_in_line c call chain may_begin place e =
-    ask_cases c call chain may_begin (λ (s : AskStep). Ok (asked.Waits place) ≡ s.answer → nat_lt 0 (length s.cell.line) ≡ true)
-    (λ _ _ q. absurd (cc)) (λ q. absurd (cc)) (λ _ _ q. absurd (cc)) (λ _ q. more c.line _) (λ q. absurd (cc)) e
-  where
-    more : (ws : List Waiter) (w : Waiter) → nat_lt 0 (length (ws ++ w ∷ [])) ≡ true
-    more ws w = lt-ltb 0 (length (ws ++ w ∷ [])) (let e : length (ws ++ w ∷ []) ≡ length ws + 1 = simp length-append in omega arith)

@@ -1,23 +1,27 @@
 -- The actors of a part without its stage and table: the numbers drawn, the cells, and the calls of the last step.
 -- Own.
-use Rattle.std.specs.Prelude.{◌≡◌, ◌+◌, ◌≤◌, ◌^◌, ℕ, Bool, true, false, ◌&&◌, if◌then◌else◌, List, [], ◌∷◌, length, Option, None, Some}
+use Rattle.std.specs.Prelude.{◌≡◌, ◌≤◌, ◌^◌, ℕ, Bool, true, false, not, ◌&&◌, if◌then◌else◌, List, [], ◌∷◌, length, Option, None, Some}
+use Rattle.std.specs.declared.result.Result.{Result}
+use Rattle.std.specs.declared.result.Result.TheVariants.{Ok, Err}
 use Rattle.actor_names.specs.declared.actor_key.ActorKey.{ActorKey}
 use Rattle.place_table.specs.declared.host.HostInfo.{HostInfo}
 use Rattle.place_table.specs.Hosts.{PlacementTable}
 use Rattle.turn_core.specs.declared.cell.Turn.{Turn}
 use Rattle.turn_core.specs.declared.cell.Waiter.{Waiter}
-use Rattle.turn_core.specs.Cell.{CellState}
+use Rattle.turn_core.specs.declared.answer.Asked.{Asked}
+use Rattle.turn_core.specs.declared.answer.Asked.TheVariants as asked
+use Rattle.turn_core.specs.declared.answer.CellError.{CellError}
+use Rattle.turn_core.specs.declared.answer.CellError.TheVariants as deny
+use Rattle.turn_core.specs.Cell.{CellState, new_cell}
 use Rattle.turn_core.specs.CellSound.{In}
 use Rattle.part_cells.specs.declared.actor_cell.ActorCell.{ActorCell}
+use Rattle.part_cells.specs.Cells.{total, total_calls}
 use Rattle.part_core.specs.declared.standing.Standing.{Standing}
 use Rattle.part_core.specs.declared.event.PartReply.{PartReply}
 use Rattle.part_core.specs.declared.event.PartReply.TheVariants as replies
-use Rattle.part_cells.specs.Cells.{drop_cell, total, total_calls}
-use Rattle.part_core.specs.Marks.{marks_of_begin}
-use Rattle.part_core.specs.Part.{PartState, PartStep, next_drawn, with_cell, refused, is_updated, is_foreign, ring_owner}
+use Rattle.part_core.specs.Part.{PartState, PartStep, ask_cell, ask_owned, ask_here, refused, is_updated, is_foreign, ring_owner}
 use Rattle.part_core.specs.Rooms.{PartView}
 use Rattle.part_core.specs.Settings.{AreShallow}
-use Rattle.part_cells.specs.Order.{AreInOrder}
 
 pub record ActorsState : Type 0 where
   pub drawn : ℕ
@@ -71,77 +75,62 @@ pub record IsNumbered (drawn : ℕ) (c : CellState) : Type 0 where
   pub waiters : (w : Waiter) → In w c.line → w.call ≤ drawn
   pub held : c.holds ≤ drawn
 
--- P holds of each call of a cell, open or in its queue
-pub record IsOfEachCall (P : ℕ → Type 0) (c : CellState) : Type 0 where
-  pub open_turns : (t : Turn) → In t c.turns → P t.call
-  pub waiters : (w : Waiter) → In w c.line → P w.call
-
--- the look-up of each call of the cell gives the cell's key
-abbrev pub IsIndexed : (ℕ → Option ActorKey) → ActorCell → Type 0
-IsIndexed look c = IsOfEachCall (λ n. look n ≡ Some c.key) c.inner
-
-abbrev pub AreIndexed : (ℕ → Option ActorKey) → List ActorCell → Type 0
-AreIndexed look cells = (c : ActorCell) → In c cells → IsIndexed look c
-
--- What is kept beside the cells: how many there are, look-ups of their calls, an upper bound on the number of calls
--- that are open or wait, and room for as many in the list of the last step. A look-up may give a key that no longer
--- has the call.
-pub record AreActorsKept (drawn : ℕ) (cells : List ActorCell) (size : ℕ) (look : ℕ → Option ActorKey) (count room : ℕ) : Type 0 where
+-- What is kept beside the cells: numbers within what was drawn, no more cells than a part holds, and room in the list
+-- of the last step for every call that is open or waits.
+pub record AreActorsKept (drawn : ℕ) (cells : List ActorCell) (room : ℕ) : Type 0 where
   pub drawn_fits : drawn ≤ 2 ^ 62
-  pub in_order : AreInOrder cells
   pub numbered : (c : ActorCell) → In c cells → IsNumbered drawn c.inner
   pub few : length cells ≤ 65536
-  pub sized : size ≡ length cells
-  pub indexed : AreIndexed look cells
-  pub counted : total_calls cells ≤ count
-  pub count_drawn : count ≤ drawn
-  pub has_room : count ≤ room
+  pub counted : total_calls cells ≤ drawn
+  pub has_room : total_calls cells ≤ room
 
 -- ---- a call asked at a cell
-
--- whether by this reply the call has begun or waits
-abbrev pub is_accepted : PartReply → Bool
-is_accepted (replies.Begun call chain) = true
-is_accepted (replies.Waits call place) = true
-is_accepted reply = false
 
 -- whether the reply says that a deactivation is over
 abbrev pub is_closed : PartReply → Bool
 is_closed (replies.ClosedDone next) = true
 is_closed reply = false
 
--- how many numbers are drawn after the reply
-abbrev pub drawn_after : ℕ → PartReply → ℕ
-drawn_after n reply = if is_accepted reply then n + 1 else n
+-- whether an actor's call enters a part with this standing: it asks the cell, and may begin a new chain or not, or it is
+-- refused with this reply; only memory can run out besides
+abbrev pub EntersBy : (Bool → PartState → PartStep) → Standing → ActorCell → Option (List ℕ) → Result Bool PartReply → Type 0
+EntersBy step s c chain (Ok b) = (a : ActorsState) (full : Bool) → step full (state_of s a) ≡ ask_cell full (state_of s a) c chain (b && not c.closing)
+EntersBy step s c chain (Err replies.OutOfMemory) = Unit {0}
+EntersBy step s c chain (Err reply) = (a : ActorsState) (full : Bool) → step full (state_of s a) ≡ refused (state_of s a) reply
 
--- the step that has this reply and leaves `after` as the call's cell
-abbrev pub asked_with : PartState → ActorCell → ActorCell → PartReply → PartStep
-asked_with p c after (replies.Begun call chain) =
-    record { part = next_drawn (with_cell p after); reply = replies.Begun call chain; marks = marks_of_begin c.active c.key p.opened call chain }
-asked_with p c after (replies.Waits call place) = record { part = next_drawn (with_cell p after); reply = replies.Waits call place; marks = [] }
-asked_with p c after reply = refused p reply
+abbrev pub Enters : Standing → ActorCell → Option (List ℕ) → Result Bool PartReply → Type 0
+Enters s c chain = EntersBy (λ full p. ask_here ring_owner full p c chain) s c chain
 
--- the step is this one in every part with this standing and this many numbers drawn, or memory ran out
-abbrev pub AsksIn : (PartState → PartStep) → Standing → ℕ → ActorCell → ActorCell → PartReply → Type 0
-AsksIn step s drawn c after replies.OutOfMemory = after ≡ c
-AsksIn step s drawn c after reply = (a : ActorsState) → a.drawn ≡ drawn → step (state_of s a) ≡ asked_with (state_of s a) c after reply
+abbrev pub EntersOwned : Standing → ActorCell → Result Bool PartReply → Type 0
+EntersOwned s c r = (chain : Option (List ℕ)) → EntersBy (λ full p. ask_owned full p c chain (ring_owner s.table c.key)) s c chain r
 
--- the same for any part
-abbrev pub AsksAtCell : (PartState → PartStep) → ℕ → ActorCell → ActorCell → PartReply → Type 0
-AsksAtCell step drawn c after replies.OutOfMemory = after ≡ c
-AsksAtCell step drawn c after reply = (p : PartState) → p.drawn ≡ drawn → step p ≡ asked_with p c after reply
+-- a cell that no call has asked yet
+pub record IsFirstCell (c : ActorCell) : Type 0 where
+  pub inner : c.inner ≡ new_cell c.inner.depth
+  pub active : c.active ≡ false
+  pub closing : c.closing ≡ false
 
--- the call that has begun by this reply
-abbrev pub begun_in : PartReply → List ℕ
-begun_in (replies.Begun call chain) = call ∷ []
-begun_in reply = []
+-- whether the call has begun, as the cell answers
+abbrev pub is_begun : Asked → Bool
+is_begun asked.Begun = true
+is_begun (asked.Waits place) = false
+
+-- the reply to a call that was accepted, and the call if it has begun
+abbrev pub reply_by : ℕ → Option (List ℕ) → Asked → PartReply
+reply_by call chain asked.Begun = replies.Begun call chain
+reply_by call chain (asked.Waits place) = replies.Waits call place
+
+abbrev pub begun_by : ℕ → Asked → List ℕ
+begun_by call asked.Begun = call ∷ []
+begun_by call (asked.Waits place) = []
+
+-- the reply to one that was refused
+abbrev pub refusal_by : CellError → PartReply
+refusal_by (deny.Depth turns) = replies.Depth turns
+refusal_by (deny.QueueFull n) = replies.QueueFull n
+refusal_by deny.OutOfMemory = replies.OutOfMemory
 
 -- the call that has begun, if there is one
 abbrev pub begun_next_in : Option ℕ → List ℕ
 begun_next_in None = []
 begun_next_in (Some call) = call ∷ []
-
--- the cells without the one that was taken out
-abbrev pub without_taken : List ActorCell → Option ActorCell → List ActorCell
-without_taken cells None = cells
-without_taken cells (Some c) = drop_cell cells c.key

@@ -1,11 +1,7 @@
-// A call that asks a cell for a turn.
-ghost use Rattle.std.specs.Prelude.{◌≡◌, ◌+◌, ◌<◌, ◌≤◌, ◌^◌, ℕ, true, false, not, Option, IsSome};
+// A call that is asked of an actor: whether it may enter, and the cell's answer as the part's reply.
+ghost use Rattle.std.specs.Prelude.{◌≡◌, ◌<◌, ◌≤◌, ◌++◌, ◌+◌, IsSome, length, vec_len, vec_capacity};
 ghost use Rattle.std.specs.Option.{option_copied};
-ghost use Rattle.actor_names.specs.declared.actor_key.ActorKey.{ActorKey};
-ghost use Rattle.turn_core.specs.Cell.{is_in_cell};
-ghost use Rattle.part_core.specs.Actors.{AsksIn, AsksAtCell, is_accepted, IsNumbered, IsIndexed};
-ghost use Rattle.part_cells.specs.Cells.{calls_in, is_kept};
-ghost use Rattle.part_core.specs.Part.{PartState, is_open, ask_cell, ask_owned, ask_here, ring_owner};
+ghost use Rattle.part_core.specs.Actors.{Enters, EntersOwned, is_begun, reply_by, begun_by, refusal_by, begun_next_in};
 
 use crate::chains::carries;
 use crate::event::PartReply;
@@ -17,108 +13,99 @@ use part_cells::ActorCell;
 use std::alloc::Global;
 use turn_core::{Asked, CellError};
 
-/// The call asks the cell for a turn. It is refused if `full` says that a new cell would be one too many.
-fn ask_cell(
-    alloc: Global,
-    drawn: u64,
-    full: bool,
-    cell: &mut ActorCell,
-    chain: Option<ChainId>,
-    may_begin: bool,
-) -> PartReply
-    requires numbers { drawn < 2 ^ 62 }
-    requires absent { is_in_cell (drawn + 1) cell.old.inner ≡ false }
-    requires chained { 0 < cell.old.inner.depth → IsSome chain }
-    ensures step { AsksAtCell (λ p. ask_cell full p cell.old chain may_begin) drawn cell.old cell.new result }
-    ensures refused { is_accepted result ≡ false → cell.new ≡ cell.old }
-    ensures room { full ≡ true → is_accepted result ≡ false }
-    ensures kept { is_accepted result ≡ true → is_kept cell.new ≡ true }
-    ensures key { cell.new.key ≡ cell.old.key }
-    ensures calls { calls_in cell.new ≤ calls_in cell.old + 1 }
-    ensures numbered { IsNumbered drawn cell.old.inner → IsNumbered (drawn + 1) cell.new.inner }
-    ensures indexed { (look : ℕ → Option ActorKey) → look (drawn + 1) ≡ Some cell.old.key → IsIndexed look cell.old → IsIndexed look cell.new }
-{
-    if full {
-        return PartReply::PartFull;
-    }
-    let call = drawn + 1;
-    match cell.inner.ask(alloc, call, chain.as_ref(), may_begin) {
-        Ok(Asked::Begun) => {
-            cell.active = true;
-            PartReply::Begun { call, chain }
-        }
-        Ok(Asked::Waits { place }) => PartReply::Waits { call, place },
-        Err(CellError::Depth { turns }) => PartReply::Depth { turns },
-        Err(CellError::QueueFull { n }) => PartReply::QueueFull { n },
-        Err(CellError::OutOfMemory) => PartReply::OutOfMemory,
-    }
-}
-
-/// The call asks for a turn in an open part, which refuses actors that its table gives to nobody or to another
-/// member.
-fn ask_owned(
-    alloc: Global,
-    standing: &Standing,
-    drawn: u64,
-    full: bool,
-    cell: &mut ActorCell,
-    chain: Option<ChainId>,
-) -> PartReply
-    requires numbers { drawn < 2 ^ 62 }
-    requires absent { is_in_cell (drawn + 1) cell.old.inner ≡ false }
-    requires chained { 0 < cell.old.inner.depth → IsSome chain }
-    ensures step { AsksIn (λ p. ask_owned full p cell.old chain (ring_owner standing.now.table cell.old.key)) standing.now drawn cell.old cell.new result }
-    ensures refused { is_accepted result ≡ false → cell.new ≡ cell.old }
-    ensures room { full ≡ true → is_accepted result ≡ false }
-    ensures kept { is_accepted result ≡ true → is_kept cell.new ≡ true }
-    ensures key { cell.new.key ≡ cell.old.key }
-    ensures calls { calls_in cell.new ≤ calls_in cell.old + 1 }
-    ensures numbered { IsNumbered drawn cell.old.inner → IsNumbered (drawn + 1) cell.new.inner }
-    ensures indexed { (look : ℕ → Option ActorKey) → look (drawn + 1) ≡ Some cell.old.key → IsIndexed look cell.old → IsIndexed look cell.new }
+/// Whether a new chain may begin in the cell of an open part, which refuses actors that its table gives to nobody or to
+/// another member.
+fn enter_owned(alloc: Global, standing: &Standing, cell: &ActorCell) -> Result<bool, PartReply>
+    ensures { EntersOwned standing.now cell.now result }
 {
     let version = standing.table.version();
     match owner_host(&standing.table, &cell.key) {
-        None => PartReply::NoHost { version },
+        None => Err(PartReply::NoHost { version }),
         Some(host) => {
             if host.member == standing.member {
-                let may_begin = !cell.closing;
-                return ask_cell(alloc, drawn, full, cell, chain, may_begin);
+                return Ok(true);
             }
             match host.copy(alloc) {
-                Ok(owner) => PartReply::Elsewhere { version, owner },
-                Err(_) => PartReply::OutOfMemory,
+                Ok(owner) => Err(PartReply::Elsewhere { version, owner }),
+                Err(_) => Err(PartReply::OutOfMemory),
             }
         }
     }
 }
 
-/// The call asks for a turn in a part that has not stopped. A call of an open chain enters in any stage; any other
-/// call begins only in an open part.
-pub(crate) fn ask_here(
+/// Whether a call enters a part that has not stopped, and then whether it may begin a new chain. A call of an open chain
+/// enters in any stage; any other call begins only in an open part.
+pub(crate) fn enter(
     alloc: Global,
     standing: &Standing,
-    drawn: u64,
-    full: bool,
-    cell: &mut ActorCell,
-    chain: Option<ChainId>,
-) -> PartReply
-    requires numbers { drawn < 2 ^ 62 }
-    requires absent { is_in_cell (drawn + 1) cell.old.inner ≡ false }
-    requires chained { 0 < cell.old.inner.depth → IsSome chain }
-    ensures step { AsksIn (λ p. ask_here ring_owner full p cell.old chain) standing.now drawn cell.old cell.new result }
-    ensures refused { is_accepted result ≡ false → cell.new ≡ cell.old }
-    ensures room { full ≡ true → is_accepted result ≡ false }
-    ensures kept { is_accepted result ≡ true → is_kept cell.new ≡ true }
-    ensures key { cell.new.key ≡ cell.old.key }
-    ensures calls { calls_in cell.new ≤ calls_in cell.old + 1 }
-    ensures numbered { IsNumbered drawn cell.old.inner → IsNumbered (drawn + 1) cell.new.inner }
-    ensures indexed { (look : ℕ → Option ActorKey) → look (drawn + 1) ≡ Some cell.old.key → IsIndexed look cell.old → IsIndexed look cell.new }
+    cell: &ActorCell,
+    chain: Option<&ChainId>,
+) -> Result<bool, PartReply>
+    requires chained { 0 < cell.now.inner.depth → IsSome chain }
+    ensures { Enters standing.now cell.now (option_copied chain.entry) result }
 {
-    if carries(&cell.inner, chain.as_ref()) {
-        return ask_cell(alloc, drawn, full, cell, chain, false);
+    if carries(&cell.inner, chain) {
+        return Ok(false);
     }
     match standing.stage {
-        Stage::Open => ask_owned(alloc, standing, drawn, full, cell, chain),
-        _ => ask_cell(alloc, drawn, full, cell, chain, false),
+        Stage::Open => enter_owned(alloc, standing, cell),
+        _ => Ok(false),
+    }
+}
+
+/// Whether the call has begun.
+pub(crate) fn has_begun(asked: &Asked) -> bool
+    ensures { result ≡ is_begun asked.now }
+{
+    match asked {
+        Asked::Begun => true,
+        Asked::Waits { .. } => false,
+    }
+}
+
+/// The reply to a call that the cell has accepted. If it has begun, it is appended to the list.
+pub(crate) fn accepted(
+    calls: &mut Vec<u64>,
+    call: u64,
+    chain: Option<ChainId>,
+    asked: Asked,
+) -> PartReply
+    requires { vec_len calls.old < vec_capacity calls.old }
+    ensures reply { result ≡ reply_by call chain asked }
+    ensures items { calls.new.items ≡ calls.old.items ++ begun_by call asked }
+    ensures room { vec_capacity calls.old ≤ vec_capacity calls.new }
+{
+    match asked {
+        Asked::Begun => {
+            note_next(calls, Some(call));
+            PartReply::Begun { call, chain }
+        }
+        Asked::Waits { place } => PartReply::Waits { call, place },
+    }
+}
+
+/// The reply to a call that the cell has refused.
+pub(crate) fn refused(refusal: CellError) -> PartReply
+    ensures { result ≡ refusal_by refusal }
+{
+    match refusal {
+        CellError::Depth { turns } => PartReply::Depth { turns },
+        CellError::QueueFull { n } => PartReply::QueueFull { n },
+        CellError::OutOfMemory => PartReply::OutOfMemory,
+    }
+}
+
+/// Appends the call that has begun to the list, if there is one.
+pub(crate) fn note_next(calls: &mut Vec<u64>, next: Option<u64>)
+    requires { vec_len calls.old + length (begun_next_in next) ≤ vec_capacity calls.old }
+    ensures items { calls.new.items ≡ calls.old.items ++ begun_next_in next }
+    ensures room { vec_capacity calls.old ≤ vec_capacity calls.new }
+{
+    match next {
+        None => {}
+        Some(call) => match calls.push(call) {
+            Ok(()) => {}
+            Err(_) => unreachable!(),
+        },
     }
 }

@@ -1,25 +1,55 @@
 // Calls of a part's actors: asked, polled and ended.
-ghost use Rattle.std.specs.Prelude.{◌≡◌, ◌<◌, ◌^◌, [], None, false, IfSome};
-ghost use Rattle.turn_core.specs.Cell.{cell_poll};
-ghost use Rattle.part_cells.specs.Cells.{cell_at, cell_of_call, keep_cell};
-ghost use Rattle.part_core.specs.Actors.{state_of, view_of};
-ghost use Rattle.part_core.specs.Part.{is_stopped, ask_part, ask_found, poll_part, end_part, ring_owner};
+ghost use Rattle.std.specs.Prelude.{◌≡◌, ◌<◌, ◌^◌, [], None, false, length, IsSome};
+ghost use Rattle.part_cells.specs.Cells.{cell_at};
+ghost use Rattle.part_core.specs.Actors.{state_of, view_of, IsFirstCell};
+ghost use Rattle.part_core.specs.Part.{is_stopped, ask_part, ask_found, ask_cell, poll_part, end_part, ring_owner};
 ghost use Rattle.part_core.specs.Rooms.{Gives, GivesInMemory};
 ghost use Rattle.part_core.specs.Settings.{AreShallow};
 
 use crate::actors::{Actors, MOST_CELLS, MOST_DRAWN};
-use crate::calls::{is_accepted, note_next};
-use crate::chains::copy_chain;
+use crate::asking::{accepted, enter, has_begun, note_next, refused};
+use crate::chains::{call_chain, copy_chain};
 use crate::event::PartReply;
-use crate::finding::{call_cell, put_back, take_call};
 use crate::owners::{may_hand_over, moved_reply};
 use crate::settings::depth_of;
 use crate::standing::Standing;
 use actor_names::{ActorKey, ChainId};
-use part_cells::{ActorCell, leaf};
+use part_cells::ActorCell;
 use turn_core::{Cell, CellEnd, CellPoll};
 
 impl Actors {
+    /// A first call of an actor, which gets this cell.
+    fn add_first(
+        &mut self,
+        standing: &Standing,
+        mut cell: ActorCell,
+        chain: Option<ChainId>,
+        may_begin: bool,
+    ) -> PartReply
+        requires running { is_stopped standing.now.stage ≡ false }
+        requires numbers { self.old.drawn < 2 ^ 62 }
+        requires none { self.old.recent ≡ [] }
+        requires few { length self.old.cells < 65536 }
+        requires absent { cell_at self.old.cells cell.key ≡ None }
+        requires first { IsFirstCell cell }
+        requires chained { 0 < cell.inner.depth → IsSome chain }
+        ensures { GivesInMemory (ask_cell false (state_of standing.now self.old) cell chain may_begin) result (state_of standing.now self.old) (view_of standing.now self.new) }
+    {
+        let call = self.drawn + 1;
+        let Ok(()) = self.recent.reserve(self.cells.count() + 1) else {
+            return PartReply::OutOfMemory;
+        };
+        let Ok(asked) = cell.inner.ask(self.alloc, call, chain.as_ref(), may_begin) else {
+            return PartReply::OutOfMemory;
+        };
+        cell.active = has_begun(&asked);
+        let Ok(()) = self.cells.add(self.alloc, cell, call) else {
+            return PartReply::OutOfMemory;
+        };
+        self.drawn = call;
+        accepted(&mut self.recent, call, chain, asked)
+    }
+
     /// A call of an actor that has no cell.
     fn ask_first(&mut self, standing: &Standing, key: ActorKey, chain: Option<ChainId>) -> PartReply
         requires running { is_stopped standing.now.stage ≡ false }
@@ -33,18 +63,19 @@ impl Actors {
         let Ok(inner) = Cell::new(self.alloc, depth) else {
             return PartReply::OutOfMemory;
         };
-        let Ok(mut node) = leaf(self.alloc, first_cell(key, inner)) else {
+        let cell = first_cell(key, inner);
+        let Ok(chain) = call_chain(self.alloc, standing, self.drawn, depth, chain) else {
             return PartReply::OutOfMemory;
         };
-        let full = self.size >= MOST_CELLS;
-        let cell = &mut node.cell;
-        let reply = self.calls.ask(self.alloc, standing, full, cell, chain);
-        if !is_accepted(&reply) {
-            return reply;
+        match enter(self.alloc, standing, &cell, chain.as_ref()) {
+            Err(refusal) => refusal,
+            Ok(may_begin) => {
+                if self.cells.len() >= MOST_CELLS {
+                    return PartReply::PartFull;
+                }
+                self.add_first(standing, cell, chain, may_begin)
+            }
         }
-        self.size += 1;
-        self.cells.put(node);
-        reply
     }
 
     /// A call of an actor, from a caller that knows of a table of version `least`.
@@ -59,24 +90,40 @@ impl Actors {
         requires shallow { AreShallow standing.now.kinds }
         ensures { GivesInMemory (ask_part ring_owner (state_of standing.now self.old) key chain least) result (state_of standing.now self.old) (view_of standing.now self.new) }
     {
-        self.calls.recent.clear();
-        if self.calls.drawn >= MOST_DRAWN {
-            return PartReply::Spent {
-                count: self.calls.drawn,
-            };
+        self.recent.clear();
+        if self.drawn >= MOST_DRAWN {
+            return PartReply::Spent { count: self.drawn };
         }
         if standing.seen < least {
             return PartReply::Behind {
                 seen: standing.seen,
             };
         }
-        let Some(mut node) = self.cells.take(&key) else {
+        let Some((slot, cell)) = self.cells.find(&key) else {
             return self.ask_first(standing, key, chain);
         };
-        let cell = &mut node.cell;
-        let reply = self.calls.ask(self.alloc, standing, false, cell, chain);
-        self.cells.put(node);
-        reply
+        let depth = cell.inner.depth();
+        let Ok(chain) = call_chain(self.alloc, standing, self.drawn, depth, chain) else {
+            return PartReply::OutOfMemory;
+        };
+        let may_begin = match enter(self.alloc, standing, cell, chain.as_ref()) {
+            Err(refusal) => return refusal,
+            Ok(may_begin) => may_begin,
+        };
+        let Ok(()) = self.recent.reserve(self.cells.count() + 1) else {
+            return PartReply::OutOfMemory;
+        };
+        let call = self.drawn + 1;
+        match self
+            .cells
+            .ask(self.alloc, slot, call, chain.as_ref(), may_begin)
+        {
+            Err(refusal) => refused(refusal),
+            Ok(asked) => {
+                self.drawn = call;
+                accepted(&mut self.recent, call, chain, asked)
+            }
+        }
     }
 
     /// A caller asks for the state of the call; a moved call is removed from its queue.
@@ -84,8 +131,8 @@ impl Actors {
         requires running { is_stopped standing.now.stage ≡ false }
         ensures { GivesInMemory (poll_part ring_owner (state_of standing.now self.old) call) result (state_of standing.now self.old) (view_of standing.now self.new) }
     {
-        self.calls.recent.clear();
-        let Some(cell) = call_cell(&self.cells, &self.calls.index, call) else {
+        self.recent.clear();
+        let Some((slot, cell)) = self.cells.find_call(call) else {
             return PartReply::AlreadyEnded;
         };
         match cell.inner.look(call) {
@@ -98,53 +145,29 @@ impl Actors {
             CellPoll::Moved => match moved_reply(self.alloc, &standing.table, &cell.key) {
                 Err(_) => PartReply::OutOfMemory,
                 Ok(reply) => {
-                    self.take_moved(call);
+                    self.cells.take_moved(slot, call);
                     reply
                 }
             },
         }
     }
 
-    /// Removes a moved call from its queue.
-    fn take_moved(&mut self, call: u64)
-        requires { IfSome (cell_of_call self.old.cells call) (λ c. (cell_poll c.inner call).answer ≡ CellPoll.Moved) }
-        ensures { IfSome (cell_of_call self.old.cells call) (λ c. self.new ≡ record self.old { cells = keep_cell self.old.cells (record c { inner = (cell_poll c.inner call).cell }) }) }
-    {
-        let Some(mut node) = take_call(&mut self.cells, &self.calls.index, call) else {
-            return;
-        };
-        let cell = &mut node.cell;
-        let _moved = cell.inner.poll(call);
-        self.calls.leave(call, cell);
-        put_back(&mut self.cells, &mut self.size, node);
-    }
-
     /// The call's turn has ended; if the actor is then free, its next call begins if it may.
     pub(crate) fn end(&mut self, standing: &Standing, call: u64, now: u64) -> PartReply
         ensures { Gives (end_part ring_owner (state_of standing.now self.old) call now) result (view_of standing.now self.new) }
     {
-        self.calls.recent.clear();
-        let Some(mut node) = take_call(&mut self.cells, &self.calls.index, call) else {
+        self.recent.clear();
+        let Some((slot, cell)) = self.cells.find_call(call) else {
             return PartReply::AlreadyEnded;
         };
-        let cell = &mut node.cell;
         let may_begin = may_hand_over(standing, cell);
-        match cell.inner.end(call, may_begin) {
+        match self.cells.end(slot, call, may_begin, now) {
             CellEnd::Ended { next } => {
-                cell.last = cell.last.max(now);
-                self.calls.leave(call, cell);
-                note_next(&mut self.calls.recent, next);
-                put_back(&mut self.cells, &mut self.size, node);
+                note_next(&mut self.recent, next);
                 PartReply::Ended { next }
             }
-            CellEnd::AlreadyEnded => {
-                self.cells.put(node);
-                PartReply::AlreadyEnded
-            }
-            CellEnd::StillWaiting => {
-                self.cells.put(node);
-                PartReply::StillWaiting
-            }
+            CellEnd::AlreadyEnded => PartReply::AlreadyEnded,
+            CellEnd::StillWaiting => PartReply::StillWaiting,
         }
     }
 }

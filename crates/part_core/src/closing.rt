@@ -1,22 +1,19 @@
 // The deactivation of actors: an actor is taken, and later its deactivation call ends.
 ghost use Rattle.std.specs.Prelude.{◌≡◌, ◌&&◌, false};
-ghost use Rattle.std.specs.Option.{option_copied};
 ghost use Rattle.part_core.specs.Actors.{no_actors, state_of, view_of, is_closed};
-ghost use Rattle.part_core.specs.Part.{is_stopped, is_idle, may_close, first_to_close, take_closing, closed_part, is_updated, is_foreign, ring_owner};
+ghost use Rattle.part_core.specs.Part.{is_stopped, is_idle, may_close, take_closing, closed_part, is_updated, is_foreign, ring_owner};
 ghost use Rattle.part_core.specs.Rooms.{Gives, GivesInMemory};
 
 use crate::actors::Actors;
-use crate::calls::note_next;
+use crate::asking::note_next;
 use crate::event::PartReply;
-use crate::finding::put_back;
 use crate::holding::is_awake;
-use crate::opening::begin_if;
 use crate::owners::{is_own, is_served};
 use crate::settings::idle_of;
 use crate::stage::Stage;
 use crate::standing::Standing;
 use actor_names::ActorKey;
-use part_cells::{ActorCell, Node, Root, Tree};
+use part_cells::{ActorCell, CellTest};
 
 /// Whether no call waits but moved ones, and the idle time of the actor's type has passed since its last turn or
 /// hold ended.
@@ -57,22 +54,18 @@ fn may_close(standing: &Standing, now: u64, cell: &ActorCell) -> bool
         && (gives_up(standing, &cell.key) || is_idle(standing, now, cell))
 }
 
-/// The first cell whose actor may be taken.
-fn first_to_close<'a>(standing: &Standing, cells: &'a Tree, now: u64) -> Option<&'a ActorCell>
-    ensures { option_copied result ≡ first_to_close ring_owner (state_of standing.now no_actors) now cells.now }
-{
-    match &cells.root {
-        Root::Empty => None,
-        Root::Full(node) => {
-            let top: &Node = node;
-            if let Some(cell) = first_to_close(standing, &top.left, now) {
-                return Some(cell);
-            }
-            if may_close(standing, now, &top.cell) {
-                return Some(&top.cell);
-            }
-            first_to_close(standing, &top.right, now)
-        }
+/// Whether the actor may be taken for deactivation at this moment.
+#[derive(Drop)]
+struct MayClose<'a> {
+    standing: &'a Standing,
+    now: u64,
+}
+
+impl<'a> CellTest for MayClose<'a> {
+    ghost holds = { λ t c. may_close ring_owner (state_of t.standing.now no_actors) t.now c };
+
+    fn holds(&self, cell: &ActorCell) -> bool {
+        may_close(self.standing, self.now, cell)
     }
 }
 
@@ -82,18 +75,15 @@ impl Actors {
         requires running { is_stopped standing.now.stage ≡ false }
         ensures { GivesInMemory (take_closing ring_owner (state_of standing.now self.old) now) result (state_of standing.now self.old) (view_of standing.now self.new) }
     {
-        self.calls.recent.clear();
-        let Some(cell) = first_to_close(standing, &self.cells, now) else {
+        self.recent.clear();
+        let test = MayClose { standing, now };
+        let Some((slot, cell)) = self.cells.first(&test) else {
             return PartReply::NoneClosing;
         };
         let Ok(key) = cell.key.copy(self.alloc) else {
             return PartReply::OutOfMemory;
         };
-        let Some(mut node) = self.cells.take(&key) else {
-            return PartReply::NoneClosing;
-        };
-        node.cell.closing = true;
-        put_back(&mut self.cells, &mut self.size, node);
+        self.cells.close(slot);
         PartReply::Close { key }
     }
 
@@ -101,21 +91,16 @@ impl Actors {
     pub(crate) fn closed(&mut self, standing: &Standing, key: &ActorKey) -> PartReply
         ensures { Gives (closed_part ring_owner (state_of standing.now self.old) key.now) result (view_of standing.now self.new) }
     {
-        self.calls.recent.clear();
-        let Some(mut node) = self.cells.take(key) else {
+        self.recent.clear();
+        let Some((slot, cell)) = self.cells.find(key) else {
             return PartReply::NotClosing;
         };
-        let cell = &mut node.cell;
         if !cell.closing {
-            self.cells.put(node);
             return PartReply::NotClosing;
         }
         let may_begin = is_served(standing, &cell.key);
-        let next = begin_if(&mut cell.inner, may_begin);
-        cell.active = next.is_some();
-        cell.closing = false;
-        note_next(&mut self.calls.recent, next);
-        put_back(&mut self.cells, &mut self.size, node);
+        let next = self.cells.closed(slot, may_begin);
+        note_next(&mut self.recent, next);
         PartReply::ClosedDone { next }
     }
 }

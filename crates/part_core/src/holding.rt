@@ -6,7 +6,6 @@ ghost use Rattle.part_core.specs.Rooms.{Gives};
 
 use crate::actors::{Actors, MOST_DRAWN};
 use crate::event::PartReply;
-use crate::finding::put_back;
 use crate::standing::Standing;
 use actor_names::ActorKey;
 use part_cells::ActorCell;
@@ -23,45 +22,33 @@ impl Actors {
     pub(crate) fn hold(&mut self, standing: &Standing, key: &ActorKey) -> PartReply
         ensures { Gives (hold_part ring_owner (state_of standing.now self.old) key.now) result (view_of standing.now self.new) }
     {
-        self.calls.recent.clear();
-        let Some(mut node) = self.cells.take(key) else {
+        self.recent.clear();
+        let Some((slot, cell)) = self.cells.find(key) else {
             return PartReply::NotActive;
         };
-        let cell = &mut node.cell;
         if !is_awake(cell) {
-            self.cells.put(node);
             return PartReply::NotActive;
         }
-        if self.calls.drawn >= MOST_DRAWN {
-            self.cells.put(node);
-            return PartReply::Spent {
-                count: self.calls.drawn,
-            };
+        if self.drawn >= MOST_DRAWN {
+            return PartReply::Spent { count: self.drawn };
         }
-        cell.inner.hold();
-        self.calls.drawn += 1;
-        put_back(&mut self.cells, &mut self.size, node);
-        PartReply::Held {
-            n: self.calls.drawn,
-        }
+        self.cells.hold(slot);
+        self.drawn += 1;
+        PartReply::Held { n: self.drawn }
     }
 
     /// Removes one hold of the actor.
     pub(crate) fn release(&mut self, standing: &Standing, key: &ActorKey, now: u64) -> PartReply
         ensures { Gives (release_part ring_owner (state_of standing.now self.old) key.now now) result (view_of standing.now self.new) }
     {
-        self.calls.recent.clear();
-        let Some(mut node) = self.cells.take(key) else {
+        self.recent.clear();
+        let Some((slot, cell)) = self.cells.find(key) else {
             return PartReply::NotHeld;
         };
-        let cell = &mut node.cell;
         if cell.inner.holds() == 0 {
-            self.cells.put(node);
             return PartReply::NotHeld;
         }
-        let _released = cell.inner.release();
-        cell.last = cell.last.max(now);
-        put_back(&mut self.cells, &mut self.size, node);
+        self.cells.release(slot, now);
         PartReply::Released
     }
 }

@@ -1,14 +1,15 @@
 // Which actors belong to this member.
-ghost use Rattle.std.specs.Prelude.{◌≡◌, ◌<◌, ◌≤◌, ◌&&◌, not, length, IfOk};
+ghost use Rattle.std.specs.Prelude.{◌≡◌, ◌<◌, ◌&&◌, not, length, IfOk};
 ghost use Rattle.std.specs.Option.{option_copied};
-ghost use Rattle.part_core.specs.Actors.{no_actors, state_of, foreign_in, total_foreign};
-ghost use Rattle.part_core.specs.Part.{ring_owner, is_owned_by, is_open, owner_reply};
+ghost use Rattle.part_core.specs.Actors.{no_actors, state_of, total_foreign};
+ghost use Rattle.part_core.specs.Part.{ring_owner, is_owned_by, is_open, is_foreign, owner_reply};
 
+use crate::actors::Actors;
 use crate::event::PartReply;
 use crate::stage::Stage;
 use crate::standing::Standing;
 use actor_names::{ActorKey, Member, OutOfMemory};
-use part_cells::{ActorCell, Node, Root, Tree};
+use part_cells::{ActorCell, CellTest};
 use place_table::{HostInfo, Table};
 use std::alloc::Global;
 
@@ -30,33 +31,26 @@ pub(crate) fn is_own(table: &Table, member: &Member, key: &ActorKey) -> bool
     }
 }
 
-/// One for an active actor of another owner, else zero.
-fn foreign_in(standing: &Standing, cell: &ActorCell) -> usize
-    ensures count { result ≡ foreign_in ring_owner (state_of standing.now no_actors) cell.now }
-    ensures few { result ≤ 1 }
-{
-    if cell.active && !is_own(&standing.table, &standing.member, &cell.key) {
-        1
-    } else {
-        0
+/// Whether the actor is active and belongs to another owner.
+#[derive(Drop)]
+struct IsForeign<'a> {
+    standing: &'a Standing,
+}
+
+impl<'a> CellTest for IsForeign<'a> {
+    ghost holds = { λ t c. c.active && is_foreign ring_owner (state_of t.standing.now no_actors) c.key };
+
+    fn holds(&self, cell: &ActorCell) -> bool {
+        cell.active && !is_own(&self.standing.table, &self.standing.member, &cell.key)
     }
 }
 
-/// How many active actors belong to another owner.
-pub(crate) fn count_foreign(standing: &Standing, cells: &Tree) -> usize
-    requires { length cells.now ≤ 65536 }
-    ensures count { result ≡ total_foreign ring_owner (state_of standing.now no_actors) cells.now }
-    ensures few { result ≤ length cells.now }
-{
-    match &cells.root {
-        Root::Empty => 0,
-        Root::Full(node) => {
-            let top: &Node = node;
-            let left = count_foreign(standing, &top.left);
-            let here = foreign_in(standing, &top.cell);
-            let right = count_foreign(standing, &top.right);
-            left + here + right
-        }
+impl Actors {
+    /// How many active actors belong to another owner.
+    pub(crate) fn count_foreign(&self, standing: &Standing) -> usize
+        ensures { result ≡ total_foreign ring_owner (state_of standing.now no_actors) self.now.cells }
+    {
+        self.cells.count_where(&IsForeign { standing })
     }
 }
 

@@ -8,4 +8,7 @@ pub mod CellSteps
 pub mod CellKeeps
 pub mod CellRuns
 pub mod FreshCalls
+pub mod Presence
+pub mod Leaves
+pub mod Joins
 mod Rows

@@ -1,5 +1,5 @@
 -- How often a call is in a cell, after each change of its turns and its queue.
-use Rattle.std.proofs.Common.{◌≡◌, ℕ, Bool, true, false, if◌then◌else◌, ◌+◌, ◌≤◌, List, [], ◌∷◌, ◌++◌, Option, None, Some, is_some, refl, sym, ap, ◌∙◌, arith}
+use Rattle.std.proofs.Common.{◌≡◌, ℕ, false, if◌then◌else◌, ◌+◌, ◌≤◌, List, [], ◌∷◌, ◌++◌, Option, None, Some, is_some, refl, ap, ◌∙◌, arith}
 use Rattle.std.specs.Prelude.{◌==◌}
 use Rattle.std.proofs.lemmas.Bool.{cond_both, cond-true, cond-false, or_parts, eqb-true}
 use Rattle.turn_core.specs.declared.cell.Turn.{Turn}
@@ -8,14 +8,14 @@ use Rattle.turn_core.specs.Cell.{CellState, has_turn, without_turn, waiter_of, w
 use Rattle.turn_core.specs.CellSound.{turns_of, waiters_of, times_in, HasCallsOnce}
 
 -- one if the two are the same call
-abbrev one_of : ℕ → ℕ → ℕ
+abbrev pub one_of : ℕ → ℕ → ℕ
 one_of n call = if n == call then 1 else 0
 
-turns_of-push : (n : ℕ) (ts : List Turn) (t : Turn) → turns_of n (ts ++ t ∷ []) ≡ turns_of n ts + one_of n t.call
+pub turns_of-push : (n : ℕ) (ts : List Turn) (t : Turn) → turns_of n (ts ++ t ∷ []) ≡ turns_of n ts + one_of n t.call
 turns_of-push n [] t = omega arith
 turns_of-push n (u ∷ ts) t = let more = turns_of-push n ts t in omega arith
 
-waiters_of-push : (n : ℕ) (ws : List Waiter) (w : Waiter) → waiters_of n (ws ++ w ∷ []) ≡ waiters_of n ws + one_of n w.call
+pub waiters_of-push : (n : ℕ) (ws : List Waiter) (w : Waiter) → waiters_of n (ws ++ w ∷ []) ≡ waiters_of n ws + one_of n w.call
 waiters_of-push n [] w = omega arith
 waiters_of-push n (v ∷ ws) w = let more = waiters_of-push n ws w in omega arith
 
@@ -56,7 +56,7 @@ waiters_of-without n call (w ∷ ws) =
     cond_both (call == w.call) _ _ (λ r. waiters_of n r ≤ one_of n w.call + waiters_of n ws) (λ _. omega arith) (λ _. omega arith)
 
 -- the first call that isn't moved leaves the queue
-waiters_of-first : (n : ℕ) (ws : List Waiter) (w : Waiter) → first_unmoved ws ≡ Some w → waiters_of n ws ≡ waiters_of n (without_first_unmoved ws) + one_of n w.call
+pub waiters_of-first : (n : ℕ) (ws : List Waiter) (w : Waiter) → first_unmoved ws ≡ Some w → waiters_of n ws ≡ waiters_of n (without_first_unmoved ws) + one_of n w.call
 waiters_of-first n [] w e = absurd (cc)
 waiters_of-first n (v ∷ ws) w e =
     let more = waiters_of-first n ws w in
@@ -64,7 +64,7 @@ waiters_of-first n (v ∷ ws) w e =
     (λ m q. let rest = ap (λ (us : List Waiter). waiters_of n us) (cond-true v.moved (v ∷ without_first_unmoved ws) ws m) in let l = more q in omega arith)
     (λ m q. let rest = ap (λ (us : List Waiter). waiters_of n us) (cond-false v.moved (v ∷ without_first_unmoved ws) ws m) in let l : one_of n v.call ≡ one_of n w.call = cc in omega arith) e
 
-waiters_of-all_moved : (n : ℕ) (ws : List Waiter) → waiters_of n (all_moved ws) ≡ waiters_of n ws
+pub waiters_of-all_moved : (n : ℕ) (ws : List Waiter) → waiters_of n (all_moved ws) ≡ waiters_of n ws
 waiters_of-all_moved n [] = refl
 waiters_of-all_moved n (w ∷ ws) = let more = waiters_of-all_moved n ws in omega arith
 

@@ -1,5 +1,5 @@
 // The cell of one actor: which call begins, which waits and which is refused.
-ghost use Rattle.std.specs.Prelude.{◌≡◌, ◌+◌, ◌^◌, ◌<◌, ◌≤◌, ◌↔◌, ◌++◌, max, length, vec_len, vec_capacity, false, [], IfOk, IfErr, IsSome, OnOk, OnErr, option_map};
+ghost use Rattle.std.specs.Prelude.{◌≡◌, ℕ, ◌+◌, ◌^◌, ◌<◌, ◌≤◌, ◌↔◌, ◌++◌, max, length, vec_len, vec_capacity, false, [], IfOk, IfErr, IsSome, OnOk, OnErr, option_map};
 ghost use Rattle.std.specs.Option.{option_copied};
 ghost use Rattle.turn_core.specs.Cell.{new_cell, greatest_depth, longest_line, admit_call, cell_end, cell_poll, cell_begin_next, first_unmoved, call_of, unmoved, turn_calls, chain_of, is_in_cell, with_hold, without_hold, with_line_moved, without_turns, GivesStep};
 ghost use Rattle.turn_core.specs.CellSound.{HasCallsOnce, IsCellSound};
@@ -112,11 +112,38 @@ impl Cell {
         })
     }
 
+    /// How a call of this chain would be answered now, apart from want of memory. Nothing changes.
+    pub fn admission(&self, chain: Option<&ChainId>, may_begin: bool) -> Result<Asked, CellError>
+        ensures { (call : ℕ) → result ≡ (admit_call self.now call (option_copied chain.entry) may_begin).answer }
+    {
+        let chain = chain_at(self.depth, chain);
+        if carry_chain(&self.turns, chain) && self.depth > 0 {
+            if self.depth as usize <= self.turns.len() {
+                return Err(CellError::Depth {
+                    turns: self.turns.len() as u64,
+                });
+            }
+            return Ok(Asked::Begun);
+        }
+        if may_begin && self.turns.is_empty() {
+            return Ok(Asked::Begun);
+        }
+        if LONGEST_LINE <= self.line.len() {
+            return Err(CellError::QueueFull {
+                n: self.line.len() as u64,
+            });
+        }
+        Ok(Asked::Waits {
+            place: self.line.len() as u64 + 1,
+        })
+    }
+
     /// Ends the call's turn. If no turn is open afterwards and `may_begin` is true, the first call in the queue
     /// that isn't moved begins.
     pub fn end(&mut self, call: u64, may_begin: bool) -> CellEnd
         ensures answer { result ≡ (cell_end self.old call may_begin).answer }
         ensures cell { self.new ≡ (cell_end self.old call may_begin).cell }
+        ensures once { HasCallsOnce self.old }
     {
         if !end_turn(&mut self.turns, call) {
             return end_in_line(&self.line, call);
@@ -133,6 +160,7 @@ impl Cell {
     pub fn poll(&mut self, call: u64) -> CellPoll
         ensures answer { result ≡ (cell_poll self.old call).answer }
         ensures cell { self.new ≡ (cell_poll self.old call).cell }
+        ensures once { HasCallsOnce self.old }
     {
         if is_open(&self.turns, call) {
             return CellPoll::Begun;
@@ -220,6 +248,7 @@ impl Cell {
     pub fn end_all(&mut self) -> u32
         ensures answer { result ≡ length self.old.turns }
         ensures cell { self.new ≡ without_turns self.old }
+        ensures once { HasCallsOnce self.old }
     {
         let count = self.turns.len() as u32;
         self.turns.clear();

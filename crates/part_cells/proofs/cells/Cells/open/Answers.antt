@@ -1,0 +1,12 @@
+use Rattle.std.proofs.Common.{◌≤◌, length, arith}
+use Rattle.slab.specs.Slab.{get}
+use Rattle.part_cells.specs.Slots.{cells_in}
+use Rattle.part_cells.proofs.SlotPasses.{length-placed}
+use Rattle.part_cells.proofs.cells.Cells.open.Goals as goal
+
+pub open_all-requires-clause-few : goal.open_all-requires-clause-few
+open_all-requires-clause-few g c =
+    let k = c.self.invariant in
+    let l = length-placed (get c.self.inside.slots) c.self.inside.places.entries k.placed in
+    let f : length (cells_in (get c.self.inside.slots) c.self.inside.places.entries) ≤ 65536 = rw (← c.self.view_is) at c.requires.few in
+    omega arith

@@ -1,0 +1,27 @@
+// A slot is emptied.
+ghost use Rattle.std.specs.Prelude.{◌≡◌, None, IfSome};
+ghost use Rattle.std.specs.BTreeMap.{is_at};
+ghost use Rattle.std.specs.Map.{remove_entry};
+ghost use Rattle.slab.specs.Slab.{get, Updates};
+ghost use Rattle.actor_names.specs.Same.{key_cmp};
+
+use crate::actor_cell::ActorCell;
+use actor_names::ActorKey;
+use slab::Slab;
+use std::collections::BTreeMap;
+
+/// Drops the cell in the slot, with its place; takes no memory.
+pub(crate) fn drop_at(
+    slots: &mut Slab<ActorCell>,
+    places: &mut BTreeMap<ActorKey, usize>,
+    slot: usize,
+)
+    ensures slots { Updates slots.old slots.new slot None }
+    ensures places { IfSome (get slots.old slot) (λ c. places.new.entries ≡ remove_entry (is_at (key_cmp c.key)) places.old.entries) }
+{
+    let Some(cell) = slots.get(slot) else {
+        return;
+    };
+    let _place = places.remove(&cell.key);
+    let _cell = slots.try_remove(slot);
+}

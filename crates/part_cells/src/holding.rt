@@ -1,0 +1,31 @@
+// Holds of an actor.
+ghost use Rattle.std.specs.Prelude.{◌≡◌, ◌<◌, ◌^◌, max, IfSome};
+ghost use Rattle.turn_core.specs.Cell.{with_hold, without_hold};
+ghost use Rattle.part_cells.specs.Cells.{keep_cell};
+ghost use Rattle.part_cells.specs.Slots.{cell_of_slot};
+
+use crate::cells::Cells;
+
+impl Cells {
+    /// One hold more of the actor with this slot.
+    pub fn hold(&mut self, slot: usize)
+        requires { IfSome (cell_of_slot self.old slot) (λ c. c.inner.holds < 2 ^ 62) }
+        ensures { IfSome (cell_of_slot self.old slot) (λ c. self.new.cells ≡ keep_cell self.old.cells (record c { inner = with_hold c.inner })) }
+    {
+        let Some(cell) = self.slots.get_mut(slot) else {
+            return;
+        };
+        cell.inner.hold();
+    }
+
+    /// One hold less of the actor with this slot, if it has one, at this moment.
+    pub fn release(&mut self, slot: usize, now: u64)
+        ensures { IfSome (cell_of_slot self.old slot) (λ c. self.new.cells ≡ keep_cell self.old.cells (record c { inner = without_hold c.inner; last = max c.last now })) }
+    {
+        let Some(cell) = self.slots.get_mut(slot) else {
+            return;
+        };
+        let _released = cell.inner.release();
+        cell.last = cell.last.max(now);
+    }
+}
