@@ -1,6 +1,5 @@
 -- Members if a search finds their node, and if it doesn't.
 use Rattle.std.proofs.Common.{◌≡◌, ℕ, suc, zero, Bool, false, ◌||◌, List, [], ◌∷◌, length, map, get_or, set, None, Some, refl, sym, ap, ◌∙◌, arith}
-use Rattle.std.specs.Prelude.{◌==◌}
 use Rattle.std.specs.List.{insert, remove, list_any}
 use Rattle.std.specs.declared.cmp.Ordering.{Ordering}
 use Rattle.std.specs.declared.cmp.Ordering.TheVariants.{Less, Equal, Greater}

@@ -1,5 +1,5 @@
 -- Members in byte order of node, and the greatest boot of each node. Own.
-use Rattle.std.specs.Prelude.{ℕ, ◌-◌, Bool, true, false, ◌||◌, ◌==◌, nat_le, if◌then◌else◌, List, [], ◌∷◌, map, bytes_eq, Option, None, Some}
+use Rattle.std.specs.Prelude.{ℕ, ◌-◌, Bool, true, false, ◌||◌, nat_le, if◌then◌else◌, List, [], ◌∷◌, map, bytes_eq, Option, None, Some}
 use Rattle.std.specs.List.{list_any}
 use Rattle.std.specs.Ordering.{nat_cmp, is_lt}
 use Rattle.std.specs.Cmp.Lexicographic.{slice_cmp}
@@ -87,6 +87,11 @@ without_node (j ∷ js) node = if bytes_eq node (joined_node j) then js else j �
 abbrev pub removes_all : List Joined → List Member → Option (List Joined)
 removes_all js [] = Some js
 removes_all js (m ∷ ms) = if is_here js m then removes_all (without_node js m.node) ms else None
+
+-- the members without these, up to the first that isn't one when its turn comes
+abbrev pub removed_until : List Joined → List Member → List Joined
+removed_until js [] = js
+removed_until js (m ∷ ms) = if is_here js m then removed_until (without_node js m.node) ms else js
 
 -- a new member at its place
 abbrev pub put_joined : List Joined → Joined → List Joined

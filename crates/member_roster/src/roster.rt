@@ -1,6 +1,6 @@
 // The members and the table that was fixed last.
 ghost use Rattle.std.specs.Prelude.{◌≡◌, ◌==◌, ◌+◌, ◌<◌, ◌≤◌, ◌↔◌, [], ◌∷◌, ◌++◌, None, false, length, map, IfOk, OnOk, OnErr, IsTrue, IsFalse, Some, max, option_map};
-ghost use Rattle.member_roster.specs.Members.{heard_at, acked_at, restarted_at, new_joined, boot_of, hosts_of, of_node, is_here, is_pending, with_node, without_node, put_joined, Joined, is_late, late_of, heard_of, any_pending, entered, targeted, target_hosts, removes_all};
+ghost use Rattle.member_roster.specs.Members.{heard_at, acked_at, restarted_at, new_joined, boot_of, hosts_of, of_node, is_here, is_pending, with_node, without_node, put_joined, Joined, is_late, late_of, heard_of, any_pending, entered, targeted, target_hosts, removed_until, removes_all};
 ghost use Rattle.std.specs.List.{slice_get};
 ghost use Rattle.actor_names.specs.Same.{same_member};
 ghost use Rattle.member_roster.specs.Places.{Ascends, host_node};
@@ -234,10 +234,11 @@ impl Roster {
         }
     }
 
-    /// Removes members in their order, and says whether each was one.
+    /// Removes members in their order up to the first that isn't one, and says whether each was one.
     pub fn remove_all(&mut self, members: &[Member]) -> bool
         ensures all { IsTrue result → removes_all self.old.members members.now ≡ Some self.new.members }
         ensures stranger { IsFalse result → removes_all self.old.members members.now ≡ None }
+        ensures members { self.new.members ≡ removed_until self.old.members members.now }
         ensures table { self.new.table ≡ self.old.table }
         ensures capacity { self.new.capacity ≡ self.old.capacity }
     {

@@ -1,4 +1,5 @@
 mod Durable
+pub mod Ordered
 mod Orders
 mod Recorded
 mod Refusals
@@ -6,5 +7,6 @@ mod Replays
 mod Restored
 mod Searched
 pub mod Settling
+pub mod Sound
 pub mod Spaces
 mod Steps

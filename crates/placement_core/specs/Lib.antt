@@ -5,3 +5,4 @@ pub mod Kept
 pub mod Readings
 pub mod Views
 pub mod Runs
+pub mod Sound

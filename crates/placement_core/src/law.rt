@@ -8,11 +8,29 @@ ghost use Rattle.placement_core.specs.Entries.{placement_record};
 ghost use Rattle.placement_core.specs.Placement.{PlacementState, new_placement, placement_step, placement_restarted};
 ghost use Rattle.placement_core.specs.Restores.{placement_restored};
 ghost use Rattle.placement_core.specs.Runs.{AreRooms, AreSettled, SameRooms, run_records, run_state};
+ghost use Rattle.placement_core.specs.Sound.{AreOfSpaces, HasTable, IsPlacementSound};
+ghost use Rattle.round_core.specs.Sound.{RunsFewTypes};
+ghost use Rattle.std.specs.List.{AllByRecursion};
 
 /// In each state of a run, rounds have nothing left to do in any room: no stage can go on, and no round can start. So
 /// rounds have to go on only in the rooms in which something happens.
 pub fn rooms_settled_law()
     ensures { (run : List RunEvent) → AreSettled (run_state new_placement run).rooms }
+{}
+
+/// In each state of a run the placement is sound: its rooms are, they are in order, and at most 64.
+pub fn rooms_sound_law()
+    ensures { (run : List RunEvent) → IsPlacementSound (run_state new_placement run) }
+{}
+
+/// In each state of a run every member, and every host of a table that was fixed, is of its room's space.
+pub fn own_space_law()
+    ensures { (run : List RunEvent) → AreOfSpaces (run_state new_placement run).rooms }
+{}
+
+/// If each Register of a run brings a host of at most 32 types, every table that was fixed last in a room can be built.
+pub fn tables_law()
+    ensures { (run : List RunEvent) → RunsFewTypes run → AllByRecursion HasTable (run_state new_placement run).rooms }
 {}
 
 /// The records that a run leaves are enough: none of them is bad, and restoring them gives the restart of the run's last

@@ -14,7 +14,10 @@ mod rooms;
 mod sweep;
 
 pub use entry::{PlacementRecord, RoomEntry, SpaceRecord};
-pub use law::{durable_law, placement_refused_law, replayed_law, rooms_settled_law};
+pub use law::{
+    durable_law, own_space_law, placement_refused_law, replayed_law, rooms_settled_law,
+    rooms_sound_law, tables_law,
+};
 pub use placement::Placement;
 pub use replay::PlacementReplay;
 pub use round_core::{AckStage, PlaceEvent, PlaceReply, RestoreError, RoomRecord};

@@ -1,6 +1,6 @@
 // The placement: one step at a time, each in the room of its space.
 ghost use Rattle.std.specs.Prelude.{◌≡◌, ◌↔◌, ◌<◌, ◌≤◌, [], Some, None, IfOk, OnOk, OnErr, length, map, option_map};
-ghost use Rattle.std.specs.List.{slice_get};
+ghost use Rattle.std.specs.List.{AllByRecursion, slice_get};
 ghost use Rattle.member_roster.specs.Members.{hosts_of, is_late, Joined};
 ghost use Rattle.member_roster.specs.Places.{Ascends, host_node};
 ghost use Rattle.round_core.specs.Room.{last_version};
@@ -8,6 +8,8 @@ ghost use Rattle.placement_core.specs.Entries.{placement_record, placement_resta
 ghost use Rattle.placement_core.specs.Kept.{kept, kept_entries, kept_space, shown};
 ghost use Rattle.placement_core.specs.Placement.{SpaceRoom, new_placement, room_at, room_of, placement_restarted};
 ghost use Rattle.placement_core.specs.Runs.{AreRooms, SameRooms};
+ghost use Rattle.placement_core.specs.Sound.{AllHaveFewTypes, AreOfSpaces, IsKeptSound, IsPlacementSound};
+ghost use Rattle.round_core.specs.Sound.{BringsFewTypes};
 ghost use Rattle.placement_core.specs.Views.{ActsIn, Gives, GivesInMemory, GivesStep, IsMemberPlace, IsOfMember, LeavesRecord, lent_entry};
 
 use crate::entry::RoomEntry;
@@ -102,6 +104,7 @@ impl Placement {
     pub fn new(alloc: Global) -> Placement
         ensures state { result.state ≡ new_placement }
         ensures recent { result.recent ≡ [] }
+        ensures sound { IsPlacementSound result.state }
     {
         Placement {
             alloc,
@@ -114,6 +117,7 @@ impl Placement {
         requires order { Ascends kept_space rooms.items }
         requires few { length rooms.items ≤ 64 }
         requires kept { 0 < length rooms.items }
+        requires sound { AllByRecursion IsKeptSound rooms.items }
         ensures state { result.state ≡ record { rooms = map kept rooms.items } }
         ensures recent { result.recent ≡ kept_entries rooms.items }
     {
@@ -156,11 +160,13 @@ impl Placement {
         }
     }
 
-    /// How many rooms there are, at most 64. They are in byte order of space, no space twice.
+    /// How many rooms there are, at most 64. They are in byte order of space, no space twice. The clause `sound` holds of
+    /// every placement.
     pub fn rooms(&self) -> usize
         ensures count { result ≡ length self.now.state.rooms }
         ensures within { result ≤ 64 }
         ensures order { AreRooms self.now.state.rooms }
+        ensures sound { IsPlacementSound self.now.state }
     {
         let rooms = self.rooms.len();
         if rooms == 0 { 1 } else { rooms as usize }
@@ -284,14 +290,21 @@ impl Placement {
     /// One step of the placement at the moment `now`, in milliseconds since 1970: in the room of the member's space, a
     /// Tick in all rooms. A refused event changes nothing; only a Register may run out of memory, and then changes
     /// nothing. What the step has to record is lent by `entry`: nothing exactly if next version, greatest boots and
-    /// members' hosts of each room are as before, and no room was made.
+    /// members' hosts of each room are as before, and no room was made. Members stay in the rooms of their spaces; if no
+    /// host has more than 32 types, and that of a Register neither, none has afterwards. So the table that was fixed last
+    /// in a room can be built.
     pub fn step(&mut self, event: PlaceEvent, now: u64) -> PlaceReply
         ensures gives { GivesStep event now result self.old.state self.new.state }
         ensures recent { LeavesRecord event now result self.old.state self.new.recent }
         ensures durable { (self.new.recent ≡ []) ↔ SameRooms self.old.state.rooms self.new.state.rooms }
+        ensures sound { IsPlacementSound self.new.state }
+        ensures spaces { AreOfSpaces self.old.state.rooms → AreOfSpaces self.new.state.rooms }
+        ensures types { BringsFewTypes event → AllHaveFewTypes self.old.state.rooms → AllHaveFewTypes self.new.state.rooms }
     {
-        let _rooms = self.rooms();
-        self.change(event, now)
+        let _before = self.rooms();
+        let reply = self.change(event, now);
+        let _after = self.rooms();
+        reply
     }
 
     /// The restart of each room at the moment `now`; takes no memory. Next versions, greatest boots and members are
@@ -299,14 +312,20 @@ impl Placement {
     pub fn restarted(&mut self, now: u64)
         ensures state { self.new.state ≡ placement_restarted self.old.state now }
         ensures recent { self.new.recent ≡ placement_restart_record self.old.state now }
+        ensures sound { IsPlacementSound self.new.state }
+        ensures spaces { AreOfSpaces self.old.state.rooms → AreOfSpaces self.new.state.rooms }
+        ensures types { AllHaveFewTypes self.old.state.rooms → AllHaveFewTypes self.new.state.rooms }
     {
         self.rooms.restart(now);
+        let _after = self.rooms();
     }
 
     /// An equal placement, on which a step can be tried.
     pub fn copy(&self, alloc: Global) -> Result<Placement, OutOfMemory>
-        ensures { IfOk result (λ copy. copy ≡ self.now) }
+        ensures same { IfOk result (λ copy. copy ≡ self.now) }
+        ensures sound { IfOk result (λ copy. IsPlacementSound copy.state) }
     {
+        let _rooms = self.rooms();
         let rooms = self.rooms.copy(alloc)?;
         Ok(Placement { alloc, rooms })
     }

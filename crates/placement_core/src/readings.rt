@@ -1,5 +1,7 @@
 // Rooms that are read from records, each found by binary search.
 ghost use Rattle.std.specs.Prelude.{◌≡◌, length, map, IfOk};
+ghost use Rattle.std.specs.List.{AllByRecursion};
+ghost use Rattle.placement_core.specs.Sound.{IsKeptSound};
 ghost use Rattle.std.specs.List.Sorted.{IsSearchInRange};
 ghost use Rattle.member_roster.specs.Places.{Ascends, place_by};
 ghost use Rattle.placement_core.specs.Entries.{has_entry};
@@ -45,7 +47,8 @@ pub(crate) fn restart_read(
     rooms: Vec<ReadRoom>,
     now: u64,
 ) -> Result<Vec<KeptRoom>, OutOfMemory>
-    ensures { IfOk result (λ v. v.items ≡ map (kept_of now) rooms.items) }
+    ensures rooms { IfOk result (λ v. v.items ≡ map (kept_of now) rooms.items) }
+    ensures sound { IfOk result (λ v. AllByRecursion IsKeptSound v.items) }
 {
     let mut items = Vec::with_capacity(alloc, rooms.len())?;
     for read_room in rooms {

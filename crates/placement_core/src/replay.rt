@@ -8,6 +8,7 @@ ghost use Rattle.placement_core.specs.Placement.{new_placement, placement_restar
 ghost use Rattle.placement_core.specs.Readings.{entries_of, entry_of, IsBadAt, IsBadIn};
 ghost use Rattle.placement_core.specs.Restores.{after_entries, after_entry, placement_restored, restored_record, rooms_after};
 ghost use Rattle.placement_core.specs.Runs.{run_records, run_state};
+ghost use Rattle.placement_core.specs.Sound.{IsPlacementSound};
 
 use crate::entry::{PlacementRecord, SpaceRecord};
 use crate::placement::Placement;
@@ -95,10 +96,13 @@ impl PlacementReplay {
     pub fn restarted(self, now: u64) -> Result<Placement, OutOfMemory>
         ensures state { IfOk result (λ p. p.state ≡ placement_restarted (record { rooms = self }) now) }
         ensures recent { IfOk result (λ p. p.recent ≡ placement_restart_record (record { rooms = self }) now) }
+        ensures sound { IfOk result (λ p. IsPlacementSound p.state) }
     {
         let PlacementReplay { alloc, rooms } = self;
         let rooms = restart_read(alloc, rooms, now)?;
-        Ok(Placement::from_restarted(alloc, rooms))
+        let placement = Placement::from_restarted(alloc, rooms);
+        let _rooms = placement.rooms();
+        Ok(placement)
     }
 }
 
@@ -127,6 +131,7 @@ impl Placement {
     ) -> Result<Placement, RestoreError>
         ensures restored { IfOk result (λ p. placement_restored (map entries_of records.now) now ≡ Ok p.state) }
         ensures recent { IfOk result (λ p. restored_record (map entries_of records.now) now ≡ p.recent) }
+        ensures sound { IfOk result (λ p. IsPlacementSound p.state) }
         ensures bad { IfErr result (λ e. IsBadAt e (placement_restored (map entries_of records.now) now)) }
         ensures run { IfOk result (λ p. (run : List RunEvent) → map entries_of records.now ≡ run_records new_placement run → p.state ≡ placement_restarted (run_state new_placement run) now) }
         ensures run_is_good { IfErr result (λ e. (run : List RunEvent) → map entries_of records.now ≡ run_records new_placement run → e ≡ out_of_memory) }

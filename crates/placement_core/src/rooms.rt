@@ -1,6 +1,6 @@
 // Rooms in byte order of space, each found by binary search, and which of them the last step changed.
 ghost use Rattle.std.specs.Prelude.{◌≡◌, ◌<◌, ◌≤◌, [], None, Some, IfOk, OnOk, OnErr, length, map, option_map};
-ghost use Rattle.std.specs.List.{slice_get};
+ghost use Rattle.std.specs.List.{AllByRecursion, slice_get};
 ghost use Rattle.std.specs.Option.{option_copied};
 ghost use Rattle.std.specs.List.Sorted.{IsSearchInRange};
 ghost use Rattle.member_roster.specs.Places.{place_by, Ascends};
@@ -8,6 +8,8 @@ ghost use Rattle.placement_core.specs.Entries.{each_record, noted, restarted_rec
 ghost use Rattle.placement_core.specs.Kept.{kept, kept_entries, kept_space, room_state};
 ghost use Rattle.placement_core.specs.Placement.{SpaceRoom, room_at, put_room, each_room, ticked, restarted, late_in};
 ghost use Rattle.placement_core.specs.Runs.{space_of};
+ghost use Rattle.placement_core.specs.Sound.{HasSoundRoom, IsKeptSound};
+ghost use Rattle.round_core.specs.Sound.{IsRoomSound};
 ghost use Rattle.placement_core.specs.Views.{LeavesEntry, Steps, lent_entry};
 
 use crate::entry::RoomEntry;
@@ -28,13 +30,15 @@ pub(crate) struct Rooms {
 impl Model for Rooms {
     ghost use Rattle.std.specs.Prelude.{length, map, ◌≤◌};
     ghost use Rattle.member_roster.specs.Places.{Ascends};
+    ghost use Rattle.std.specs.List.{AllByRecursion};
     ghost use Rattle.placement_core.specs.Kept.{KeptRooms, entries_between, kept, kept_space};
+    ghost use Rattle.placement_core.specs.Sound.{IsKeptSound};
 
     ghost Value = { KeptRooms };
 
     ghost view = { λ a. record { rooms = map kept a.rooms.items; recent = entries_between a.from a.upto a.rooms.items } };
 
-    ghost invariant = { λ a. Ascends kept_space a.rooms.items × (length a.rooms.items ≤ 64) × (a.from ≤ a.upto) × (a.upto ≤ length a.rooms.items) };
+    ghost invariant = { λ a. Ascends kept_space a.rooms.items × (length a.rooms.items ≤ 64) × (a.from ≤ a.upto) × (a.upto ≤ length a.rooms.items) × AllByRecursion IsKeptSound a.rooms.items };
 }
 
 /// The index of this space's room, or the index at which it would be inserted.
@@ -62,6 +66,7 @@ impl Rooms {
     pub(crate) fn from_restarted(rooms: Vec<KeptRoom>) -> Rooms
         requires order { Ascends kept_space rooms.items }
         requires few { length rooms.items ≤ 64 }
+        requires sound { AllByRecursion IsKeptSound rooms.items }
         ensures rooms { result.rooms ≡ map kept rooms.items }
         ensures recent { result.recent ≡ kept_entries rooms.items }
     {
@@ -78,6 +83,7 @@ impl Rooms {
         ensures count { result ≡ length self.now.rooms }
         ensures within { result ≤ 64 }
         ensures order { Ascends space_of self.now.rooms }
+        ensures sound { AllByRecursion HasSoundRoom self.now.rooms }
     {
         self.rooms.len() as u32
     }
@@ -148,6 +154,7 @@ impl Rooms {
     pub(crate) fn insert(&mut self, space: Space, room: Room) -> Result<(), OutOfMemory>
         requires free { room_at self.old.rooms space ≡ None }
         requires few { length self.old.rooms < 64 }
+        requires sound { IsRoomSound room.state }
         ensures ok { OnOk result (self.new.rooms ≡ put_room self.old.rooms space room.state) }
         ensures recent { OnOk result (self.new.recent ≡ noted space room.recent) }
         ensures err { OnErr result (self.new ≡ self.old) }

@@ -94,7 +94,7 @@ none_of (suc n) e = let t = lt-ltb 0 (suc n) (omega arith) in absurd (cc)
 of_none : (n : ℕ) → n ≡ 0 → nat_lt 0 n ≡ false
 of_none n e = rw e refl
 
-put_longer : (js : List Joined) (x : Joined) → length (put_joined js x) ≡ suc (length js)
+pub put_longer : (js : List Joined) (x : Joined) → length (put_joined js x) ≡ suc (length js)
 put_longer [] x = omega arith
 put_longer (j ∷ js) x = go (is_before (joined_node x) (joined_node j)) (put_longer js x)
   where

@@ -1,10 +1,15 @@
+mod Books
 pub mod Durable
 mod Giving
 pub mod Hosts
 pub mod Memory
 pub mod Openings
+pub mod Parts
 pub mod Reached
 pub mod Replays
 mod Rows
 pub mod Settling
+pub mod Sound
+pub mod Tables
+pub mod Types
 pub mod Versions

@@ -32,7 +32,7 @@ advance_rises s = go (any_pending s.members)
     go true = rises_all s s refl
     go false = next_rises s s.phase
 
-below_limit : (a b : Bool) (n : ℕ) → a && (b && nat_lt n (2 ^ 62)) ≡ true → n < 2 ^ 62
+pub below_limit : (a b : Bool) (n : ℕ) → a && (b && nat_lt n (2 ^ 62)) ≡ true → n < 2 ^ 62
 below_limit a b n e =
     let p = and_parts a (b && nat_lt n (2 ^ 62)) e in
     let q = and_parts b (nat_lt n (2 ^ 62)) p.1 in

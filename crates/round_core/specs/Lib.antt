@@ -5,3 +5,4 @@ pub mod Views
 pub mod Runs
 pub mod Reached
 pub mod Settled
+pub mod Sound

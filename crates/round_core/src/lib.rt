@@ -15,7 +15,7 @@ mod room;
 mod rounds;
 
 pub use event::{PlaceEvent, PlaceReply};
-pub use law::{memory_law, refused_law, restore_law, settled_law};
+pub use law::{memory_law, refused_law, restore_law, room_sound_law, settled_law, table_law};
 pub use member_roster::{Known, Mark, MemberList};
 pub use phase::RoundPhase;
 pub use place_table::AckStage;

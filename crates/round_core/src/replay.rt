@@ -2,6 +2,7 @@
 ghost use Rattle.std.specs.Prelude.{◌≡◌, ◌≤◌, Some, None, IfOk, if◌then◌else◌};
 ghost use Rattle.round_core.specs.Room.{new_room};
 ghost use Rattle.round_core.specs.Records.{record_of, after_record};
+ghost use Rattle.round_core.specs.Sound.{IsRoomSound};
 
 use crate::record::RoomRecord;
 use crate::restore::apply_record;
@@ -23,12 +24,13 @@ pub struct RoomReplay {
 impl Model for RoomReplay {
     ghost use Rattle.std.specs.Prelude.{◌≤◌};
     ghost use Rattle.round_core.specs.Room.{RoomState};
+    ghost use Rattle.round_core.specs.Sound.{IsRoomSound};
 
     ghost Value = { RoomState };
 
     ghost view = { λ a. a.rounds.state };
 
-    ghost invariant = { λ a. a.rounds.capacity ≤ a.removed.capacity };
+    ghost invariant = { λ a. (a.rounds.capacity ≤ a.removed.capacity) × IsRoomSound a.rounds.state };
 }
 
 impl RoomReplay {
@@ -54,6 +56,7 @@ impl RoomReplay {
     /// The members, boots and version, and a list with room for all members.
     pub(crate) fn into_parts(self) -> (Global, Rounds, MemberList)
         ensures state { result.1.state ≡ self }
+        ensures sound { IsRoomSound result.1.state }
         ensures capacity { result.1.capacity ≤ result.2.capacity }
     {
         (self.alloc, self.rounds, self.removed)

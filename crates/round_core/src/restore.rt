@@ -1,6 +1,7 @@
 // The members, boots and version that are read from the records of a run.
 ghost use Rattle.std.specs.Prelude.{◌≡◌, ◌≤◌, Some, None, map, IfOk, IfErr, OnOk, if◌then◌else◌};
 ghost use Rattle.round_core.specs.Room.{RoomState};
+ghost use Rattle.round_core.specs.Sound.{IsRoomSound};
 ghost use Rattle.round_core.specs.Records.{record_of, after_join, after_record, after_records, IsBadAt};
 ghost use Rattle.std.specs.declared.result.Result.TheVariants.{Ok};
 
@@ -33,9 +34,11 @@ fn join_again(
     removed: &mut MemberList,
     host: &HostInfo,
 ) -> Result<bool, OutOfMemory>
-    requires { rounds.old.capacity ≤ removed.old.capacity }
+    requires capacity { rounds.old.capacity ≤ removed.old.capacity }
+    requires sound { IsRoomSound rounds.old.state }
     ensures joined { IfOk result (λ b. after_join rounds.old.state (Some host.now) ≡ (if b then Some rounds.new.state else None)) }
     ensures capacity { rounds.new.capacity ≤ removed.new.capacity }
+    ensures sound { IsRoomSound rounds.new.state }
 {
     if !rounds.may_join(host) {
         return Ok(false);
@@ -52,9 +55,11 @@ fn join_recorded(
     removed: &mut MemberList,
     joined: &Option<HostInfo>,
 ) -> Result<bool, OutOfMemory>
-    requires { rounds.old.capacity ≤ removed.old.capacity }
+    requires capacity { rounds.old.capacity ≤ removed.old.capacity }
+    requires sound { IsRoomSound rounds.old.state }
     ensures joined { IfOk result (λ b. after_join rounds.old.state joined.now ≡ (if b then Some rounds.new.state else None)) }
     ensures capacity { rounds.new.capacity ≤ removed.new.capacity }
+    ensures sound { IsRoomSound rounds.new.state }
 {
     match joined {
         None => Ok(true),
@@ -69,9 +74,11 @@ pub(crate) fn apply_record(
     removed: &mut MemberList,
     record_: &RoomRecord,
 ) -> Result<bool, OutOfMemory>
-    requires { rounds.old.capacity ≤ removed.old.capacity }
+    requires capacity { rounds.old.capacity ≤ removed.old.capacity }
+    requires sound { IsRoomSound rounds.old.state }
     ensures after { IfOk result (λ b. after_record rounds.old.state (record_of record_.now) ≡ (if b then Some rounds.new.state else None)) }
     ensures capacity { rounds.new.capacity ≤ removed.new.capacity }
+    ensures sound { IsRoomSound rounds.new.state }
 {
     let next = record_.next_version;
     if next < rounds.next_version() || next > VERSION_LIMIT {
@@ -94,10 +101,12 @@ pub(crate) fn apply_records(
     removed: &mut MemberList,
     records: &[RoomRecord],
 ) -> Result<(), RestoreError>
-    requires { rounds.old.capacity ≤ removed.old.capacity }
+    requires capacity { rounds.old.capacity ≤ removed.old.capacity }
+    requires sound { IsRoomSound rounds.old.state }
     ensures after { OnOk result (after_records 0 rounds.old.state (map record_of records.now) ≡ Ok rounds.new.state) }
     ensures bad { IfErr result (λ e. IsBadAt e (after_records 0 rounds.old.state (map record_of records.now))) }
     ensures capacity { rounds.new.capacity ≤ removed.new.capacity }
+    ensures sound { IsRoomSound rounds.new.state }
 {
     for i in 0..records.len() {
         match apply_record(alloc, rounds, removed, &records[i]) {

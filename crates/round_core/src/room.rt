@@ -8,6 +8,7 @@ ghost use Rattle.round_core.specs.Room.{room_restarted, new_room, last_version, 
 ghost use Rattle.member_roster.specs.Places.{Ascends, host_node};
 ghost use Rattle.round_core.specs.Records.{record_of, restart_record, room_restored, restored_record, IsBadAt};
 ghost use Rattle.round_core.specs.Runs.{RunEvent, ForgetsNothing, run_state, run_records};
+ghost use Rattle.round_core.specs.Sound.{BringsFewTypes, HaveFewTypes, IsRoomSound};
 ghost use Rattle.round_core.specs.declared.restore.RestoreError.TheVariants.{OutOfMemory as out_of_memory};
 ghost use Rattle.round_core.specs.Views.{with_state, Gives, GivesInMemory, GivesStep};
 
@@ -36,13 +37,14 @@ impl Model for Room {
     ghost use Rattle.std.specs.Prelude.{◌≤◌, if◌then◌else◌, Some, None};
     ghost use Rattle.round_core.specs.Openings.{IsNewOrUsed};
     ghost use Rattle.round_core.specs.Records.{record_of};
+    ghost use Rattle.round_core.specs.Sound.{IsRoomSound};
     ghost use Rattle.round_core.specs.Views.{RoomView};
 
     ghost Value = { RoomView };
 
     ghost view = { λ a. record { state = a.rounds.state; recent = if a.recorded then Some (record_of a.record) else None } };
 
-    ghost invariant = { λ a. (a.rounds.capacity ≤ a.record.removed.capacity) × IsNewOrUsed a.rounds.state };
+    ghost invariant = { λ a. (a.rounds.capacity ≤ a.record.removed.capacity) × IsNewOrUsed a.rounds.state × IsRoomSound a.rounds.state };
 }
 
 /// An empty record.
@@ -117,7 +119,8 @@ fn join(
 impl Room {
     /// The opening state: the next version is 1, there are no members and no round. It takes no memory.
     pub fn new(alloc: Global) -> Room
-        ensures { result ≡ record { state = new_room; recent = None } }
+        ensures opening { result ≡ record { state = new_room; recent = None } }
+        ensures sound { IsRoomSound result.state }
     {
         Room {
             alloc,
@@ -132,6 +135,7 @@ impl Room {
     pub fn restore(alloc: Global, records: &[RoomRecord], now: u64) -> Result<Room, RestoreError>
         ensures restored { IfOk result (λ room. room_restored (map record_of records.now) now ≡ Ok room.state) }
         ensures recent { IfOk result (λ room. restored_record (map record_of records.now) now ≡ room.recent) }
+        ensures sound { IfOk result (λ room. IsRoomSound room.state) }
         ensures bad { IfErr result (λ e. IsBadAt e (room_restored (map record_of records.now) now)) }
         ensures run { IfOk result (λ room. (run : List RunEvent) → map record_of records.now ≡ run_records new_room run → room.state ≡ room_restarted (run_state new_room run) now) }
         ensures run_is_good { IfErr result (λ e. (run : List RunEvent) → map record_of records.now ≡ run_records new_room run → e ≡ out_of_memory) }
@@ -157,6 +161,7 @@ impl Room {
     pub fn from_replay(replay: RoomReplay, now: u64) -> Room
         ensures state { result.state ≡ room_restarted replay now }
         ensures recent { result.recent ≡ restart_record replay now }
+        ensures sound { IsRoomSound result.state }
     {
         let (alloc, mut rounds, removed) = replay.into_parts();
         let mut record_ = RoomRecord {
@@ -191,10 +196,11 @@ impl Room {
         self.rounds.members()
     }
 
-    /// How many members there are, at most 256.
+    /// How many members there are, at most 256. The clause `sound` holds of every room.
     pub fn len(&self) -> u32
         ensures count { result ≡ length self.now.state.members }
         ensures within { result ≤ 256 }
+        ensures sound { IsRoomSound self.now.state }
     {
         self.rounds.len()
     }
@@ -229,7 +235,8 @@ impl Room {
 
     /// An equal room, on which a step can be tried.
     pub fn copy(&self, alloc: Global) -> Result<Room, OutOfMemory>
-        ensures { IfOk result (λ copy. copy ≡ self.now) }
+        ensures same { IfOk result (λ copy. copy ≡ self.now) }
+        ensures sound { IfOk result (λ copy. IsRoomSound copy.state) }
     {
         let rounds = self.rounds.copy(alloc)?;
         let joined = copy_option(alloc, &self.record.joined)?;
@@ -349,12 +356,16 @@ impl Room {
 
     /// One step of the room at the moment `now`, in milliseconds since 1970. A refused event changes nothing;
     /// only a Register may run out of memory. There is no record exactly if the next version, the greatest boots
-    /// and the members' hosts are as before.
+    /// and the members' hosts are as before. If no host has more than 32 types, and that of a Register neither, none
+    /// has afterwards, so the table that was fixed last can be built if its hosts are of one space.
     pub fn step(&mut self, event: PlaceEvent, now: u64) -> PlaceReply
         ensures gives { GivesStep event now result self.old self.new }
+        ensures sound { IsRoomSound self.new.state }
+        ensures types { BringsFewTypes event → HaveFewTypes self.old.state → HaveFewTypes self.new.state }
         ensures durable { self.new.recent ≡ None ↔ SameDurableState self.old.state self.new.state }
         ensures remembers { ForgetsNothing self.old.state self.new.state }
     {
+        let _members = self.len();
         match event {
             PlaceEvent::Register { host } => self.register(host, now),
             PlaceEvent::Beat { member } => self.beat(member, now),
@@ -376,6 +387,8 @@ impl Room {
     pub fn restarted(&mut self, now: u64)
         ensures state { self.new.state ≡ room_restarted self.old.state now }
         ensures recent { self.new.recent ≡ restart_record self.old.state now }
+        ensures sound { IsRoomSound self.new.state }
+        ensures types { HaveFewTypes self.old.state → HaveFewTypes self.new.state }
         ensures remembers { ForgetsNothing self.old.state self.new.state }
     {
         clear_record(&mut self.record);

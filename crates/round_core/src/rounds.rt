@@ -1,7 +1,7 @@
 // The members, their greatest boots, and the rounds that spread each table.
 ghost use Rattle.std.specs.Prelude.{◌≡◌, ◌==◌, ◌&&◌, true, ◌+◌, ◌<◌, ◌≤◌, ◌^◌, ◌++◌, length, IfOk, OnOk, OnErr, Some, None, false, max, option_map, IsTrue, IsFalse};
 ghost use Rattle.std.specs.List.{slice_get};
-ghost use Rattle.member_roster.specs.Members.{is_here, is_pending, with_node, without_node, heard_at, hosts_of, boot_of, of_node, greatest_boot, Joined, is_late, late_of, removes_all};
+ghost use Rattle.member_roster.specs.Members.{is_here, is_pending, with_node, without_node, heard_at, hosts_of, boot_of, of_node, greatest_boot, Joined, is_late, late_of, removed_until, removes_all};
 ghost use Rattle.round_core.specs.Room.{room_restarted, new_room, advance_round, start_round, settle_round, advance_fully, may_start, is_in_stage, is_full, with_joined, drop_late, reply_for, last_version, ack_change};
 ghost use Rattle.member_roster.specs.Places.{Ascends, host_node};
 ghost use Rattle.round_core.specs.Records.{may_join};
@@ -271,11 +271,12 @@ impl Rounds {
             && !self.is_full(node)
     }
 
-    /// Removes members in their order, and says whether each was one. This makes no new round due.
+    /// Removes members in their order up to the first that isn't one, and says whether each was one. This makes no new
+    /// round due.
     pub(crate) fn remove_all(&mut self, members: &[Member]) -> bool
         ensures all { IsTrue result → removes_all self.old.state.members members.now ≡ Some self.new.state.members }
         ensures stranger { IsFalse result → removes_all self.old.state.members members.now ≡ None }
-        ensures rest { self.new ≡ with_state self.old (record self.old.state { members = self.new.state.members }) }
+        ensures rest { self.new ≡ with_state self.old (record self.old.state { members = removed_until self.old.state.members members.now }) }
     {
         self.roster.remove_all(members)
     }

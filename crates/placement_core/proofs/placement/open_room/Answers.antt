@@ -21,7 +21,7 @@ returns-in-Ok-clause-gives c =
     let less : length rs < 64 = omega arith in
     let few : nat_le most_spaces (length rs) ≡ false = not_at_most 64 (length rs) less in
     let booted : (c.args.host.member.boot == 0) ≡ false = not_zero c.args.host.member.boot c.if-member-eq0.false in
-    let opening : c.new-room.result.state ≡ new_room = ap (λ (v : RoomView). v.state) c.new-room.ensures in
+    let opening : c.new-room.result.state ≡ new_room = ap (λ (v : RoomView). v.state) c.new-room.ensures.opening in
     let not : c.match-matches.matches ≡ false = c.if-matches.false in
     let off : c.step-reply.result ≡ replies.OutOfMemory → ⊥ = elim c.match-matches.branch [ in-OutOfMemory w ↦ let yes : c.match-matches.matches ≡ true = w.matches-is in λ e. absurd (cc) | in_default w ↦ w.in_default.not-OutOfMemory ] in
     opened_gives c.args.host c.args.now c.step-reply.result rs c.insert.new.self.rooms c.new-room.result c.step-reply.new.self c.requires.kept c.requires.free few booted opening off c.step-reply.ensures.gives c.in-Ok.ensures.ok
@@ -33,7 +33,7 @@ returns-in-Ok-clause-recent c =
     let less : length rs < 64 = omega arith in
     let few : nat_le most_spaces (length rs) ≡ false = not_at_most 64 (length rs) less in
     let booted : (c.args.host.member.boot == 0) ≡ false = not_zero c.args.host.member.boot c.if-member-eq0.false in
-    let opening : c.new-room.result.state ≡ new_room = ap (λ (v : RoomView). v.state) c.new-room.ensures in
+    let opening : c.new-room.result.state ≡ new_room = ap (λ (v : RoomView). v.state) c.new-room.ensures.opening in
     let space = c.args.host.member.space in
     let event : PlaceEvent = events.Register c.args.host in
     let h = leaves_any event c.args.now c.step-reply.result c.new-room.result c.step-reply.new.self space c.step-reply.ensures.gives in

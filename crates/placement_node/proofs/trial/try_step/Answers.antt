@@ -16,7 +16,7 @@ reply_of-requires-clause-named c = subst space_name.Fits (sym c.event_space-spac
 pub reply_of-requires-clause-kept : goal.reply_of-requires-clause-kept
 reply_of-requires-clause-kept c =
     let s = c.args.placement.now.state in
-    let gives = subst (λ (x : PlacementState). GivesStep c.args.event c.args.now c.step.result x c.step.new.self.state) (ap (λ (p : PlacementView). p.state) c.in-Ok.ensures) c.step.ensures.gives in
+    let gives = subst (λ (x : PlacementState). GivesStep c.args.event c.args.now c.step.result x c.step.new.self.state) (ap (λ (p : PlacementView). p.state) c.in-Ok.ensures.same) c.step.ensures.gives in
     let given = gives_done c.args.event c.args.now c.step.result s c.step.new.self.state c.in_ok-reply.ensures.1 gives in
     subst StateFits (sym given.1) (state_fits s c.args.event c.args.now c.requires.sent c.requires.kept)
 
@@ -24,7 +24,7 @@ pub reply_of-requires-clause-numbers : goal.reply_of-requires-clause-numbers
 reply_of-requires-clause-numbers c =
     let s = c.args.placement.now.state in
     let few : length s.rooms ≤ 64 = omega (arith, c.rooms-rooms.ensures.count, c.rooms-rooms.ensures.within) in
-    let gives = subst (λ (x : PlacementState). GivesStep c.args.event c.args.now c.step.result x c.step.new.self.state) (ap (λ (p : PlacementView). p.state) c.in-Ok.ensures) c.step.ensures.gives in
+    let gives = subst (λ (x : PlacementState). GivesStep c.args.event c.args.now c.step.result x c.step.new.self.state) (ap (λ (p : PlacementView). p.state) c.in-Ok.ensures.same) c.step.ensures.gives in
     let given = gives_done c.args.event c.args.now c.step.result s c.step.new.self.state c.in_ok-reply.ensures.1 gives in
     subst NumbersFit (sym (c.in_ok-reply.ensures.0 ∙ given.0)) (numbers_fit s c.args.event c.args.now c.requires.sent c.requires.kept few)
 
@@ -33,7 +33,7 @@ returns-in-Ok-reply_of c =
     let s = c.args.placement.now.state in
     let trial = c.step.new.self in
     let few : length s.rooms ≤ 64 = omega (arith, c.rooms-rooms.ensures.count, c.rooms-rooms.ensures.within) in
-    let same = ap (λ (p : PlacementView). p.state) c.in-Ok.ensures in
+    let same = ap (λ (p : PlacementView). p.state) c.in-Ok.ensures.same in
     let gives = subst (λ (x : PlacementState). GivesStep c.args.event c.args.now c.step.result x trial.state) same c.step.ensures.gives in
     let leaves = subst (λ (x : PlacementState). LeavesRecord c.args.event c.args.now c.step.result x trial.recent) same c.step.ensures.recent in
     let is = c.in-Ok-reply_of.ensures.is ∙ ap (λ (x : List ℕ). reply_of trial.state x c.in_ok-reply.reply) c.event_space-space.ensures ∙ ap (λ (r : PlaceReply). reply_of trial.state (event_space c.args.event) r) c.in_ok-reply.ensures.0 in

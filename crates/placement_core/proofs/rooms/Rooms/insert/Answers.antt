@@ -9,6 +9,8 @@ use Rattle.placement_core.specs.Kept.{kept, kept_space}
 use Rattle.placement_core.specs.Placement.{room_at}
 use Rattle.placement_core.proofs.Spaces.{room_at-found, put_room-at}
 use Rattle.placement_core.proofs.Searched.{length_mapped}
+use Rattle.placement_core.specs.Sound.{IsKeptSound}
+use Rattle.placement_core.proofs.Sound.{each_insert}
 use Rattle.placement_core.proofs.rooms.Rooms.insert.Goals as goal
 
 pub unreachable-requires : goal.unreachable-requires
@@ -29,7 +31,7 @@ invariant_of-self-in-Err c =
     let count = length_mapped kept ks in
     let within = err_within kept_space c.args.space ks c.in-Err.at p in
     let long = length-insert ks c.in-Err.at new within in
-    (rw items (ascends_insert kept_space new ks c.in-Err.at p c.self.invariant.0), rw items (omega arith), omega arith, rw items (omega arith))
+    (rw items (ascends_insert kept_space new ks c.in-Err.at p c.self.invariant.0), rw items (omega arith), omega arith, rw items (omega arith), rw items (each_insert IsKeptSound ks c.in-Err.at new c.requires.sound c.self.invariant.4))
 
 pub returns-clause-ok : goal.returns-clause-ok
 returns-clause-ok c =

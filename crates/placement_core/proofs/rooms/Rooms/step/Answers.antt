@@ -8,6 +8,8 @@ use Rattle.placement_core.proofs.Spaces.{room_at-found, room_at-missing, put_roo
 use Rattle.placement_core.proofs.Searched.{ascends_set}
 use Rattle.placement_core.proofs.Recorded.{stepped_leaves}
 use Rattle.placement_core.proofs.Steps.{steps_any}
+use Rattle.placement_core.specs.Sound.{IsKeptSound}
+use Rattle.placement_core.proofs.Sound.{each_set}
 use Rattle.placement_core.proofs.rooms.Rooms.step.Goals.{in-Register-1, in-Beat-1}
 use Rattle.placement_core.proofs.rooms.Rooms.step.Goals as goal
 
@@ -17,7 +19,7 @@ invariant_of-self c =
     let old = c.index_mut-kept_room.result.now in
     let few = c.self.invariant.1 in
     let within = ok_within kept_space c.args.space.now c.self.inside.rooms.items c.in-Ok.at p in
-    (ascends_set kept_space c.self.inside.rooms.items c.in-Ok.at old (record { space = old.space; room = c.step-reply.new.self }) (ap kept_space c.index_mut-kept_room.ensures.value) c.self.invariant.0, rw length-set few, omega arith, rw length-set (omega arith))
+    (ascends_set kept_space c.self.inside.rooms.items c.in-Ok.at old (record { space = old.space; room = c.step-reply.new.self }) (ap kept_space c.index_mut-kept_room.ensures.value) c.self.invariant.0, rw length-set few, omega arith, rw length-set (omega arith), each_set IsKeptSound c.self.inside.rooms.items c.in-Ok.at (record { space = old.space; room = c.step-reply.new.self }) c.step-reply.ensures.sound c.self.invariant.4)
 
 pub returns-in-Ok : goal.returns-in-Ok
 returns-in-Ok c =

@@ -3,10 +3,12 @@ use Rattle.round_core.specs.declared.record.RoomRecord as declared
 use Rattle.round_core.specs.declared.event.PlaceEvent.TheVariants as events
 use Rattle.member_roster.specs.Members.{is_here, with_node}
 use Rattle.round_core.specs.Openings.{IsNewOrUsed}
+use Rattle.round_core.specs.Sound.{IsRoomSound}
 use Rattle.round_core.specs.Room.{RoomState, Tells, reply_for, ack_change, settle_round}
 use Rattle.round_core.specs.Views.{RoundState, RoomView}
 use Rattle.round_core.proofs.Giving.{settled_gives}
 use Rattle.round_core.proofs.Openings.{told_kept}
+use Rattle.round_core.proofs.Sound.{acked_sound, settle_sound}
 use Rattle.round_core.proofs.room.Room.ack.Goals as goal
 
 pub returns : goal.returns
@@ -30,4 +32,5 @@ invariant_of-self-2 c =
     let h : c.ack.result ≡ true = search rules in
     let e = ap (λ (r : RoundState). r.state) (c.ack.ensures.acked h) in
     let kept = told_kept c.self.inside.rounds.state c.ack.new.self.state c.args.member c.self.invariant.1 (sym c.ack.ensures.here ∙ h) (ap (λ (s : RoomState). s.next_version) e) in
-    (search rules, subst (λ (r : RoundState). IsNewOrUsed r.state) (sym c.go_on-self-inside.ensures.rounds) kept)
+    let sound = subst IsRoomSound (sym e) (acked_sound c.self.inside.rounds.state c.args.member.node c.args.stage c.args.version c.args.now c.self.invariant.2) in
+    (search rules, subst (λ (r : RoundState). IsNewOrUsed r.state) (sym c.go_on-self-inside.ensures.rounds) kept, subst (λ (r : RoundState). IsRoomSound r.state) (sym c.go_on-self-inside.ensures.rounds) (settle_sound c.ack.new.self.state sound))

@@ -3,10 +3,12 @@ use Rattle.round_core.specs.declared.record.RoomRecord as declared
 use Rattle.round_core.specs.declared.event.PlaceEvent.TheVariants as events
 use Rattle.member_roster.specs.Members.{is_here, with_node, heard_at}
 use Rattle.round_core.specs.Openings.{IsNewOrUsed}
+use Rattle.round_core.specs.Sound.{IsRoomSound}
 use Rattle.round_core.specs.Room.{RoomState, Tells, reply_for, settle_round}
 use Rattle.round_core.specs.Views.{RoundState, RoomView}
 use Rattle.round_core.proofs.Giving.{settled_gives}
 use Rattle.round_core.proofs.Openings.{told_kept}
+use Rattle.round_core.proofs.Sound.{heard_sound, settle_sound}
 use Rattle.round_core.proofs.room.Room.beat.Goals as goal
 
 pub returns : goal.returns
@@ -30,4 +32,5 @@ invariant_of-self-2 c =
     let h : c.hear.result ≡ true = search rules in
     let e = ap (λ (r : RoundState). r.state) (c.hear.ensures.heard h) in
     let kept = told_kept c.self.inside.rounds.state c.hear.new.self.state c.args.member c.self.invariant.1 (sym c.hear.ensures.here ∙ h) (ap (λ (s : RoomState). s.next_version) e) in
-    (search rules, subst (λ (r : RoundState). IsNewOrUsed r.state) (sym c.go_on-self-inside.ensures.rounds) kept)
+    let sound = subst IsRoomSound (sym e) (heard_sound c.self.inside.rounds.state c.args.member.node c.args.now c.self.invariant.2) in
+    (search rules, subst (λ (r : RoundState). IsNewOrUsed r.state) (sym c.go_on-self-inside.ensures.rounds) kept, subst (λ (r : RoundState). IsRoomSound r.state) (sym c.go_on-self-inside.ensures.rounds) (settle_sound c.hear.new.self.state sound))

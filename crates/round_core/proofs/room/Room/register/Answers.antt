@@ -4,10 +4,12 @@ use Rattle.round_core.specs.declared.record.RoomRecord as declared
 use Rattle.round_core.specs.declared.event.PlaceEvent.TheVariants as events
 use Rattle.member_roster.specs.Members.{is_here, of_node, greatest_boot, with_node, heard_at}
 use Rattle.round_core.specs.Openings.{IsNewOrUsed}
+use Rattle.round_core.specs.Sound.{IsRoomSound}
 use Rattle.round_core.specs.Room.{RoomState, Tells, reply_for, settle_round, is_full, with_joined}
 use Rattle.round_core.specs.Views.{RoundState, RoomView}
 use Rattle.round_core.proofs.Giving.{settled_gives, told_memory, had_memory, not_at_most, no_boot}
 use Rattle.round_core.proofs.Openings.{told_kept, joined_kept}
+use Rattle.round_core.proofs.Sound.{heard_sound, joined_sound, settle_sound}
 use Rattle.round_core.proofs.room.Room.register.Goals as goal
 
 pub returns-then-hear : goal.returns-then-hear
@@ -54,11 +56,17 @@ pub invariant_of-self : goal.invariant_of-self
 invariant_of-self c =
     let e = ap (λ (r : RoundState). r.state) (c.hear.ensures.heard c.if-hear.true) in
     let kept = told_kept c.self.inside.rounds.state c.hear.new.self.state c.args.host.member c.self.invariant.1 (sym c.hear.ensures.here ∙ c.if-hear.true) (ap (λ (s : RoomState). s.next_version) e) in
-    (search rules, subst (λ (r : RoundState). IsNewOrUsed r.state) (sym c.go_on-self-inside.ensures.rounds) kept)
+    let sound = subst IsRoomSound (sym e) (heard_sound c.self.inside.rounds.state c.args.host.member.node c.args.now c.self.invariant.2) in
+    (search rules, subst (λ (r : RoundState). IsNewOrUsed r.state) (sym c.go_on-self-inside.ensures.rounds) kept, subst (λ (r : RoundState). IsRoomSound r.state) (sym c.go_on-self-inside.ensures.rounds) (settle_sound c.hear.new.self.state sound))
 
 pub invariant_of-self-in-Ok : goal.invariant_of-self-in-Ok
 invariant_of-self-in-Ok c =
     let same : c.hear.new.self ≡ c.self.inside.rounds = c.hear.ensures.stranger c.if-hear.false in
     let joined : c.join.new.rounds.state ≡ with_joined c.self.inside.rounds.state c.args.host c.args.now = rw (← same) c.in-Ok.ensures.ok.0 in
     let kept = joined_kept c.self.inside.rounds.state c.args.host c.args.now c.self.invariant.1 in
-    (search rules, subst (λ (r : RoundState). IsNewOrUsed r.state) (sym c.go_on-self-inside-in-Ok.ensures.rounds) (subst (λ (s : RoomState). IsNewOrUsed (settle_round s)) (sym joined) kept))
+    let less : c.greatest-greatest.result < c.args.host.member.boot = omega arith in
+    let higher : greatest_boot c.self.inside.rounds.state.boots c.args.host.member.node < c.args.host.member.boot = rw (← same) (subst (λ (n : ℕ). n < c.args.host.member.boot) c.greatest-greatest.ensures less) in
+    let free : of_node c.self.inside.rounds.state.members c.args.host.member.node ≡ None = rw (← same) (no_boot _ (sym c.boot_at.ensures ∙ c.in_default.is)) in
+    let places : is_full c.self.inside.rounds.state c.args.host.member.node ≡ false = rw (← same) (sym c.is_full.ensures ∙ c.if-is_full.false) in
+    let sound = subst IsRoomSound (sym joined) (joined_sound c.self.inside.rounds.state c.args.host c.args.now free places higher c.self.invariant.2) in
+    (search rules, subst (λ (r : RoundState). IsNewOrUsed r.state) (sym c.go_on-self-inside-in-Ok.ensures.rounds) (subst (λ (s : RoomState). IsNewOrUsed (settle_round s)) (sym joined) kept), subst (λ (r : RoundState). IsRoomSound r.state) (sym c.go_on-self-inside-in-Ok.ensures.rounds) (settle_sound c.join.new.rounds.state sound))

@@ -4,10 +4,12 @@ use Rattle.round_core.specs.declared.event.PlaceEvent.TheVariants as events
 use Rattle.round_core.specs.declared.event.PlaceReply.TheVariants as replies
 use Rattle.member_roster.specs.Members.{is_here, without_node}
 use Rattle.round_core.specs.Openings.{IsNewOrUsed}
+use Rattle.round_core.specs.Sound.{IsRoomSound}
 use Rattle.round_core.specs.Room.{RoomState, Says}
 use Rattle.round_core.specs.Views.{RoundState, RoomView}
 use Rattle.round_core.proofs.Giving.{settled_gives, here_some}
 use Rattle.round_core.proofs.Openings.{told_kept}
+use Rattle.round_core.proofs.Sound.{removed_sound, settle_sound}
 use Rattle.round_core.proofs.room.Room.remove.Goals as goal
 
 pub push_reserved-requires : goal.push_reserved-requires
@@ -61,4 +63,5 @@ invariant_of-self-2 c =
     let h : c.remove.result ≡ true = search rules in
     let e = ap (λ (r : RoundState). r.state) (c.remove.ensures.removed h) in
     let kept = told_kept c.self.inside.rounds.state c.remove.new.self.state c.args.member c.self.invariant.1 (sym c.remove.ensures.here ∙ h) (ap (λ (s : RoomState). s.next_version) e) in
-    (search rules, subst (λ (r : RoundState). IsNewOrUsed r.state) (sym c.go_on-self-inside.ensures.rounds) kept)
+    let sound = subst IsRoomSound (sym e) (removed_sound c.self.inside.rounds.state c.args.member.node c.self.invariant.2) in
+    (search rules, subst (λ (r : RoundState). IsNewOrUsed r.state) (sym c.go_on-self-inside.ensures.rounds) kept, subst (λ (r : RoundState). IsRoomSound r.state) (sym c.go_on-self-inside.ensures.rounds) (settle_sound c.remove.new.self.state sound))

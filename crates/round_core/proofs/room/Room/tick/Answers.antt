@@ -4,10 +4,12 @@ use Rattle.round_core.specs.declared.event.PlaceEvent.TheVariants as events
 use Rattle.round_core.specs.declared.event.PlaceReply.TheVariants as replies
 use Rattle.member_roster.specs.Members.{late_of}
 use Rattle.round_core.specs.Openings.{IsNewOrUsed}
+use Rattle.round_core.specs.Sound.{IsRoomSound}
 use Rattle.round_core.specs.Room.{RoomState, Says, drop_late, settle_round}
 use Rattle.round_core.specs.Views.{RoundState, RoomView}
 use Rattle.round_core.proofs.Giving.{settled_gives}
 use Rattle.round_core.proofs.Openings.{dropped_kept}
+use Rattle.round_core.proofs.Sound.{dropped_sound, settle_sound}
 use Rattle.round_core.proofs.room.Room.tick.Goals as goal
 
 pub returns : goal.returns
@@ -29,4 +31,5 @@ pub invariant_of-self : goal.invariant_of-self
 invariant_of-self c =
     let e = ap (λ (r : RoundState). r.state) c.drop_late-dropped.ensures.state in
     let kept = dropped_kept c.self.inside.rounds.state c.args.now c.self.invariant.1 in
-    (search rules, subst (λ (r : RoundState). IsNewOrUsed r.state) (sym c.go_on-self-inside.ensures.rounds) (subst (λ (s : RoomState). IsNewOrUsed (settle_round s)) (sym e) kept))
+    let sound = subst IsRoomSound (sym e) (dropped_sound c.self.inside.rounds.state c.args.now (drop_late c.self.inside.rounds.state c.args.now).state.dirty c.self.invariant.2) in
+    (search rules, subst (λ (r : RoundState). IsNewOrUsed r.state) (sym c.go_on-self-inside.ensures.rounds) (subst (λ (s : RoomState). IsNewOrUsed (settle_round s)) (sym e) kept), subst (λ (r : RoundState). IsRoomSound r.state) (sym c.go_on-self-inside.ensures.rounds) (settle_sound c.drop_late-dropped.new.self.state sound))
