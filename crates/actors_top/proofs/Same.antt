@@ -1,5 +1,5 @@
 -- A call that did nothing.
-use Rattle.std.proofs.Common.{◌≡◌, inl, ℕ, List, Option, Some, None, refl}
+use Rattle.std.proofs.Common.{inl, ℕ, List, Option, Some, None, refl}
 use Rattle.actor_names.specs.declared.address.Address.{Address}
 use Rattle.actor_ports.specs.Traffic.{Place}
 use Rattle.host_ports.specs.Hosts.{Asked}

@@ -109,7 +109,7 @@ fn sidecar<R: Threads + Wait + Sync, I: Source, W: Sink, N: Dial, T: Clock, H: H
     out: &mut Outside<I, W, N, T, H>,
 ) -> SidecarStatus
     ensures asks { AsksPorts (place_of words.now.listen) (place_of words.now.peer) (H.asked out.old.host) (H.asked out.new.host) }
-    ensures tells { (end : SidecarEnd) × IsEnd end × TellsEnd end result (W.contents out.old.output) (W.contents out.new.output) }
+    ensures tells { (end : SidecarEnd) × IsEnd N.Link.read_traffic T.shown end × TellsEnd end result (W.contents out.old.output) (W.contents out.new.output) }
     ensures unread { out.new.input ≡ out.old.input }
     ensures sink { result ≡ SidecarStatus.SinkFault → W.write_faults out.old.output < W.write_faults out.new.output }
     ensures port { result ≡ SidecarStatus.PortFault → (H.bind_faults out.old.host < H.bind_faults out.new.host) ⊎ (N.dial_faults out.old.net < N.dial_faults out.new.net) }
@@ -185,8 +185,9 @@ pub fn run<R: Threads + Wait + Sync, I: Source, W: Sink, N: Dial, T: Clock, H: H
         × TellsServer ended (W.contents out.old.output) (W.contents out.new.output) × (out.new.input ≡ out.old.input) }
 
     // A sidecar asks for nothing but the two addresses of its words, and leaves the source unread. It says that it had to
-    // stop only if the placement wasn't heard for 5,000 milliseconds, or refused it.
-    ensures seated { (s : Seating) → reading (map string_bytes words.now) ≡ Some (Sidecar s) → (end : SidecarEnd) × (ended : SidecarStatus) × IsEnd end × (result ≡ sidecar_code ended)
+    // stop only if the placement wasn't heard for 5,000 milliseconds, or refused it; after this, and after status 0, all its
+    // parts were stopped.
+    ensures seated { (s : Seating) → reading (map string_bytes words.now) ≡ Some (Sidecar s) → (end : SidecarEnd) × (ended : SidecarStatus) × IsEnd N.Link.read_traffic T.shown end × (result ≡ sidecar_code ended)
         × AsksPorts (place_of s.listen) (place_of s.peer) (H.asked out.old.host) (H.asked out.new.host)
         × TellsEnd end ended (W.contents out.old.output) (W.contents out.new.output) × (out.new.input ≡ out.old.input) }
 

@@ -1,8 +1,9 @@
 -- What a run of a sidecar asks its host for, and how it ends. Own.
 use Rattle.std.specs.Prelude.{◌≡◌, ◌⊎◌, ℕ, Option, Some, None}
-use Rattle.actor_ports.specs.Traffic.{Place}
+use Rattle.actor_ports.specs.Traffic.{Place, Traffic}
 use Rattle.host_ports.specs.Hosts.{Asked, with_place}
-use Rattle.sidecar_server.specs.Watch.{IsCause}
+use Rattle.sidecar_server.specs.Causes.{IsCause}
+use Rattle.sidecar_server.specs.Stopped.{AllStopped}
 use Rattle.sidecar_start.specs.declared.end.StartEnd.{StartEnd}
 use Rattle.sidecar_start.specs.Ends.{end_status}
 use Rattle.sidecar_command.specs.declared.ends.SidecarEnd.{SidecarEnd}
@@ -24,10 +25,11 @@ sidecar_status ends.OutOfMemory = 8
 abbrev pub IsOwn : StartEnd → Type 0
 IsOwn end = (end_status end ≡ 12) ⊎ (end_status end ≡ 13)
 
--- what an end says is so: a stop has a sound cause, and a start that failed is told by the application or the store
-abbrev pub IsEnd : SidecarEnd → Type 0
-IsEnd ends.Done = Unit {0}
-IsEnd ends.PortFault = Unit {0}
-IsEnd (ends.Unstarted end) = IsOwn end
-IsEnd (ends.Stopped cause) = IsCause cause
-IsEnd ends.OutOfMemory = Unit {0}
+-- What an end says is so: a stop has a sound cause, by the traffic of links and the moments that clocks showed; after it, and
+-- if all sessions were served, all parts were stopped. A start that failed is told by the application or the store.
+abbrev pub IsEnd : {L K : Type 0} → (L → Option Traffic) → (K → ℕ) → SidecarEnd → Type 0
+IsEnd traffic shown ends.Done = AllStopped
+IsEnd traffic shown ends.PortFault = Unit {0}
+IsEnd traffic shown (ends.Unstarted end) = IsOwn end
+IsEnd traffic shown (ends.Stopped cause) = IsCause traffic shown cause × AllStopped
+IsEnd traffic shown ends.OutOfMemory = Unit {0}

@@ -59,9 +59,9 @@ pub fn run_sidecar<R: Threads + Wait + Sync, H: Host, N: Dial, K: Clock>(
     clock: &mut K,
 ) -> SidecarEnd
     ensures asks { AsksPorts (place_of words.now.listen) (place_of words.now.peer) (H.asked host.old) (H.asked host.new) }
-    // A fault is answered only if a count of such faults rose, and a stop only for a sound cause.
+    // A fault is answered only if a count of such faults rose, and a stop only for a sound cause, once all parts were stopped.
     ensures port_cause { result ≡ SidecarEnd.PortFault → (H.bind_faults host.old < H.bind_faults host.new) ⊎ (N.dial_faults net.old < N.dial_faults net.new) }
-    ensures ends { IsEnd result }
+    ensures ends { IsEnd N.Link.read_traffic K.shown result }
     ensures never_falls { H.bind_faults host.old ≤ H.bind_faults host.new }
     // Each port is given back, and no disk is opened.
     ensures ports_back { H.ports_out host.new ≡ H.ports_out host.old }

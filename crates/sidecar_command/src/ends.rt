@@ -43,6 +43,7 @@ impl SidecarEnd {
 pub(crate) fn unstarted(end: StartEnd) -> SidecarEnd
     ensures port { result ≡ SidecarEnd.PortFault → end ≡ StartEnd.DialFault }
     ensures own { (e : StartEnd) → result ≡ SidecarEnd.Unstarted e → (e ≡ end) × IsOwn e }
+    ensures done { result ≢ SidecarEnd.Done }
     ensures stop { (c : StopCause) → result ≢ SidecarEnd.Stopped c }
 {
     match end {
@@ -55,6 +56,7 @@ pub(crate) fn unstarted(end: StartEnd) -> SidecarEnd
 /// How the command ends if a port isn't bound.
 pub(crate) fn unbound(error: PortError) -> SidecarEnd
     ensures port { result ≡ SidecarEnd.PortFault → error ≡ PortError.Failed }
+    ensures done { result ≢ SidecarEnd.Done }
     ensures own { (e : StartEnd) → result ≢ SidecarEnd.Unstarted e }
     ensures stop { (c : StopCause) → result ≢ SidecarEnd.Stopped c }
 {
@@ -70,7 +72,11 @@ pub(crate) fn ended(served: SidecarServed, failed: bool) -> SidecarEnd
     ensures own { (e : StartEnd) → result ≢ SidecarEnd.Unstarted e }
     ensures stop { (c : StopCause) → result ≡ SidecarEnd.Stopped c → served.stop ≡ Some c }
 {
-    let SidecarServed { end, stop } = served;
+    let SidecarServed {
+        end,
+        stop,
+        seats: _,
+    } = served;
     if let Some(cause) = stop {
         return SidecarEnd::Stopped { cause };
     }

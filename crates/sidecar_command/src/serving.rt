@@ -4,6 +4,7 @@ ghost use Rattle.frame_wire.specs.declared.frame.Frame.TheVariants as frames;
 ghost use Rattle.frame_wire.specs.Frames.{payload};
 ghost use Rattle.host_ports.specs.Hosts.{place_of};
 ghost use Rattle.sidecar_node.specs.Nodes.{IsSeatsOf, host_of};
+ghost use Rattle.sidecar_server.specs.Stopped.{IsNew};
 ghost use Rattle.sidecar_command.specs.Commands.{AsksPorts, IsEnd};
 
 use crate::callees::Callees;
@@ -45,11 +46,12 @@ fn serve_bound<R: Threads + Wait + Sync, H: Host, N: Dial, K: Clock>(
     clock: K,
 ) -> SidecarEnd
     requires seats { IsSeatsOf node.now seats }
+    requires new { IsNew node.now seats }
     requires own { payload.Fits (frames.Register (host_of node.now)) }
     requires ports { 1 < H.ports_out host.old }
     ensures asks { H.asked host.new ≡ H.asked host.old }
     ensures port_cause { result ≡ SidecarEnd.PortFault → H.bind_faults host.old < H.bind_faults host.new }
-    ensures ends { IsEnd result }
+    ensures ends { IsEnd N.Link.read_traffic K.shown result }
     ensures never_falls { H.bind_faults host.old ≤ H.bind_faults host.new }
     ensures ports_back { H.ports_out host.old ≡ H.ports_out host.new + 2 }
     ensures disks { (H.disks_out host.new ≡ H.disks_out host.old) × (H.open_faults host.new ≡ H.open_faults host.old) }
@@ -95,10 +97,11 @@ pub(crate) fn serve_started<R: Threads + Wait + Sync, H: Host, N: Dial, K: Clock
     clock: &K,
 ) -> SidecarEnd
     requires seats { IsSeatsOf node.now seats }
+    requires new { IsNew node.now seats }
     requires own { payload.Fits (frames.Register (host_of node.now)) }
     ensures asks { AsksPorts (place_of words.now.listen) (place_of words.now.peer) (H.asked host.old) (H.asked host.new) }
     ensures port_cause { result ≡ SidecarEnd.PortFault → H.bind_faults host.old < H.bind_faults host.new }
-    ensures ends { IsEnd result }
+    ensures ends { IsEnd N.Link.read_traffic K.shown result }
     ensures never_falls { H.bind_faults host.old ≤ H.bind_faults host.new }
     ensures ports_back { H.ports_out host.new ≡ H.ports_out host.old }
     ensures disks { (H.disks_out host.new ≡ H.disks_out host.old) × (H.open_faults host.new ≡ H.open_faults host.old) }

@@ -1,2 +1,4 @@
+pub mod Causes
 pub mod Watch
+pub mod Stopped
 pub mod Passes

@@ -1,6 +1,9 @@
 // The turns with the placement.
-ghost use Rattle.std.specs.Prelude.{IfSome};
+ghost use Rattle.std.specs.Prelude.{◌≡◌, IfSome};
+ghost use Rattle.placement_beats.specs.declared.book.TurnEnd.{TurnEnd};
+ghost use Rattle.round_core.specs.declared.event.PlaceReply.{PlaceReply};
 ghost use Rattle.sidecar_server.specs.Passes.{Admits};
+ghost use Rattle.sidecar_server.specs.Causes.{IsShown, IsTurnRefused};
 ghost use Rattle.sidecar_server.specs.Watch.{WatchTakes};
 
 use crate::pass::Pass;
@@ -14,7 +17,7 @@ use std::sync::Wait;
 // Stops all parts; then the sidecar is over.
 fn stop<R: Wait, N: Dial, K: Clock>(
     rt: &R,
-    service: &SidecarService<'_>,
+    service: &SidecarService<'_, N, K>,
     pass: Pass<N, K>,
 ) -> Pass<N, K>
     requires { Admits service.now.node.now service.now.watch.now pass.seats pass.watch }
@@ -30,12 +33,12 @@ fn stop<R: Wait, N: Dial, K: Clock>(
 /// Tells the watch what has happened, and stops the sidecar if it has to stop.
 pub(crate) fn tell_watch<R: Wait, N: Dial, K: Clock>(
     rt: &R,
-    service: &SidecarService<'_>,
+    service: &SidecarService<'_, N, K>,
     pass: Pass<N, K>,
     event: WatchEvent,
 ) -> Pass<N, K>
     requires admits { Admits service.now.node.now service.now.watch.now pass.seats pass.watch }
-    requires event { WatchTakes event }
+    requires event { WatchTakes N.Link.read_traffic K.shown event }
     ensures { Admits service.now.node.now service.now.watch.now result.seats result.watch }
 {
     let mut pass = pass;
@@ -46,8 +49,10 @@ pub(crate) fn tell_watch<R: Wait, N: Dial, K: Clock>(
 }
 
 // What the watch is to be told of a turn that began at this moment and ended so.
-fn heard_of(end: TurnEnd, began: u64) -> Option<WatchEvent>
-    ensures { IfSome result WatchTakes }
+fn heard_of<N: Dial, K: Clock>(end: TurnEnd, began: u64) -> Option<WatchEvent>
+    requires began { IsShown K.shown began }
+    requires turn { (reply : PlaceReply) → end ≡ TurnEnd.Refused reply → IsTurnRefused N.Link.read_traffic K.shown reply }
+    ensures { IfSome result (WatchTakes N.Link.read_traffic K.shown) }
 {
     match end {
         TurnEnd::Next => Some(WatchEvent::Heard { at: began }),
@@ -62,8 +67,8 @@ fn heard_of(end: TurnEnd, began: u64) -> Option<WatchEvent>
 }
 
 // The link to the placement, dialled if there is none.
-fn linked<N: Dial>(
-    service: &SidecarService<'_>,
+fn linked<N: Dial, K: Clock>(
+    service: &SidecarService<'_, N, K>,
     net: &mut N,
     link: Option<N::Link>,
 ) -> Option<N::Link> {
@@ -88,7 +93,7 @@ fn kept_link<L: Drop>(end: TurnEnd, link: L) -> Option<L> {
 /// dials again.
 pub(crate) fn beat<R: Wait, N: Dial, K: Clock>(
     rt: &R,
-    service: &SidecarService<'_>,
+    service: &SidecarService<'_, N, K>,
     pass: Pass<N, K>,
 ) -> Pass<N, K>
     requires { Admits service.now.node.now service.now.watch.now pass.seats pass.watch }
@@ -113,7 +118,7 @@ pub(crate) fn beat<R: Wait, N: Dial, K: Clock>(
     );
     pass.seats = seats;
     pass.link = kept_link(end, link);
-    match heard_of(end, began) {
+    match heard_of::<N, K>(end, began) {
         None => pass,
         Some(event) => tell_watch(rt, service, pass, event),
     }
@@ -122,7 +127,7 @@ pub(crate) fn beat<R: Wait, N: Dial, K: Clock>(
 /// Stops all parts and leaves the placement, over the link that is left or a new one.
 pub(crate) fn leave<R: Wait, N: Dial, K: Clock>(
     rt: &R,
-    service: &SidecarService<'_>,
+    service: &SidecarService<'_, N, K>,
     pass: Pass<N, K>,
 ) -> Pass<N, K>
     requires { Admits service.now.node.now service.now.watch.now pass.seats pass.watch }

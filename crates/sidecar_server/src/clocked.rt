@@ -14,7 +14,7 @@ use tick_turns::tick_turn;
 /// Looks whether the placement is still heard.
 pub(crate) fn look<R: Wait, N: Dial, K: Clock>(
     rt: &R,
-    service: &SidecarService<'_>,
+    service: &SidecarService<'_, N, K>,
     pass: Pass<N, K>,
 ) -> Pass<N, K>
     requires { Admits service.now.node.now service.now.watch.now pass.seats pass.watch }
@@ -28,7 +28,7 @@ pub(crate) fn look<R: Wait, N: Dial, K: Clock>(
 /// Deactivates the actors whose time is over. How that ends doesn't matter: the next turn goes on.
 pub(crate) fn close_idle<R: Wait, N: Dial, K: Clock>(
     rt: &R,
-    service: &SidecarService<'_>,
+    service: &SidecarService<'_, N, K>,
     pass: Pass<N, K>,
 ) -> Pass<N, K>
     requires { Admits service.now.node.now service.now.watch.now pass.seats pass.watch }
@@ -50,7 +50,7 @@ pub(crate) fn close_idle<R: Wait, N: Dial, K: Clock>(
 /// Runs the timers that are due.
 pub(crate) fn run_timers<R: Wait, N: Dial, K: Clock>(
     rt: &R,
-    service: &SidecarService<'_>,
+    service: &SidecarService<'_, N, K>,
     pass: Pass<N, K>,
 ) -> Pass<N, K>
     requires { Admits service.now.node.now service.now.watch.now pass.seats pass.watch }
@@ -72,7 +72,7 @@ pub(crate) fn run_timers<R: Wait, N: Dial, K: Clock>(
 /// Runs the reminders that are due.
 pub(crate) fn run_reminders<R: Wait, N: Dial, K: Clock>(
     rt: &R,
-    service: &SidecarService<'_>,
+    service: &SidecarService<'_, N, K>,
     pass: Pass<N, K>,
 ) -> Pass<N, K>
     requires { Admits service.now.node.now service.now.watch.now pass.seats pass.watch }

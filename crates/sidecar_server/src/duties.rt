@@ -39,7 +39,7 @@ fn pause_of(work: u32) -> u64 {
 // One turn of a work.
 fn turn<R: Wait, N: Dial, K: Clock>(
     rt: &R,
-    service: &SidecarService<'_>,
+    service: &SidecarService<'_, N, K>,
     work: u32,
     pass: Pass<N, K>,
 ) -> Pass<N, K>
@@ -64,7 +64,7 @@ fn turn<R: Wait, N: Dial, K: Clock>(
 /// What a thread does beside the connections. With the last of its turns the sidecar leaves the placement.
 pub(crate) fn do_duty<R: Wait, N: Dial, K: Clock>(
     rt: &R,
-    service: &SidecarService<'_>,
+    service: &SidecarService<'_, N, K>,
     duty: Duty,
     pass: Pass<N, K>,
 ) -> Pass<N, K>

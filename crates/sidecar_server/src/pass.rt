@@ -12,7 +12,7 @@ use step_gate::Seat;
 #[derive(Drop)]
 pub(crate) struct Pass<N: Dial, K: Clock> {
     pub(crate) seats: Seats,
-    pub(crate) watch: Seat<Watch>,
+    pub(crate) watch: Seat<Watch<N, K>>,
     pub(crate) links: Links<N>,
     pub(crate) net: N,
     pub(crate) clock: K,

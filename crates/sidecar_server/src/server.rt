@@ -1,11 +1,13 @@
 // The server.
-ghost use Rattle.std.specs.Prelude.{◌≡◌, ◌<◌, ◌≤◌, ◌⊎◌, IfOk};
+ghost use Rattle.std.specs.Prelude.{◌≡◌, ◌<◌, ◌≤◌, ◌⊎◌, List, IfOk, length};
 ghost use Rattle.connection_server.specs.declared.accept.ServerEnd.TheVariants.{PortFault};
 ghost use Rattle.frame_wire.specs.declared.frame.Frame.TheVariants as frames;
 ghost use Rattle.frame_wire.specs.Frames.{payload};
-ghost use Rattle.sidecar_node.specs.Nodes.{IsSeatsOf, host_of};
+ghost use Rattle.sidecar_node.specs.Turns.{Said};
+ghost use Rattle.sidecar_node.specs.Nodes.{IsSeatsOf, StopsAll, host_of, part_gates};
 ghost use Rattle.sidecar_server.specs.Passes.{Admits};
-ghost use Rattle.sidecar_server.specs.Watch.{IsSound};
+ghost use Rattle.sidecar_server.specs.Causes.{IsSound};
+ghost use Rattle.sidecar_server.specs.Stopped.{StopsParts};
 
 use crate::crossing::{node_crosses, seats_cross};
 use crate::duties::do_duty;
@@ -19,7 +21,7 @@ use actors_api::Side;
 use connection_server::{Duty, ServerEnd, serve_ports};
 use link_exchange::Links;
 use placement_beats::PlacementBook;
-use sidecar_node::{Seats, SidecarNode};
+use sidecar_node::{Seats, SidecarNode, stop_turn};
 use std::alloc::Global;
 use std::sync::Wait;
 use std::sync::atomic::AtomicBool;
@@ -34,11 +36,12 @@ pub struct SidecarPlaces {
     pub placement: Address,
 }
 
-/// How a server ended, and why its sidecar had to stop, if it had to.
-#[derive(Clone, Copy, Debug)]
+/// How a server ended, why its sidecar had to stop, if it had to, and the seats that stopped its parts at the end.
+#[derive(Drop)]
 pub struct SidecarServed {
     pub end: ServerEnd,
     pub stop: Option<StopCause>,
+    pub seats: Seats,
 }
 
 // Serves the sidecar under this watch.
@@ -46,7 +49,7 @@ fn serve_watched<R: Threads + Wait + Sync, C: Conn, L: Listen<Link = C>, N: Dial
     rt: &R,
     alloc: Global,
     node: &SidecarNode,
-    watch: &Gate<Watch>,
+    watch: &Gate<Watch<N, K>>,
     pass: Pass<N, K>,
     callers: L,
     peers: L,
@@ -85,6 +88,16 @@ fn serve_watched<R: Threads + Wait + Sync, C: Conn, L: Listen<Link = C>, N: Dial
     )
 }
 
+// Gives every part of the node its StopPart.
+fn stop_all<R: Wait>(rt: &R, node: &SidecarNode, seats: Seats) -> Seats
+    requires { IsSeatsOf node.now seats }
+    ensures seats { IsSeatsOf node.now result }
+    ensures stops { (saids : List Said) × StopsAll (length (part_gates node.now)) saids seats result }
+{
+    let (seats, _) = stop_turn(rt, node, seats);
+    seats
+}
+
 /// Serves a sidecar at its two ports until `most` connections of callers were served (without a limit if it is `None`), the
 /// sidecar has to stop, or a port fails. Each connection has a thread of its own. Beside them the sidecar speaks with the
 /// placement and looks whether it is heard, every 200 milliseconds; it deactivates idle actors as often, runs the timers
@@ -108,8 +121,14 @@ pub fn serve_sidecar<R: Threads + Wait + Sync, C: Conn, L: Listen<Link = C>, N: 
     ensures never_falls { L.listen_faults callers ≤ L.listen_faults result.0 }
     ensures peers_never_falls { L.listen_faults peers ≤ L.listen_faults result.1 }
     ensures cause { IfOk result.2 (λ s. s.end ≡ PortFault → (L.listen_faults callers < L.listen_faults result.0) ⊎ (L.listen_faults peers < L.listen_faults result.1)) }
-    ensures stop { IfOk result.2 (λ s. IsSound s.stop) }
+    ensures stop { IfOk result.2 (λ s. IsSound N.Link.read_traffic K.shown s.stop) }
+    ensures stopped { IfOk result.2 (λ s. StopsParts node.now seats s.seats) }
 {
+    let (seats, last) = node.split(alloc, seats);
+    let last = match last {
+        Ok(last) => last,
+        Err(error) => return (callers, peers, Err(error)),
+    };
     let mut clock = clock;
     let now = clock.now_ms();
     let (gate, seat) = match Gate::new(alloc, Watch::new(now)) {
@@ -135,5 +154,7 @@ pub fn serve_sidecar<R: Threads + Wait + Sync, C: Conn, L: Listen<Link = C>, N: 
     );
     let watch = gate.close(rt, seat);
     let stop = watch.stop();
-    (callers, peers, Ok(SidecarServed { end, stop }))
+    // No other thread is left: nothing follows these steps.
+    let seats = stop_all(rt, node, last);
+    (callers, peers, Ok(SidecarServed { end, stop, seats }))
 }

@@ -19,10 +19,10 @@ const WORKS: u32 = 5;
 /// What the threads of a sidecar share: its node, the gate of the watch, the address of the placement, those at which it
 /// listens itself, and whether it is over.
 #[derive(Drop)]
-pub(crate) struct SidecarService<'a> {
+pub(crate) struct SidecarService<'a, N: Dial, K: Clock> {
     pub(crate) alloc: Global,
     pub(crate) node: &'a SidecarNode,
-    pub(crate) watch: &'a Gate<Watch>,
+    pub(crate) watch: &'a Gate<Watch<N, K>>,
     pub(crate) placement: Address,
     pub(crate) callers: Address,
     pub(crate) peers: Address,
@@ -36,16 +36,16 @@ fn knock<N: Dial>(net: &mut N, at: Address) {
     }
 }
 
-impl SidecarService<'_> {
+impl<N: Dial, K: Clock> SidecarService<'_, N, K> {
     /// Says that the sidecar is over, and wakes the loops that wait for a connection.
-    pub(crate) fn close<N: Dial>(&self, net: &mut N) {
+    pub(crate) fn close(&self, net: &mut N) {
         self.over.store(true, Ordering::SeqCst);
         knock(net, self.callers);
         knock(net, self.peers);
     }
 }
 
-impl<N: Dial, K: Clock> Service<Pass<N, K>> for SidecarService<'_> {
+impl<N: Dial, K: Clock> Service<Pass<N, K>> for SidecarService<'_, N, K> {
     ghost admits = { λ v p. Admits v.node.now v.watch.now p.seats p.watch };
 
     fn split(&self, pass: Pass<N, K>) -> (Pass<N, K>, Option<Pass<N, K>>) {

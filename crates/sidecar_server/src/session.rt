@@ -11,7 +11,7 @@ use std::sync::Wait;
 /// Serves a connection of this port until it ends.
 pub(crate) fn serve_at<R: Wait, C: Conn, N: Dial, K: Clock>(
     rt: &R,
-    service: &SidecarService<'_>,
+    service: &SidecarService<'_, N, K>,
     side: Side,
     pass: Pass<N, K>,
     conn: C,

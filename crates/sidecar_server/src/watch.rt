@@ -1,9 +1,11 @@
 // The watch over a sidecar: whether the placement is heard, and whether it has refused the sidecar.
 ghost use Rattle.std.specs.Prelude.{◌≡◌, ◌≤◌, ◌+◌};
-ghost use Rattle.sidecar_server.specs.Watch.{new_watch, latest, looks, refuses, IsFinal, is_final};
+ghost use Rattle.sidecar_server.specs.Causes.{IsShown, is_final};
+ghost use Rattle.sidecar_server.specs.Watch.{new_watch, latest, first_cause, stop_after};
 
+use actor_ports::{Clock, Dial};
 use round_core::PlaceReply;
-use std::marker::Model;
+use std::marker::{Model, PhantomData};
 use step_gate::{Machine, News};
 
 /// Why a sidecar has to stop.
@@ -18,32 +20,35 @@ pub enum StopCause {
 /// What the watch is told.
 #[derive(Clone, Copy, Debug)]
 pub enum WatchEvent {
-    /// The placement was heard at this moment.
+    /// The placement was heard at this moment, which a clock showed.
     Heard { at: u64 },
-    /// The clock shows this moment.
+    /// A clock shows this moment.
     Look { now: u64 },
-    /// The placement has refused the sidecar.
+    /// The placement has refused the sidecar in a turn.
     Refused { reply: PlaceReply },
 }
 
 // How long a sidecar goes on without a word of the placement, in milliseconds.
 const PATIENCE_MS: u64 = 5_000;
 
-/// When the placement was heard last, and why the sidecar has to stop, once it has to. The first cause counts.
+/// When the placement was heard last, and why the sidecar has to stop, once it has to. The first cause counts. Each moment
+/// is one that a clock of type `K` showed, and a refusal ended a turn over a link of `N`: no other event is taken.
 #[derive(Drop)]
-pub struct Watch {
+pub struct Watch<N: Dial, K: Clock> {
     heard: u64,
     stop: Option<StopCause>,
+    told_by: PhantomData<(N, K)>,
 }
 
-impl Model for Watch {
-    ghost use Rattle.sidecar_server.specs.Watch.{WatchState, IsSound};
+impl<N: Dial, K: Clock> Model for Watch<N, K> {
+    ghost use Rattle.sidecar_server.specs.Causes.{IsShown, IsSound};
+    ghost use Rattle.sidecar_server.specs.Watch.{WatchState};
 
     ghost Value = { WatchState };
 
     ghost view = { λ w. record { heard = w.heard; stop = w.stop } };
 
-    ghost invariant = { λ w. IsSound w.stop };
+    ghost invariant = { λ w. IsShown K.shown w.heard × IsSound N.Link.read_traffic K.shown w.stop };
 }
 
 /// Whether a sidecar has to stop after this reply to its frame.
@@ -59,14 +64,46 @@ pub(crate) fn is_final(reply: &PlaceReply) -> bool
     }
 }
 
-impl Watch {
-    /// A watch that begins at this moment.
-    pub fn new(now: u64) -> Watch
+// The later of two moments.
+fn latest(a: u64, b: u64) -> u64
+    ensures { result ≡ latest a b }
+{
+    if a < b {
+        return b;
+    }
+    a
+}
+
+// The first cause counts.
+fn first_cause(stop: Option<StopCause>, cause: StopCause) -> Option<StopCause>
+    ensures { result ≡ first_cause stop cause }
+{
+    if stop.is_none() {
+        return Some(cause);
+    }
+    stop
+}
+
+// Why the sidecar has to stop after a look at this moment.
+fn stop_after(heard: u64, stop: Option<StopCause>, now: u64) -> Option<StopCause>
+    ensures { result ≡ stop_after heard stop now }
+{
+    if now >= PATIENCE_MS && now - PATIENCE_MS >= heard {
+        return first_cause(stop, StopCause::Silent { heard, now });
+    }
+    stop
+}
+
+impl<N: Dial, K: Clock> Watch<N, K> {
+    /// A watch that begins at this moment, which a clock has shown.
+    pub fn new(now: u64) -> Watch<N, K>
+        requires { IsShown K.shown now }
         ensures { result ≡ new_watch now }
     {
         Watch {
             heard: now,
             stop: None,
+            told_by: PhantomData,
         }
     }
 
@@ -76,53 +113,30 @@ impl Watch {
     {
         self.stop
     }
-
-    // The placement was heard.
-    fn hear(&mut self, at: u64)
-        ensures { self.new ≡ record self.old { heard = latest self.old.heard at } }
-    {
-        if self.heard < at {
-            self.heard = at;
-        }
-    }
-
-    // The clock shows this moment.
-    fn look(&mut self, now: u64)
-        ensures { self.new ≡ looks self.old now }
-    {
-        if self.stop.is_none() && now >= PATIENCE_MS && now - PATIENCE_MS >= self.heard {
-            let heard = self.heard;
-            self.stop = Some(StopCause::Silent { heard, now });
-        }
-    }
-
-    // The placement has refused the sidecar.
-    fn refuse(&mut self, reply: PlaceReply)
-        requires { IsFinal reply }
-        ensures { self.new ≡ refuses self.old reply }
-    {
-        if self.stop.is_none() {
-            self.stop = Some(StopCause::Refused { reply });
-        }
-    }
 }
 
-impl Machine for Watch {
+impl<N: Dial, K: Clock> Machine for Watch<N, K> {
     ghost use Rattle.sidecar_server.specs.Watch.{WatchTakes, WatchMoves};
 
     type Event = WatchEvent;
 
     type Reply = Option<StopCause>;
 
-    ghost takes = { WatchTakes };
+    ghost takes = { WatchTakes N.Link.read_traffic K.shown };
 
     ghost moves = { WatchMoves };
 
     fn step(&mut self, event: WatchEvent) -> Option<StopCause> {
         match event {
-            WatchEvent::Heard { at } => self.hear(at),
-            WatchEvent::Look { now } => self.look(now),
-            WatchEvent::Refused { reply } => self.refuse(reply),
+            WatchEvent::Heard { at } => {
+                self.heard = latest(self.heard, at);
+            }
+            WatchEvent::Look { now } => {
+                self.stop = stop_after(self.heard, self.stop, now);
+            }
+            WatchEvent::Refused { reply } => {
+                self.stop = first_cause(self.stop, StopCause::Refused { reply });
+            }
         }
         self.stop
     }

@@ -1,4 +1,4 @@
-use Rattle.std.proofs.Common.{◌≡◌, refl}
+use Rattle.std.proofs.Common.{refl}
 use Rattle.plain_commands.specs.declared.status.Status.TheVariants as status
 use Rattle.actors_top.specs.declared.server.ServerStatus.TheVariants as server
 use Rattle.actors_top.specs.declared.sidecar.SidecarStatus.TheVariants as seat

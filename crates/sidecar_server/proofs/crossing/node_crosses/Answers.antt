@@ -1,5 +1,5 @@
 use denote.Struct.Declared.{fields, shape}
-use denote.Param.Send.{IsSync, AllSync, struct_sync}
+use denote.Param.Send.{AllSync, struct_sync}
 use Rattle.place_table.proofs.host.HostInfo.TheSendSync as host
 use Rattle.sidecar_node.specs.contracts.node.SidecarNode as node
 use Rattle.sidecar_server.proofs.crossing.node_crosses.Goals as goal

@@ -1,5 +1,5 @@
 use denote.Struct.Declared.{fields, shape}
-use denote.Param.Send.{IsSend, AllSend, struct_send}
+use denote.Param.Send.{AllSend, struct_send}
 use Rattle.sidecar_node.specs.contracts.node.Seats as seats
 use Rattle.sidecar_server.proofs.crossing.seats_cross.Goals as goal
 

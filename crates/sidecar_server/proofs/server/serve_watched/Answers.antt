@@ -2,7 +2,7 @@ use Rattle.std.proofs.Common.{ℕ, List, [], ◌∷◌}
 use denote.Exit.{no}
 use denote.Param.{param}
 use denote.Ref.{NamedLft}
-use denote.Param.Send.{IsSend, IsSync, AllSend, recorded_send, recorded_sync, struct_send, struct_sync, param_send, param_sync, arg_send, arg_sync, sendable}
+use denote.Param.Send.{IsSync, AllSend, recorded_send, recorded_sync, struct_send, struct_sync, param_send, param_sync, arg_send, arg_sync, sendable}
 use denote.RattleType.{RattleType}
 use denote.Struct.Declared.{fields, shape}
 use denote.Struct.Field.{shr_ref_field}
@@ -15,47 +15,53 @@ use Rattle.sidecar_node.specs.contracts.node.SidecarNode as node
 use Rattle.sidecar_server.specs.contracts.pass.Pass as pass
 use Rattle.sidecar_server.specs.contracts.service.SidecarService as service
 use Rattle.sidecar_server.proofs.watch.Watch.TheSendSync as watch
+use Rattle.sidecar_server.proofs.server.serve_watched.Given as given
 use Rattle.sidecar_server.proofs.server.serve_watched.Goals as goal
 
--- what the threads share may be shared, whatever it borrows for
-service_shared : (ℓ : NamedLft) → IsSync (node.the_field).row → IsSync (service.the_field ℓ).row
-service_shared ℓ n =
-    let T = node.the_type in
-    let m : IsSync node.the_row = recorded_sync _ _ T.to T.to_one n in
-    struct_sync (shape (service.the_type ℓ)) (search (sendable, crosses) depth 20, (search (m, sendable) depth 9, (search (watch.the_send, gate.the_sync, sendable, crosses) depth 20, (address.the_field_sync, (address.the_field_sync, (address.the_field_sync, (search (sendable, crosses) depth 20, tt)))))))
+-- the type of what the threads share
+abbrev shared_of : (g : given.Over) → NamedLft → RattleType
+shared_of g ℓ = service.the_row ℓ (param 3 g.row.N) (param 4 g.row.K) (param 5 g.row.N-Link) g.N.Dial g.N.Link.Conn g.N.Link.Source g.N.Link.Sink g.K.Clock
 
-service_crosses : (ℓ : NamedLft) → IsSync (node.the_field).row → IsSync (service.the_row ℓ)
-service_crosses ℓ n = let T = service.the_type ℓ in recorded_sync _ _ T.to T.to_one (service_shared ℓ n)
+-- what the threads share may be shared, whatever it borrows for
+service_crosses : (g : given.Over) → IsSync (node.the_field).row → (ℓ : NamedLft) → IsSync (shared_of g ℓ)
+service_crosses g n ℓ =
+    let T = service.the_type ℓ (param 3 g.row.N) (param 4 g.row.K) (param 5 g.row.N-Link) g.N.Dial g.N.Link.Conn g.N.Link.Source g.N.Link.Sink g.K.Clock in
+    let U = node.the_type in
+    let m : IsSync node.the_row = recorded_sync _ _ U.to U.to_one n in
+    let w = watch.the_send (param 3 g.row.N) (param 4 g.row.K) (param 5 g.row.N-Link) g.N.Dial g.N.Link.Source g.N.Link.Sink g.K.Clock in
+    recorded_sync _ _ T.to T.to_one (struct_sync (shape T) (search (sendable, crosses) depth 20, (search (m, sendable) depth 9, (search (w, gate.the_sync, sendable, crosses) depth 20, (address.the_field_sync, (address.the_field_sync, (address.the_field_sync, (search (sendable, crosses) depth 20, tt))))))))
 
 -- a closure that captures two references may be shared if what they lead to may be
 closure_shared : (ν : List ℕ) (A B : RattleType) → IsSync A → IsSync B → IsSync (TupleAt ν (A ∷ B ∷ []))
 closure_shared ν A B a b = let T = type_at ν (A ∷ B ∷ []) in recorded_sync _ _ T.to T.to_one (struct_sync (shape T) (a, (b, tt)))
 
 -- so it is with those of this server: each captures the runtime and what the threads share
-serve_shared : (ν : List ℕ) (R : RattleType) (k ℓ m : NamedLft) → IsSync (param 0 R) → ((n : NamedLft) → IsSync (service.the_row n))
-    → IsSync (TupleAt ν ((shr_ref_field k (param 0 R) tt).row ∷ (shr_ref_field ℓ (service.the_row m) tt).row ∷ []))
-serve_shared ν R k ℓ m r v = closure_shared ν (shr_ref_field k (param 0 R) tt).row (shr_ref_field ℓ (service.the_row m) tt).row (search (r, sendable) depth 9) (search (v, sendable) depth 9)
+serve_shared : (g : given.Over) (ν : List ℕ) (k ℓ m : NamedLft) → IsSync (param 0 g.row.R) → ((n : NamedLft) → IsSync (shared_of g n))
+    → IsSync (TupleAt ν ((shr_ref_field k (param 0 g.row.R) tt).row ∷ (shr_ref_field ℓ (shared_of g m) tt).row ∷ []))
+serve_shared g ν k ℓ m r v = closure_shared ν (shr_ref_field k (param 0 g.row.R) tt).row (shr_ref_field ℓ (shared_of g m) tt).row (search (r, sendable) depth 9) (search (v, sendable) depth 9)
 
 pub serve_ports-requires-send-P : goal.serve_ports-requires-send-P
 serve_ports-requires-send-P g c κs within =
     let N = param 3 g.row.N in
     let K = param 4 g.row.K in
     let L = param 5 g.row.N-Link in
-    let T = pass.the_type N K L in
-    let parts : AllSend (fields T) = (c.seats_cross.ensures, (search (watch.the_send, seat.the_send) depth 9, (search (c.type_bounds.send-N, address.the_field_send, sendable, crosses) depth 20, (c.type_bounds.send-N, (c.type_bounds.send-K, (search (sendable, crosses) depth 20, (search (c.type_bounds.send-N-Link, sendable, crosses) depth 20, tt))))))) in
-    param_send _ _ (arg_send _ no (pass.the_row N K L) (recorded_send _ _ T.to T.to_one (struct_send (shape T) parts)))
+    let w = watch.the_send N K L g.N.Dial g.N.Link.Source g.N.Link.Sink g.K.Clock in
+    let T = pass.the_type N K L g.N.Dial g.N.Link.Source g.N.Link.Sink g.K.Clock in
+    let parts : AllSend (fields T) = (c.seats_cross.ensures, (search (w, seat.the_send) depth 9, (search (c.type_bounds.send-N, address.the_field_send, sendable, crosses) depth 20, (c.type_bounds.send-N, (c.type_bounds.send-K, (search (sendable, crosses) depth 20, (search (c.type_bounds.send-N-Link, sendable, crosses) depth 20, tt))))))) in
+    param_send _ _ (arg_send _ no (pass.the_row N K L g.N.Dial g.N.Link.Source g.N.Link.Sink g.K.Clock) (recorded_send _ _ T.to T.to_one (struct_send (shape T) parts)))
 
 pub serve_ports-requires-sync-V : goal.serve_ports-requires-sync-V
-serve_ports-requires-sync-V g c κs within = param_sync _ _ (arg_sync _ no (service.the_row _) (service_crosses _ c.node_crosses.ensures))
+serve_ports-requires-sync-V g c κs within =
+    param_sync _ _ (arg_sync _ no (shared_of g _) (service_crosses g c.node_crosses.ensures _))
 
 pub serve_ports-requires-sync-F : goal.serve_ports-requires-sync-F
 serve_ports-requires-sync-F g c κs within =
-    param_sync _ _ (arg_sync _ no (TupleAt _ ((shr_ref_field _ (param 0 g.row.R) tt).row ∷ (shr_ref_field _ (service.the_row _) tt).row ∷ [])) (serve_shared _ g.row.R _ _ _ c.type_bounds.sync-R (λ n. service_crosses n c.node_crosses.ensures)))
+    param_sync _ _ (arg_sync _ no (TupleAt _ ((shr_ref_field _ (param 0 g.row.R) tt).row ∷ (shr_ref_field _ (shared_of g _) tt).row ∷ [])) (serve_shared g _ _ _ _ c.type_bounds.sync-R (service_crosses g c.node_crosses.ensures)))
 
 pub serve_ports-requires-sync-G : goal.serve_ports-requires-sync-G
 serve_ports-requires-sync-G g c κs within =
-    param_sync _ _ (arg_sync _ no (TupleAt _ ((shr_ref_field _ (param 0 g.row.R) tt).row ∷ (shr_ref_field _ (service.the_row _) tt).row ∷ [])) (serve_shared _ g.row.R _ _ _ c.type_bounds.sync-R (λ n. service_crosses n c.node_crosses.ensures)))
+    param_sync _ _ (arg_sync _ no (TupleAt _ ((shr_ref_field _ (param 0 g.row.R) tt).row ∷ (shr_ref_field _ (shared_of g _) tt).row ∷ [])) (serve_shared g _ _ _ _ c.type_bounds.sync-R (service_crosses g c.node_crosses.ensures)))
 
 pub serve_ports-requires-sync-W : goal.serve_ports-requires-sync-W
 serve_ports-requires-sync-W g c κs within =
-    param_sync _ _ (arg_sync _ no (TupleAt _ ((shr_ref_field _ (param 0 g.row.R) tt).row ∷ (shr_ref_field _ (service.the_row _) tt).row ∷ [])) (serve_shared _ g.row.R _ _ _ c.type_bounds.sync-R (λ n. service_crosses n c.node_crosses.ensures)))
+    param_sync _ _ (arg_sync _ no (TupleAt _ ((shr_ref_field _ (param 0 g.row.R) tt).row ∷ (shr_ref_field _ (shared_of g _) tt).row ∷ [])) (serve_shared g _ _ _ _ c.type_bounds.sync-R (service_crosses g c.node_crosses.ensures)))
