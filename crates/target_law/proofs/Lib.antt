@@ -1,0 +1,4 @@
+mod Rows
+mod RoundSteps
+mod Sendings
+mod Targets
