@@ -1,0 +1,68 @@
+// One part and one table, as a program whose runs can be timed.
+//
+//     key ACTORS ROUNDS       ROUNDS keys are made, of ACTORS actors in turn
+//     ask ACTORS ROUNDS       the same, and each actor's call begins and ends, among ACTORS active actors
+//     hold ACTORS ROUNDS      the same, and each actor is held and released
+//     poll ACTORS ROUNDS      ROUNDS looks at one open call, among ACTORS active actors
+//     tick ACTORS ROUNDS      ROUNDS ticks after a new table
+//     unlock ACTORS ROUNDS    ROUNDS rounds of one table, over ACTORS active actors
+//     close ACTORS ROUNDS     ROUNDS actors at most are deactivated, of ACTORS active ones
+//     hash HOSTS ROUNDS       ROUNDS ids are hashed; HOSTS is ignored
+//     owner HOSTS ROUNDS      ROUNDS owners are looked up in a table of HOSTS hosts of one type
+//     owners HOSTS ROUNDS     the same in a table of HOSTS hosts of 32 types
+//     sort HOSTS ROUNDS       the points of HOSTS hosts are hashed and sorted, ROUNDS times
+//     build HOSTS ROUNDS      a table of HOSTS hosts of one type is built, ROUNDS times
+//
+// It prints how many of these there were. It promises nothing of its own. Depends on part_core, place_table and
+// actor_names.
+#![tactic(auto)]
+
+mod actors;
+mod calls;
+mod rounds;
+mod tables;
+
+use std::alloc::Global;
+use std::rt::Env;
+use std::{env, io};
+
+fn main(rt: HostRuntime) -> io::Result<()> {
+    match run(&rt)? {
+        Some(count) => println!(rt; "{count}"),
+        None => println!(rt; "part_trial MODE COUNT ROUNDS"),
+    }
+}
+
+/// Does what the arguments say, and returns the count; `None` if the arguments make no sense or memory runs out.
+fn run<R: Env + AllocGlobal>(rt: &R) -> io::Result<Option<u32>> {
+    let mut words = env::args(rt)?;
+    let _name = words.next();
+    let (Some(mode), Some(first), Some(second)) = (words.next(), words.next(), words.next()) else {
+        return Ok(None);
+    };
+    let (Ok(first), Ok(second)) = (
+        first.as_str().parse::<u32>(),
+        second.as_str().parse::<u32>(),
+    ) else {
+        return Ok(None);
+    };
+    Ok(trial(rt.alloc(), mode.as_str(), first, second))
+}
+
+fn trial(alloc: Global, mode: &str, many: u32, rounds: u32) -> Option<u32> {
+    match mode {
+        "key" => calls::make_keys(alloc, many, rounds),
+        "ask" => calls::ask_all(alloc, many, rounds),
+        "hold" => calls::hold_all(alloc, many, rounds),
+        "poll" => calls::poll_one(alloc, many, rounds),
+        "tick" => rounds::tick_all(alloc, many, rounds),
+        "unlock" => rounds::unlock_all(alloc, many, rounds),
+        "close" => rounds::close_all(alloc, many, rounds),
+        "hash" => tables::hash_ids(alloc, rounds),
+        "owner" => tables::find_owners(alloc, many, 1, rounds),
+        "owners" => tables::find_owners(alloc, many, 32, rounds),
+        "sort" => tables::sort_points(alloc, many, rounds),
+        "build" => tables::build_tables(alloc, many, rounds),
+        _ => None,
+    }
+}
