@@ -1,7 +1,8 @@
 // One case and its answer.
 use crate::beats::{beat, leave};
 use crate::bytes::{add, bytes_of};
-use crate::sessions::{cuts, session};
+use crate::sessions::{Then, cuts, sessions};
+use crate::turn::turn;
 use std::alloc::Global;
 use std::sync::Wait;
 
@@ -18,8 +19,10 @@ pub(crate) fn answer<R: Wait>(rt: &R, alloc: Global, line: &str) -> Option<Strin
 fn add_answer<R: Wait>(rt: &R, alloc: Global, case: &str, text: &mut String) -> Option<()> {
     let (word, rest) = case.split_once(' ')?;
     match word {
-        "session" => session(rt, alloc, rest, false, text),
-        "turns" => session(rt, alloc, rest, true, text),
+        "session" => sessions(rt, alloc, rest, Then::Nothing, text),
+        "turns" => sessions(rt, alloc, rest, Then::Turns, text),
+        "idle" => sessions(rt, alloc, rest, Then::LateTick, text),
+        "turn" => turn(rt, alloc, rest.as_bytes(), text),
         "cuts" => cuts(rt, alloc, bytes_of(alloc, rest)?.as_slice(), text),
         "beat" => beat(rt, alloc, bytes_of(alloc, rest)?.as_slice(), text),
         "leave" => leave(rt, alloc, bytes_of(alloc, rest)?.as_slice(), text),

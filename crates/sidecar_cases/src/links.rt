@@ -1,4 +1,4 @@
-// Links in memory, to the application and to the store, which answer given bytes.
+// Connections in memory: those of callers, and the links to the application, the store and another sidecar.
 ghost use Rattle.std.specs.Prelude.{◌≡◌, IfSome};
 ghost use Rattle.actor_ports.specs.Memory.{AreFaultless};
 
@@ -8,22 +8,45 @@ use actor_ports::{MemConn, MemDial};
 use link_exchange::Links;
 use std::alloc::Global;
 
-/// A connection whose other end sends these bytes.
-pub(crate) fn conn_of(alloc: Global, bytes: &[u8]) -> Option<MemConn>
+// A connection whose other end sends these bytes, and whose call of this number is to fail: none if it is 0.
+fn failing_conn(alloc: Global, bytes: &[u8], failing: u64) -> Option<MemConn>
     ensures { IfSome result (λ conn. conn.faults ≡ 0) }
 {
-    match MemConn::new(alloc, bytes, &[]) {
+    match MemConn::new(alloc, bytes, &[failing]) {
         Ok(conn) => Some(conn),
         Err(_) => None,
     }
 }
 
-// The link that answers so.
-fn link(alloc: Global, text: &str) -> Option<MemConn>
+/// A connection whose other end sends these bytes.
+pub(crate) fn conn_of(alloc: Global, bytes: &[u8]) -> Option<MemConn>
     ensures { IfSome result (λ conn. conn.faults ≡ 0) }
 {
-    let bytes = bytes_of(alloc, text)?;
-    conn_of(alloc, bytes.as_slice())
+    failing_conn(alloc, bytes, 0)
+}
+
+// The number behind this sign, and what is left of the text; 0 if it doesn't begin with the sign.
+fn number_of(text: &str, sign: char) -> Option<(u64, &str)> {
+    match text.strip_prefix(sign) {
+        Some(rest) => {
+            let (number, left) = rest.split_once(' ')?;
+            Some((u64::from_str_radix(number, 10).ok()?, left))
+        }
+        None => Some((0, text)),
+    }
+}
+
+/// The connection that a case writes so.
+pub(crate) fn conn(alloc: Global, text: &str) -> Option<MemConn>
+    ensures { IfSome result (λ conn. conn.faults ≡ 0) }
+{
+    let (failing, text) = number_of(text, '!')?;
+    let (more, text) = number_of(text, '+')?;
+    let mut bytes = bytes_of(alloc, text)?;
+    for _ in 0..more {
+        bytes.push(b'a').ok()?;
+    }
+    failing_conn(alloc, bytes.as_slice(), failing)
 }
 
 /// A dialler of six links, of which the first ones answer so and the others nothing.
@@ -33,23 +56,28 @@ pub(crate) fn dialler(alloc: Global, text: &str) -> Option<MemDial> {
     let (c, rest) = cut(rest, ';');
     let (d, rest) = cut(rest, ';');
     let (e, f) = cut(rest, ';');
-    let a = link(alloc, a)?;
-    let b = link(alloc, b)?;
-    let c = link(alloc, c)?;
-    let d = link(alloc, d)?;
-    let e = link(alloc, e)?;
-    let f = link(alloc, f)?;
+    let a = conn(alloc, a)?;
+    let b = conn(alloc, b)?;
+    let c = conn(alloc, c)?;
+    let d = conn(alloc, d)?;
+    let e = conn(alloc, e)?;
+    let f = conn(alloc, f)?;
     let Ok(links) = Vec::from_array(alloc, [a, b, c, d, e, f]) else {
         return None;
     };
     MemDial::new(alloc, links, &[]).ok()
 }
 
-/// Links to an application and to a store that answer so; there is no other sidecar.
-pub(crate) fn links_of(alloc: Global, app: &str, store: &str) -> Option<Links<MemDial>> {
+/// Links to an application, to a store and to another sidecar that answer so.
+pub(crate) fn links_of(
+    alloc: Global,
+    app: &str,
+    store: &str,
+    peer: &str,
+) -> Option<Links<MemDial>> {
     let app = dialler(alloc, app)?;
     let store = dialler(alloc, store)?;
-    let peers = MemDial::new(alloc, Vec::new(alloc), &[]).ok()?;
+    let peers = dialler(alloc, peer)?;
     let app_at = address(b"127.0.0.1:3000")?;
     let store_at = address(b"127.0.0.1:3700")?;
     Some(Links::new(app, peers, store, app_at, store_at))
@@ -57,6 +85,7 @@ pub(crate) fn links_of(alloc: Global, app: &str, store: &str) -> Option<Links<Me
 
 // Appends what each link that was given back was sent.
 fn add_sent(alloc: Global, dialler: &MemDial, text: &mut String) -> Option<()> {
+    add("|", text)?;
     for link in dialler.links() {
         add_bytes(alloc, link.written(), text)?;
         add(";", text)?;
@@ -64,10 +93,17 @@ fn add_sent(alloc: Global, dialler: &MemDial, text: &mut String) -> Option<()> {
     Some(())
 }
 
-/// Appends what the application and the store were sent.
-pub(crate) fn add_links(alloc: Global, links: &Links<MemDial>, text: &mut String) -> Option<()> {
-    add("|", text)?;
+/// Appends what the application and the store were sent, and what another sidecar was, if there is one.
+pub(crate) fn add_links(
+    alloc: Global,
+    links: &Links<MemDial>,
+    has_peer: bool,
+    text: &mut String,
+) -> Option<()> {
     add_sent(alloc, &links.app, text)?;
-    add("|", text)?;
-    add_sent(alloc, &links.store, text)
+    add_sent(alloc, &links.store, text)?;
+    if has_peer {
+        add_sent(alloc, &links.peers, text)?;
+    }
+    Some(())
 }

@@ -21,6 +21,10 @@ const START: &str =
 const ROUND: &[u8] =
     b"\x00\x00\x00\x09\x10\x00\x00\x00\x00\x00\x00\x00\x01\x00\x00\x00\x30\x11\x00\x00\x00\x00\x00\x00\x00\x01\x00\x01\x07default\x02n1\x00\x00\x00\x00\x00\x00\x00\x01\x04shop\x7f\x00\x00\x01\x0d\xad\x01\x05order\x00\x00\x00\x09\x12\x00\x00\x00\x00\x00\x00\x00\x01";
 
+// The same with the sidecar and `n2/2`, which listens at 127.0.0.1:3502.
+const ROUND_OF_TWO: &[u8] =
+    b"\x00\x00\x00\x09\x10\x00\x00\x00\x00\x00\x00\x00\x01\x00\x00\x00\x55\x11\x00\x00\x00\x00\x00\x00\x00\x01\x00\x02\x07default\x02n1\x00\x00\x00\x00\x00\x00\x00\x01\x04shop\x7f\x00\x00\x01\x0d\xad\x01\x05order\x07default\x02n2\x00\x00\x00\x00\x00\x00\x00\x02\x04shop\x7f\x00\x00\x01\x0d\xae\x01\x05order\x00\x00\x00\x09\x12\x00\x00\x00\x00\x00\x00\x00\x01";
+
 pub(crate) fn address(text: &[u8]) -> Option<Address> {
     read_address(text).ok()
 }
@@ -28,6 +32,11 @@ pub(crate) fn address(text: &[u8]) -> Option<Address> {
 // A clock that shows 1970-01-01T00:00:00Z.
 pub(crate) fn clock(alloc: Global) -> Option<MemClock> {
     MemClock::new(alloc, 0, &[]).ok()
+}
+
+/// A clock that shows two hours later: an actor is idle after one.
+pub(crate) fn later_clock(alloc: Global) -> Option<MemClock> {
+    MemClock::new(alloc, 7_200_000, &[]).ok()
 }
 
 fn start_words(alloc: Global) -> Option<StartWords> {
@@ -60,13 +69,19 @@ pub(crate) fn new_node<R: Wait>(rt: &R, alloc: Global) -> Option<(SidecarNode, S
     Some((node, seats))
 }
 
-// Opens the part, by a round in three turns with the placement.
-fn open<R: Wait>(rt: &R, alloc: Global, node: &SidecarNode, seats: Seats) -> Option<Seats>
+// Opens the part, by this round in three turns with the placement.
+fn open<R: Wait>(
+    rt: &R,
+    alloc: Global,
+    node: &SidecarNode,
+    seats: Seats,
+    round: &[u8],
+) -> Option<Seats>
     requires seats { IsSeatsOf node.now seats }
     requires host { payload.Fits (frames.Register (host_of node.now)) }
     ensures { IfSome result (λ seats. IsSeatsOf node.now seats) }
 {
-    let mut conn = conn_of(alloc, ROUND)?;
+    let mut conn = conn_of(alloc, round)?;
     let mut clock = clock(alloc)?;
     let mut book = PlacementBook {
         acked: None,
@@ -78,11 +93,16 @@ fn open<R: Wait>(rt: &R, alloc: Global, node: &SidecarNode, seats: Seats) -> Opt
     Some(seats)
 }
 
-/// The sidecar with its part open, at version 1.
-pub(crate) fn open_node<R: Wait>(rt: &R, alloc: Global) -> Option<(SidecarNode, Seats)>
+/// The sidecar with its part open, at version 1. It is the only host, or has another one beside it.
+pub(crate) fn open_node<R: Wait>(
+    rt: &R,
+    alloc: Global,
+    has_peer: bool,
+) -> Option<(SidecarNode, Seats)>
     ensures { IfSome result (λ r. IsSeatsOf r.0 r.1) }
 {
     let (node, seats) = new_node(rt, alloc)?;
-    let seats = open(rt, alloc, &node, seats)?;
+    let round = if has_peer { ROUND_OF_TWO } else { ROUND };
+    let seats = open(rt, alloc, &node, seats, round)?;
     Some((node, seats))
 }

@@ -1,11 +1,11 @@
-// Sessions of a caller, and the turns by the clock after one.
+// Sessions of callers, and the turns by the clock after them.
 ghost use Rattle.std.specs.Prelude.{IfSome};
 ghost use Rattle.sidecar_node.specs.Nodes.{IsSeatsOf};
 
-use crate::bytes::{add, add_bytes, bytes_of, cut};
-use crate::links::{add_links, conn_of, links_of};
-use crate::node::{clock, open_node};
-use actor_ports::{MemClock, MemDial};
+use crate::bytes::{add, add_bytes, cut};
+use crate::links::{add_links, conn, conn_of, links_of};
+use crate::node::{clock, later_clock, open_node};
+use actor_ports::{MemClock, MemConn, MemDial};
 use actors_api::Side;
 use link_exchange::Links;
 use reminder_turns::reminder_turn;
@@ -15,13 +15,23 @@ use std::alloc::Global;
 use std::sync::Wait;
 use tick_turns::tick_turn;
 
-// Serves a session over these bytes, and appends how it ends and what it writes.
+/// What follows the sessions of a case.
+#[derive(Clone, Copy, Debug, PartialEq, Eq)]
+pub(crate) enum Then {
+    Nothing,
+    /// A tick, and a turn with the reminders.
+    Turns,
+    /// A tick two hours later.
+    LateTick,
+}
+
+// Serves a session over this connection, and appends how it ends and what it writes.
 fn serve<R: Wait>(
     rt: &R,
     alloc: Global,
     node: &SidecarNode,
     seats: Seats,
-    input: &[u8],
+    conn: &mut MemConn,
     links: &mut Links<MemDial>,
     clock: &mut MemClock,
     text: &mut String,
@@ -29,42 +39,79 @@ fn serve<R: Wait>(
     requires { IsSeatsOf node.now seats }
     ensures { IfSome result (λ seats. IsSeatsOf node.now seats) }
 {
-    let mut conn = conn_of(alloc, input)?;
     let side = Side::Caller;
-    let (seats, end) = sidecar_session(rt, alloc, node, seats, side, &mut conn, links, clock);
+    let (seats, end) = sidecar_session(rt, alloc, node, seats, side, conn, links, clock);
     add(format!(in alloc; "{end:?}|").ok()?.as_str(), text)?;
     add_bytes(alloc, conn.written(), text)?;
     Some(seats)
 }
 
-/// A session with links that answer so; and, if `then` says so, a tick and a turn with the reminders behind it.
-pub(crate) fn session<R: Wait>(
+// The same of the second caller, if there is one.
+fn serve_second<R: Wait>(
+    rt: &R,
+    alloc: Global,
+    node: &SidecarNode,
+    seats: Seats,
+    caller: &str,
+    links: &mut Links<MemDial>,
+    clock: &mut MemClock,
+    text: &mut String,
+) -> Option<Seats>
+    requires { IsSeatsOf node.now seats }
+    ensures { IfSome result (λ seats. IsSeatsOf node.now seats) }
+{
+    if caller.is_empty() {
+        return Some(seats);
+    }
+    let mut conn = conn(alloc, caller)?;
+    add("|", text)?;
+    serve(rt, alloc, node, seats, &mut conn, links, clock, text)
+}
+
+// Serves the sessions of one or two callers, one after the other.
+fn serve_callers<R: Wait>(
+    rt: &R,
+    alloc: Global,
+    node: &SidecarNode,
+    seats: Seats,
+    callers: &str,
+    links: &mut Links<MemDial>,
+    clock: &mut MemClock,
+    text: &mut String,
+) -> Option<Seats>
+    requires { IsSeatsOf node.now seats }
+    ensures { IfSome result (λ seats. IsSeatsOf node.now seats) }
+{
+    let (first, second) = cut(callers, ';');
+    let mut conn = conn(alloc, first)?;
+    let seats = serve(rt, alloc, node, seats, &mut conn, links, clock, text)?;
+    serve_second(rt, alloc, node, seats, second, links, clock, text)
+}
+
+/// The sessions of callers, with links that answer so, and what follows them.
+pub(crate) fn sessions<R: Wait>(
     rt: &R,
     alloc: Global,
     case: &str,
-    then: bool,
+    then: Then,
     text: &mut String,
 ) -> Option<()> {
-    let (input, rest) = cut(case, '|');
-    let (app, store) = cut(rest, '|');
-    let input = bytes_of(alloc, input)?;
-    let mut links = links_of(alloc, app, store)?;
+    let (callers, rest) = cut(case, '|');
+    let (app, rest) = cut(rest, '|');
+    let (store, peer) = cut(rest, '|');
+    let has_peer = !peer.is_empty();
+    let mut links = links_of(alloc, app, store, peer)?;
     let mut clock = clock(alloc)?;
-    let (node, seats) = open_node(rt, alloc)?;
-    let seats = serve(
-        rt,
-        alloc,
-        &node,
-        seats,
-        input.as_slice(),
-        &mut links,
-        &mut clock,
-        text,
+    let (node, seats) = open_node(rt, alloc, has_peer)?;
+    let seats = serve_callers(
+        rt, alloc, &node, seats, callers, &mut links, &mut clock, text,
     )?;
-    if then {
-        add_turns(rt, alloc, &node, seats, &mut links, &mut clock, text)?;
+    match then {
+        Then::Nothing => {}
+        Then::Turns => add_turns(rt, alloc, &node, seats, &mut links, &mut clock, text)?,
+        Then::LateTick => add_late_tick(rt, alloc, &node, seats, &mut links, text)?,
     }
-    add_links(alloc, &links, text)
+    add_links(alloc, &links, has_peer, text)
 }
 
 // How a tick ends, and then a turn with the reminders.
@@ -85,14 +132,31 @@ fn add_turns<R: Wait>(
     add(format!(in alloc; "|{ended:?}").ok()?.as_str(), text)
 }
 
+// How a tick ends two hours later.
+fn add_late_tick<R: Wait>(
+    rt: &R,
+    alloc: Global,
+    node: &SidecarNode,
+    seats: Seats,
+    links: &mut Links<MemDial>,
+    text: &mut String,
+) -> Option<()>
+    requires { IsSeatsOf node.now seats }
+{
+    let mut clock = later_clock(alloc)?;
+    let (_seats, ticked) = tick_turn(rt, alloc, node, seats, links, &mut clock);
+    add(format!(in alloc; "|{ticked:?}").ok()?.as_str(), text)
+}
+
 // Whether a session over these bytes ends as one that were cut, without a response.
 fn is_cut<R: Wait>(rt: &R, alloc: Global, bytes: &[u8]) -> Option<bool> {
-    let mut links = links_of(alloc, "", "")?;
+    let mut links = links_of(alloc, "", "", "")?;
     let mut clock = clock(alloc)?;
     let mut text = String::new(alloc);
-    let (node, seats) = open_node(rt, alloc)?;
+    let mut conn = conn_of(alloc, bytes)?;
+    let (node, seats) = open_node(rt, alloc, false)?;
     let _seats = serve(
-        rt, alloc, &node, seats, bytes, &mut links, &mut clock, &mut text,
+        rt, alloc, &node, seats, &mut conn, &mut links, &mut clock, &mut text,
     )?;
     Some(text.as_str() == "Malformed { requests: 0 }|")
 }
