@@ -81,7 +81,10 @@ class Handler(BaseHTTPRequestHandler):
         words = self.path.split("?")[0].split("/", 5)
         if len(words) < 6 or words[1:3] != ["actors", "counter"] or words[4] != "method":
             return self.reply(404)
-        answer = called(words[3], words[5])
+        try:
+            answer = called(words[3], words[5])
+        except (OSError, RuntimeError):    # the sidecar is gone, or it refused
+            return self.reply(500)
         self.reply(404) if answer is None else self.reply(200, answer)
 
     def do_DELETE(self):

@@ -1,4 +1,5 @@
 """Frames to a placement and back, as docs/frames.md has them, and what examples/placement/run does with them."""
+import itertools
 import socket
 import struct
 import sys
@@ -117,6 +118,53 @@ def join_until_cut(port, first):
         return greatest
 
 
+def join_and_leave(port, links, flag):
+    """Lets nodes join and leave on so many connections until the server is gone, and makes a file of this name once each
+    connection has done so a few times. Returns the nodes whose last frame was answered, each as a word, its node and its
+    boot: it has joined or it has left."""
+    told = {}
+    busy = threading.Barrier(links, action=lambda: open(flag, "w", encoding="utf-8").close())
+
+    def say(link, node, word, boot):
+        told.pop(node, None)
+        message = register(node, boot) if word == "joined" else leave(node, boot)
+        if ask(link, message)[0] != "refused":
+            told[node] = (word, node, boot)
+
+    def one(part):
+        try:
+            with dial(port) as link:
+                for turn in itertools.count():
+                    if turn == 12:
+                        busy.wait(60)
+                    boot, number = turn // 5 + 1, turn % 5
+                    comes_back = number % 3 > 0
+                    if boot == 2 or boot > 2 and comes_back:
+                        say(link, f"m{part}-{number}", "left", boot - 1)
+                    if boot == 1 or comes_back:
+                        say(link, f"m{part}-{number}", "joined", boot)
+        except (OSError, threading.BrokenBarrierError):
+            return
+
+    threads = [threading.Thread(target=one, args=(part,)) for part in range(links)]
+    for thread in threads:
+        thread.start()
+    for thread in threads:
+        thread.join()
+    return sorted(told.values())
+
+
+def forgotten(port, file):
+    """Of the nodes in a file, how many are members that have left, or aren't though they have joined."""
+    wrong = 0
+    with dial(port) as link, open(file, encoding="utf-8") as lines:
+        for line in lines:
+            word, node, boot = line.split()
+            if (ask(link, beat(node, int(boot))) == ("refused", 3)) != (word == "left"):
+                wrong += 1
+    return wrong
+
+
 def main():
     command, port = sys.argv[1], int(sys.argv[2])
     if command == "round":
@@ -134,6 +182,11 @@ def main():
         time.sleep(float(sys.argv[3]))
     elif command == "load":
         print(join_until_cut(port, int(sys.argv[3])))
+    elif command == "churn":
+        for word, node, boot in join_and_leave(port, int(sys.argv[3]), sys.argv[4]):
+            print(word, node, boot)
+    elif command == "forgotten":
+        print(forgotten(port, sys.argv[3]))
 
 
 if __name__ == "__main__":
