@@ -65,13 +65,16 @@ class Handler(BaseHTTPRequestHandler):
 
     def reply(self, status, value=None):
         body = b"" if value is None else json.dumps(value).encode()
+        self.close_connection = True
         self.send_response(status)
         self.send_header("Content-Type", "application/json")
         self.send_header("Content-Length", str(len(body)))
         self.send_header("Connection", "close")
-        self.end_headers()
-        self.wfile.write(body)
-        self.close_connection = True
+        try:
+            self.end_headers()
+            self.wfile.write(body)
+        except ConnectionError:  # the sidecar is gone
+            pass
 
     def do_GET(self):
         self.reply(200, CONFIG) if self.path == "/dapr/config" else self.reply(404)
