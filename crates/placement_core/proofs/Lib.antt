@@ -5,6 +5,7 @@ mod Recorded
 mod Refusals
 mod Replays
 mod Restored
+mod Rows
 mod Searched
 pub mod Settling
 pub mod Sound

@@ -60,7 +60,8 @@ impl PlacementReplay {
                 read_room.room.follow(&entry.change)
             }
             Err(at) => {
-                if self.rooms.len() >= 64 {
+                let full = self.rooms.len() >= 64;
+                if full {
                     return Ok(false);
                 }
                 let mut room = RoomReplay::new(self.alloc);

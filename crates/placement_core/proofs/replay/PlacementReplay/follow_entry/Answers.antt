@@ -23,18 +23,18 @@ returns-in-Ok c =
     let p : place_by read_space c.args.entry.now.space c.self.inside.rooms.items ≡ Ok c.in-Ok.at = rw c.deref.ensures.value at (sym c.read_place.ensures.place ∙ c.in-Ok.is) in
     rw (← c.self.view_is) (entry_follows c.args.entry.now.space c.self.inside.rooms.items c.in-Ok.at c.index_mut-read_room.result.now c.follow.new.self (record_of c.args.entry.now.change) c.follow.result p c.index_mut-read_room.ensures.value c.follow.ensures)
 
-pub returns-then-len-ge64 : goal.returns-then-len-ge64
-returns-then-len-ge64 c =
+pub returns-then-full : goal.returns-then-full
+returns-then-full c =
     let p : place_by read_space c.args.entry.now.space c.self.inside.rooms.items ≡ Err c.in-Err.at = rw c.deref.ensures.value at (sym c.read_place.ensures.place ∙ c.in-Err.is) in
-    let count : c.len.result ≡ length c.self.inside.rooms.items = c.len.ensures ∙ c.self.inside.rooms.ok.0 in
-    let full = c.if-len-ge64.true in
+    let count : c.len-full.result ≡ length c.self.inside.rooms.items = c.len-full.ensures ∙ c.self.inside.rooms.ok.0 in
+    let full = c.if-full.true in
     rw (← c.self.view_is) (entry_full c.args.entry.now.space c.self.inside.rooms.items c.in-Err.at (record_of c.args.entry.now.change) c.self.invariant.0 p (omega arith))
 
 pub returns-then-not-branch : goal.returns-then-not-branch
 returns-then-not-branch c =
     let p : place_by read_space c.args.entry.now.space c.self.inside.rooms.items ≡ Err c.in-Err.at = rw c.deref.ensures.value at (sym c.read_place.ensures.place ∙ c.in-Err.is) in
-    let count : c.len.result ≡ length c.self.inside.rooms.items = c.len.ensures ∙ c.self.inside.rooms.ok.0 in
-    let few = c.if-len-ge64.false in
+    let count : c.len-full.result ≡ length c.self.inside.rooms.items = c.len-full.ensures ∙ c.self.inside.rooms.ok.0 in
+    let few = c.if-full.false in
     let bad : c.in_ok-follow-in-Err.field-0 ≡ false = c.if-not-branch.true in
     rw (← c.self.view_is) (entry_bad c.args.entry.now.space c.self.inside.rooms.items c.in-Err.at c.new-room.result c.follow-in-Err.new.self (record_of c.args.entry.now.change) c.in_ok-follow-in-Err.field-0 c.self.invariant.0 p (omega arith) c.new-room.ensures c.in_ok-follow-in-Err.ensures bad)
 
@@ -44,8 +44,8 @@ invariant_of-self-in-Err c =
     let ks = c.self.inside.rooms.items in
     let new : ReadRoom = record { space = c.args.entry.now.space; room = c.follow-in-Err.new.self } in
     let items : c.insert.new.self.items ≡ insert ks c.in-Err.at new = c.in_ok-insert-in-Err.ensures.items in
-    let count : c.len.result ≡ length ks = c.len.ensures ∙ c.self.inside.rooms.ok.0 in
-    let few = c.if-len-ge64.false in
+    let count : c.len-full.result ≡ length ks = c.len-full.ensures ∙ c.self.inside.rooms.ok.0 in
+    let few = c.if-full.false in
     let long = length-insert ks c.in-Err.at new (err_within read_space c.args.entry.now.space ks c.in-Err.at p) in
     (rw items (ascends_insert read_space new ks c.in-Err.at p c.self.invariant.0), rw items (omega arith), rw items (omega arith))
 
@@ -55,7 +55,7 @@ returns-in_ok-insert-in-Err c =
     let ks = c.self.inside.rooms.items in
     let new : ReadRoom = record { space = c.args.entry.now.space; room = c.follow-in-Err.new.self } in
     let items : c.insert.new.self.items ≡ insert ks c.in-Err.at new = c.in_ok-insert-in-Err.ensures.items in
-    let count : c.len.result ≡ length ks = c.len.ensures ∙ c.self.inside.rooms.ok.0 in
-    let few = c.if-len-ge64.false in
+    let count : c.len-full.result ≡ length ks = c.len-full.ensures ∙ c.self.inside.rooms.ok.0 in
+    let few = c.if-full.false in
     let good : c.in_ok-follow-in-Err.field-0 ≡ true = c.if-not-branch.false in
     rw (← c.self.view_is, items) (entry_made c.args.entry.now.space ks c.in-Err.at c.new-room.result c.follow-in-Err.new.self (record_of c.args.entry.now.change) c.in_ok-follow-in-Err.field-0 c.self.invariant.0 p (omega arith) c.new-room.ensures c.in_ok-follow-in-Err.ensures good)
