@@ -155,6 +155,16 @@ drain_time_runs = refl
 drain_time_is_over : ended_calls (marks_after moving (events.Tick 60020)) ≡ 1 ∷ []
 drain_time_is_over = refl
 
+-- without a drain time a turn ends at the next Tick, but at no moment before the table's
+abbrev hurried : List PartEvent
+hurried = opened ++ ask chained ∷ events.Lock 2 ∷ events.Update table_2 20 ∷ []
+
+no_drain_time_is_over : ended_calls (marks_after hurried (events.Tick 20)) ≡ 1 ∷ []
+no_drain_time_is_over = refl
+
+clock_that_went_back_ends_none : reply_after hurried (events.Tick 19) ≡ replies.Ticked (shown 2 1 seen.Draining) 0
+clock_that_went_back_ends_none = refl
+
 foreign_actor_closes : reply_after (moving ++ events.End 1 21 ∷ []) (events.TakeClosing 21) ≡ replies.Close key
 foreign_actor_closes = refl
 

@@ -364,9 +364,10 @@ module _ (owner : PlacementTable → ActorKey → Option HostInfo) where
 
   -- ---- time
 
-  -- whether the drain time of the actor's type has passed since the table was installed
+  -- Whether the drain time of the actor's type has passed since the table was installed. At a moment before that no
+  -- time has passed, so not even a drain time of 0 is over.
   abbrev pub is_overdue : PartState → ℕ → ActorCell → Bool
-  is_overdue p now c = nat_le (settings_of p.kinds c.key.kind).drain_ms (now - p.since)
+  is_overdue p now c = nat_le p.since now && nat_le (settings_of p.kinds c.key.kind).drain_ms (now - p.since)
 
   abbrev pub end_turns_in : ActorCell → ℕ → CellStep
   end_turns_in c now =

@@ -11,11 +11,13 @@ use crate::settings::drain_of;
 use crate::standing::Standing;
 use part_cells::{ActorCell, CellTest};
 
-/// Whether the drain time of the actor's type has passed since the table was installed.
+/// Whether the drain time of the actor's type has passed since the table was installed. If the clock went back, it
+/// has not, not even a drain time of 0.
 fn is_overdue(standing: &Standing, now: u64, cell: &ActorCell) -> bool
     ensures { result ≡ is_overdue ring_owner (state_of standing.now no_actors) now cell.now }
 {
-    drain_of(standing.kinds.as_slice(), &cell.key.kind) <= now.saturating_sub(standing.since)
+    standing.since <= now
+        && drain_of(standing.kinds.as_slice(), &cell.key.kind) <= now.saturating_sub(standing.since)
 }
 
 /// Whether turns of an actor of another owner are open and its drain time is over.
