@@ -98,24 +98,38 @@ next_cases b c P none some =
 -- a cell that was never called
 pub first_sound : (key : ActorKey) (depth : ℕ) → IsActorSound (first_cell key depth)
 first_sound key depth =
-    record { sound = new_cell_sound depth; open_active = λ t i. absurd i; closing_active = λ e. absurd (false≢true e); closing_free = λ e. absurd (false≢true e) }
+    record {
+      sound = new_cell_sound depth;
+      open_active = λ t i. absurd i;
+      closing_active = λ e. absurd (false≢true e);
+      closing_free = λ e. absurd (false≢true e);
+      closing_unheld = λ e. absurd (false≢true e);
+    }
 
 -- a cell that is active and not closing
 pub open_sound : (x : ActorCell) → IsCellSound x.inner → x.active ≡ true → (x.closing ≡ true → ⊥) → IsActorSound x
-open_sound x s a k = record { sound = s; open_active = λ t i. a; closing_active = λ e. absurd (k e); closing_free = λ e. absurd (k e) }
+open_sound x s a k =
+    record {
+      sound = s;
+      open_active = λ t i. a;
+      closing_active = λ e. absurd (k e);
+      closing_free = λ e. absurd (k e);
+      closing_unheld = λ e. absurd (k e);
+    }
 
 -- a cell whose turns are among those of another
-pub less_sound : (c x : ActorCell) → IsActorSound c → IsCellSound x.inner → ((t : Turn) → In t x.inner.turns → In t c.inner.turns) → x.active ≡ c.active → (x.closing ≡ true → (x.active ≡ true) × (x.inner.turns ≡ [])) → IsActorSound x
+pub less_sound : (c x : ActorCell) → IsActorSound c → IsCellSound x.inner → ((t : Turn) → In t x.inner.turns → In t c.inner.turns) → x.active ≡ c.active → (x.closing ≡ true → (x.active ≡ true) × (x.inner.turns ≡ []) × (x.inner.holds ≡ 0)) → IsActorSound x
 less_sound c x s inner among active closing =
     record {
       sound = inner;
       open_active = λ t i. active ∙ s.open_active t (among t i);
       closing_active = λ e. (closing e).0;
       closing_free = λ e. (closing e).1;
+      closing_unheld = λ e. (closing e).2;
     }
 
-pub closing_facts : (c : ActorCell) → IsActorSound c → c.closing ≡ true → (c.active ≡ true) × (c.inner.turns ≡ [])
-closing_facts c s e = (s.closing_active e, s.closing_free e)
+pub closing_facts : (c : ActorCell) → IsActorSound c → c.closing ≡ true → (c.active ≡ true) × (c.inner.turns ≡ []) × (c.inner.holds ≡ 0)
+closing_facts c s e = (s.closing_active e, s.closing_free e, s.closing_unheld e)
 
 -- a cell with an open turn isn't closing
 pub not_closing : (c : ActorCell) → IsActorSound c → (t : Turn) → In t c.inner.turns → c.closing ≡ true → ⊥

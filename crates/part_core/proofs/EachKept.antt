@@ -15,7 +15,7 @@ use Rattle.part_core.specs.Part.{PartState, CellStep, each_cell, is_own, is_fore
 use Rattle.part_core.specs.Actors.{IsNumbered, AreActorsKept}
 use Rattle.part_core.proofs.Numbers.{numbered_next, next_in_line, numbered_moved, numbered_stopped}
 use Rattle.part_core.proofs.AskedGives.{begun-marks_of_begin}
-use Rattle.part_core.proofs.PartOrders.{In-each_cell}
+use Rattle.part_core.proofs.PartOrders.{In-each_cell, length-each_cell}
 use Rattle.part_core.proofs.EachCell.{begun-append, ended-append, append_nil}
 
 -- ---- cells, marks and counts, by what one cell gives
@@ -40,10 +40,6 @@ module _ (f : ActorCell → CellStep) where
   pub each-second : (h : ActorCell → ℕ) → ((c : ActorCell) → h c ≡ (f c).second) → (cs : List ActorCell) → total h cs ≡ (each_cell f cs).second
   each-second h e [] = refl
   each-second h e (c ∷ cs) = λ i. e c i + each-second h e cs i
-
-  pub length-each : (cs : List ActorCell) → length (each_cell f cs).cells ≡ length cs
-  length-each [] = refl
-  length-each (c ∷ cs) = let l = length-each cs in omega arith
 
 -- ---- an opening
 
@@ -147,7 +143,7 @@ kept_each drawn room room' f cells k e has =
     record {
       drawn_fits = k.drawn_fits;
       numbered = λ d i. let m = In-each_cell f cells d i in subst (λ (z : ActorCell). IsNumbered drawn z.inner) (sym m.2) (e.numbered m.0 (k.numbered m.0 m.1));
-      few = (let l = length-each f cells in let h = k.few in omega arith);
+      few = (let l = length-each_cell f cells in let h = k.few in omega arith);
       counted = (let h = k.counted in omega arith);
       has_room = (let h = k.has_room in omega arith);
     }

@@ -11,7 +11,9 @@ mod Runnings
 mod Shallow
 mod Rows
 pub mod CellLaws
+pub mod CellCalls
 pub mod PartOrders
+pub mod Limits
 pub mod PartWrites
 pub mod PartSteps
 pub mod PartTables

@@ -1,5 +1,5 @@
 -- What changes of a part's cells keep: the order of the keys, the number of holds, and where elements come from.
-use Rattle.std.proofs.Common.{◌≡◌, true, ◌+◌, ◌≤◌, List, [], ◌∷◌, refl, sym, ap, subst, ◌∙◌, inl, inr, arith}
+use Rattle.std.proofs.Common.{◌≡◌, true, ◌+◌, ◌≤◌, List, [], ◌∷◌, length, refl, sym, ap, subst, ◌∙◌, inl, inr, arith}
 use Rattle.std.proofs.lemmas.Bool.{cond_both, cond-true}
 use Rattle.actor_names.specs.declared.actor_key.ActorKey.{ActorKey}
 use Rattle.turn_core.specs.CellSound.{In}
@@ -15,6 +15,10 @@ pub In-each_cell : (f : ActorCell → CellStep) (cs : List ActorCell) (y : Actor
 In-each_cell f [] y h = absurd h
 In-each_cell f (c ∷ cs) y (inl e) = (c, inl refl, e)
 In-each_cell f (c ∷ cs) y (inr i) = let m = In-each_cell f cs y i in (m.0, inr m.1, m.2)
+
+pub length-each_cell : (f : ActorCell → CellStep) (cs : List ActorCell) → length (each_cell f cs).cells ≡ length cs
+length-each_cell f [] = refl
+length-each_cell f (c ∷ cs) = let l = length-each_cell f cs in omega arith
 
 -- each cell changes and keeps its key
 pub order-each_cell : (f : ActorCell → CellStep) (cs : List ActorCell) → ((c : ActorCell) → (f c).cell.key ≡ c.key) → AreInOrder cs → AreInOrder (each_cell f cs).cells

@@ -1,7 +1,7 @@
 -- What tables, time and the stop keep of a part, and with that what every step keeps.
 use Rattle.std.proofs.Common.{◌≡◌, ◌⊎◌, ℕ, true, not, ◌&&◌, ◌+◌, List, Option, refl, sym, ap, ◌∙◌, subst, inl, inr, arith}
 use Rattle.std.specs.Prelude.{nat_lt, ◌==◌}
-use Rattle.std.proofs.lemmas.Bool.{or_left, and_parts, eqb-true, ltb-true, cond_both, true≢false, not-true}
+use Rattle.std.proofs.lemmas.Bool.{or_left, and_parts, eqb-true, ltb-true, leb-false, cond_both, true≢false, not-true}
 use Rattle.actor_names.specs.declared.actor_key.ActorKey.{ActorKey}
 use Rattle.actor_names.specs.declared.member.Member.{Member}
 use Rattle.place_table.specs.declared.host.HostInfo.{HostInfo}
@@ -17,11 +17,13 @@ use Rattle.part_core.specs.declared.event.PartEvent.TheVariants as events
 use Rattle.part_cells.specs.declared.actor_cell.ActorCell.{ActorCell}
 use Rattle.part_cells.specs.Cells.{cell_at, cell_of_call, is_kept}
 use Rattle.part_core.specs.Part
-use Rattle.part_core.specs.Part.{PartState, PartStep, CellStep, new_part, is_locked, is_updated, is_spent, is_own, is_foreign, is_drained, each_cell}
+use Rattle.part_core.specs.Part.{PartState, PartStep, CellStep, new_part, is_locked, is_updated, is_spent, is_own, is_foreign, is_drained, each_cell, most_drawn}
 use Rattle.part_core.specs.Sound.{IsActorSound, IsWorkDone, IsPartSound}
 use Rattle.part_core.specs.PartMoves.{keeps, locks, updates, opens, stops, Stepped}
 use Rattle.part_core.proofs.CellLaws.{next_cases, all_moved_moved, length-all_moved, not_nil_after, less_sound, open_sound, closing_facts, begun_sound}
+use Rattle.part_core.proofs.CellCalls.{stopped_gets, begun_gets, moved_gets}
 use Rattle.part_core.proofs.PartOrders.{In-each_cell, order-each_cell, total_holds-each}
+use Rattle.part_core.proofs.Limits.{AddsNoCall, none_within, each_within}
 use Rattle.part_core.proofs.PartWrites.{locked_stage, updated_stage, updated_not_open, locked_not_stopped, updated_not_stopped, open_not_stopped, or-false, or-true, kept_with, idle_of, empty_of, stays, draws}
 use Rattle.part_core.proofs.PartSteps.{none_waits, ask_stepped, poll_stepped, end_stepped, hold_stepped, release_stepped, take_stepped, closed_stepped}
 
@@ -34,6 +36,7 @@ module _ (owner : PlacementTable → ActorKey → Option HostInfo) where
         in_order = tt;
         each_sound = λ c i. absurd i;
         each_kept = λ c i. absurd i;
+        limits = none_within kinds 0 (omega arith);
         holds_drawn = omega arith;
         no_idle_waiter = tt;
         stopped_empty = tt;
@@ -51,7 +54,7 @@ module _ (owner : PlacementTable → ActorKey → Option HostInfo) where
         kinds = refl;
         moves = locks refl (ltb-true p.seen version t) refl refl refl;
         active = λ c i a. inl (c, i, a, refl);
-        sound = record { in_order = s.in_order; each_sound = s.each_sound; each_kept = s.each_kept; holds_drawn = s.holds_drawn; no_idle_waiter = tt; stopped_empty = tt };
+        sound = record { in_order = s.in_order; each_sound = s.each_sound; each_kept = s.each_kept; limits = s.limits; holds_drawn = s.holds_drawn; no_idle_waiter = tt; stopped_empty = tt };
         drawn = omega arith;
         stop_stays = λ o. absurd (running o);
       })
@@ -68,7 +71,7 @@ module _ (owner : PlacementTable → ActorKey → Option HostInfo) where
         kinds = refl;
         moves = updates (locked_stage p.stage h.0) refl refl refl (eqb-true table.version p.seen h.1) refl;
         active = λ c i a. inl (c, i, a, refl);
-        sound = record { in_order = s.in_order; each_sound = s.each_sound; each_kept = s.each_kept; holds_drawn = s.holds_drawn; no_idle_waiter = tt; stopped_empty = tt };
+        sound = record { in_order = s.in_order; each_sound = s.each_sound; each_kept = s.each_kept; limits = s.limits; holds_drawn = s.holds_drawn; no_idle_waiter = tt; stopped_empty = tt };
         drawn = omega arith;
         stop_stays = λ o. absurd (running o);
       })
@@ -91,7 +94,7 @@ module _ (owner : PlacementTable → ActorKey → Option HostInfo) where
       record {
         key = refl;
         active = λ a. inl (sym (or-false d.active) ∙ a);
-        sound = less_sound d _ s s.sound (λ t i. i) (or-false d.active) (λ e. (or-false d.active ∙ s.closing_active e, s.closing_free e));
+        sound = less_sound d _ s s.sound (λ t i. i) (or-false d.active) (λ e. (or-false d.active ∙ s.closing_active e, s.closing_free e, s.closing_unheld e));
         kept = kept_with _ _ _ _ (or-false d.active) refl k;
         holds = refl;
         done = record {
@@ -131,6 +134,14 @@ module _ (owner : PlacementTable → ActorKey → Option HostInfo) where
       (λ _. next_cases (not d.closing) d.inner (λ n. (Part.begin_in owner p d n).cell.inner.holds ≡ d.inner.holds) (λ _. refl) (λ _ _ _ _. refl))
       (λ _. refl)
 
+  open_adds : (p : PartState) (d : ActorCell) → AddsNoCall d (Part.open_cell owner p d).cell
+  open_adds p d =
+      cond_both (is_own owner p d.key) _ _ (λ (x : CellStep). AddsNoCall d x.cell)
+      (λ _. next_cases (not d.closing) d.inner (λ n. AddsNoCall d (Part.begin_in owner p d n).cell)
+      (λ _. record { key = refl; depth = refl; calls = λ n h. h })
+      (λ _ _ w e. record { key = refl; depth = refl; calls = begun_gets d.inner w e }))
+      (λ _. record { key = refl; depth = refl; calls = moved_gets d.inner })
+
   -- each cell of a part that opened, and the one that it was
   opened_from : (p : PartState) → IsPartSound owner p → (c : ActorCell) → In c (each_cell (Part.open_cell owner (Part.as_open owner p)) p.cells).cells → (d : ActorCell) × In d p.cells × OpensWell (Part.as_open owner p) d c
   opened_from p s c i =
@@ -150,6 +161,7 @@ module _ (owner : PlacementTable → ActorKey → Option HostInfo) where
           in_order = order-each_cell (Part.open_cell owner (Part.as_open owner p)) p.cells (open_key (Part.as_open owner p)) s.in_order;
           each_sound = λ c i. (let w = (from c i).2 in w.sound);
           each_kept = λ c i. (let w = (from c i).2 in w.kept);
+          limits = each_within p.kinds p.drawn p.cells s.limits (Part.open_cell owner (Part.as_open owner p)) (open_adds (Part.as_open owner p));
           holds_drawn = (let e = total_holds-each (Part.open_cell owner (Part.as_open owner p)) p.cells (open_holds (Part.as_open owner p)) in let h = s.holds_drawn in omega arith);
           no_idle_waiter = λ c i. (let d = (from c i).2.done in record { foreign = d.foreign; free = d.free });
           stopped_empty = tt;
@@ -186,7 +198,7 @@ module _ (owner : PlacementTable → ActorKey → Option HostInfo) where
       record {
         key = refl;
         active = refl;
-        sound = less_sound d _ s (end_all_keeps d.inner s.sound).sound (λ t i. absurd i) refl (λ e. (s.closing_active e, refl));
+        sound = less_sound d _ s (end_all_keeps d.inner s.sound).sound (λ t i. absurd i) refl (λ e. (s.closing_active e, refl, s.closing_unheld e));
         kept = k;
         holds = refl;
       })
@@ -199,6 +211,12 @@ module _ (owner : PlacementTable → ActorKey → Option HostInfo) where
   tick_holds : (p : PartState) (now : ℕ) (d : ActorCell) → (Part.tick_cell owner p now d).cell.inner.holds ≡ d.inner.holds
   tick_holds p now d =
       cond_both (not (is_free d.inner) && (is_foreign owner p d.key && Part.is_overdue owner p now d)) _ _ (λ (x : CellStep). x.cell.inner.holds ≡ d.inner.holds) (λ _. refl) (λ _. refl)
+
+  tick_adds : (p : PartState) (now : ℕ) (d : ActorCell) → AddsNoCall d (Part.tick_cell owner p now d).cell
+  tick_adds p now d =
+      cond_both (not (is_free d.inner) && (is_foreign owner p d.key && Part.is_overdue owner p now d)) _ _ (λ (x : CellStep). AddsNoCall d x.cell)
+      (λ _. record { key = refl; depth = refl; calls = stopped_gets d.inner })
+      (λ _. record { key = refl; depth = refl; calls = λ n h. h })
 
   ticked_from : (p : PartState) (now : ℕ) → IsPartSound owner p → (c : ActorCell) → In c (each_cell (Part.tick_cell owner p now) p.cells).cells → (d : ActorCell) × In d p.cells × TicksWell d c
   ticked_from p now s c i =
@@ -222,6 +240,7 @@ module _ (owner : PlacementTable → ActorKey → Option HostInfo) where
           in_order = order-each_cell (Part.tick_cell owner p now) p.cells (tick_key p now) s.in_order;
           each_sound = λ c i. (let w = (from c i).2 in w.sound);
           each_kept = λ c i. (let w = (from c i).2 in w.kept);
+          limits = each_within p.kinds p.drawn p.cells s.limits (Part.tick_cell owner p now) (tick_adds p now);
           holds_drawn = (let e = total_holds-each (Part.tick_cell owner p now) p.cells (tick_holds p now) in let h = s.holds_drawn in omega arith);
           no_idle_waiter = idle_of owner p.stage q (λ o. absurd (updated_not_open (sym up ∙ o)));
           stopped_empty = empty_of owner p.stage q (λ o. absurd (updated_not_stopped (sym up ∙ o)));
@@ -231,22 +250,31 @@ module _ (owner : PlacementTable → ActorKey → Option HostInfo) where
       })
       (λ _. stays owner p e s)
 
-  pub stop_stepped : (p : PartState) → Stepped owner p events.StopPart (Part.stop_part owner p).part
-  stop_stepped p =
+  pub stop_stepped : (p : PartState) → IsPartSound owner p → Stepped owner p events.StopPart (Part.stop_part owner p).part
+  stop_stepped p s =
       record {
         member = refl;
         number = refl;
         kinds = refl;
         moves = stops refl refl refl refl refl refl;
         active = λ c i. absurd i;
-        sound = record { in_order = tt; each_sound = λ c i. absurd i; each_kept = λ c i. absurd i; holds_drawn = omega arith; no_idle_waiter = tt; stopped_empty = refl };
+        sound = record {
+          in_order = tt;
+          each_sound = λ c i. absurd i;
+          each_kept = λ c i. absurd i;
+          limits = none_within p.kinds p.drawn s.limits.drawn_within;
+          holds_drawn = omega arith;
+          no_idle_waiter = tt;
+          stopped_empty = refl;
+        };
         drawn = omega arith;
         stop_stays = λ _. refl;
       }
 
   pub draw_stepped : (p : PartState) (e : PartEvent) → IsPartSound owner p → Stepped owner p e (Part.draw_part owner p).part
   draw_stepped p e s =
-      cond_both (is_spent p) _ _ (λ (x : PartStep). Stepped owner p e x.part) (λ _. stays owner p e s) (λ _. draws owner p e (p.drawn + 1) (omega arith) s)
+      cond_both (is_spent p) _ _ (λ (x : PartStep). Stepped owner p e x.part) (λ _. stays owner p e s)
+      (λ u. draws owner p e (p.drawn + 1) (omega arith) (let l = leb-false most_drawn p.drawn u in omega arith) s)
 
   -- ---- every event
 
@@ -264,7 +292,7 @@ module _ (owner : PlacementTable → ActorKey → Option HostInfo) where
   running_stepped p (events.Tick now) s running = tick_stepped p _ now s
   running_stepped p (events.TakeClosing now) s running = take_stepped owner p _ now (Part.first_to_close owner p now p.cells) refl s running
   running_stepped p (events.Closed key) s running = closed_stepped owner p _ key (cell_at p.cells key) refl s running
-  running_stepped p events.StopPart s running = stop_stepped p
+  running_stepped p events.StopPart s running = stop_stepped p s
 
   stopped_stepped : (p : PartState) (e : PartEvent) → IsPartSound owner p → Stepped owner p e (Part.stopped_step owner p e).part
   stopped_stepped p events.StopPart s = stays owner p _ s

@@ -20,7 +20,7 @@ use Rattle.part_cells.specs.Cells.{cell_at}
 use Rattle.part_core.specs.Marks.{PartMark, TurnBegan, TurnEnded, BecameActive, BecameInactive, PartOpened}
 use Rattle.part_core.specs.Part.{PartState, new_part, part_step}
 use Rattle.part_core.specs.Sound.{IsPartSound}
-use Rattle.part_core.specs.Activity.{Activity, activity_of, after_mark, is_mark_of, replay, turn_marks, AreTidy, Replays}
+use Rattle.part_core.specs.Activity.{Activity, activity_of, after_mark, is_mark_of, replay, turn_marks, AreTidy}
 use Rattle.part_core.specs.PartRuns.{part_after, marks_after}
 use Rattle.part_cells.proofs.KeyOrders.{same_key-true}
 use Rattle.part_cells.proofs.Elements.{In-cell_at, key-cell_at}
@@ -131,26 +131,13 @@ enters_marks depth k (BecameInactive key ∷ ms) a tidy s =
     ]
 enters_marks depth k (PartOpened number version ∷ ms) a tidy s = enters_marks depth k ms a tidy.1 s
 
--- ---- each cell has the depth of its type
-
-abbrev pub HaveTypesDepth : PartState → Type 0
-HaveTypesDepth p = (c : ActorCell) → In c p.cells → (settings_of p.kinds c.key.kind).depth ≡ c.inner.depth
-
-depth_after : (e : PartEvent) (p q : PartState) (marks : List PartMark) → q.kinds ≡ p.kinds → Replays e p q marks → HaveTypesDepth p → HaveTypesDepth q
-depth_after e p q marks kinds r h c i =
-    ap (λ (ts : List TypeSettings). (settings_of ts c.key.kind).depth) kinds
-    ∙ elim (r.cells c i) [
-      | inl f ↦ ap (λ (k : ActorKey). (settings_of p.kinds k.kind).depth) (sym f.2) ∙ h f.0 f.1 ∙ f.3
-      | inr f ↦ f.1
-    ]
-
 module _ (owner : PlacementTable → ActorKey → Option HostInfo) where
-  turns_sound : (p : PartState) (k : ActorKey) (found : Option ActorCell) → cell_at p.cells k ≡ found → IsPartSound owner p → HaveTypesDepth p → AreTurnsSound (settings_of p.kinds k.kind).depth (activity_of found).turns
-  turns_sound p k None f s h = record { one_chain = λ t u i j. absurd i; within = omega arith; fit = λ t i. absurd i }
-  turns_sound p k (Some c) f s h =
+  turns_sound : (p : PartState) (k : ActorKey) (found : Option ActorCell) → cell_at p.cells k ≡ found → IsPartSound owner p → AreTurnsSound (settings_of p.kinds k.kind).depth (activity_of found).turns
+  turns_sound p k None f s = record { one_chain = λ t u i j. absurd i; within = omega arith; fit = λ t i. absurd i }
+  turns_sound p k (Some c) f s =
       let i = In-cell_at p.cells k c f in
       let sound = (s.each_sound c i).sound in
-      let deep : c.inner.depth ≡ (settings_of p.kinds k.kind).depth = sym (h c i) ∙ ap (λ (z : ActorKey). (settings_of p.kinds z.kind).depth) (key-cell_at p.cells k c f) in
+      let deep : c.inner.depth ≡ (settings_of p.kinds k.kind).depth = sym (s.limits.depths c i) ∙ ap (λ (z : ActorKey). (settings_of p.kinds z.kind).depth) (key-cell_at p.cells k c f) in
       subst (λ (n : ℕ). AreTurnsSound n c.inner.turns) deep (record { one_chain = sound.one_chain; within = sound.within; fit = sound.turns_fit })
 
   -- ---- lists of events
@@ -163,10 +150,10 @@ module _ (owner : PlacementTable → ActorKey → Option HostInfo) where
       ∙ ap (λ (a : Activity). replay (marks_after owner (part_step owner p e).part es) k a) ((part_replays owner p e s).activity k)
       ∙ sym (replay-append (part_step owner p e).marks (marks_after owner (part_step owner p e).part es) k (activity_of (cell_at p.cells k)))
 
-  run_enters : (p : PartState) (es : List PartEvent) (k : ActorKey) → IsPartSound owner p → HaveTypesDepth p
+  run_enters : (p : PartState) (es : List PartEvent) (k : ActorKey) → IsPartSound owner p
       → EntersAll (settings_of p.kinds k.kind).depth (activity_of (cell_at p.cells k)).turns (turn_marks k (marks_after owner p es))
-  run_enters p [] k s h = tt
-  run_enters p (e ∷ es) k s h =
+  run_enters p [] k s = tt
+  run_enters p (e ∷ es) k s =
       let q : PartState = (part_step owner p e).part in
       let marks : List PartMark = (part_step owner p e).marks in
       let rest : List PartMark = marks_after owner (part_step owner p e).part es in
@@ -174,13 +161,12 @@ module _ (owner : PlacementTable → ActorKey → Option HostInfo) where
       let a : Activity = activity_of (cell_at p.cells k) in
       let stepped = part_stepped owner p e s in
       let r = part_replays owner p e s in
-      let deep = depth_after e p q marks stepped.kinds r h in
       let kinds : (settings_of q.kinds k.kind).depth ≡ depth = ap (λ (ts : List TypeSettings). (settings_of ts k.kind).depth) stepped.kinds in
       let now : AreTurnsSound depth (replay marks k a).turns =
-      subst (λ (z : Activity). AreTurnsSound depth z.turns) (r.activity k) (subst (λ (n : ℕ). AreTurnsSound n (activity_of (cell_at q.cells k)).turns) kinds (turns_sound q k (cell_at q.cells k) refl stepped.sound deep)) in
+      subst (λ (z : Activity). AreTurnsSound depth z.turns) (r.activity k) (subst (λ (n : ℕ). AreTurnsSound n (activity_of (cell_at q.cells k)).turns) kinds (turns_sound q k (cell_at q.cells k) refl stepped.sound)) in
       let later : EntersAll depth (replay marks k a).turns (turn_marks k rest) =
       subst (λ (z : Activity). EntersAll depth z.turns (turn_marks k rest)) (r.activity k)
-      (subst (λ (n : ℕ). EntersAll n (activity_of (cell_at q.cells k)).turns (turn_marks k rest)) kinds (run_enters q es k stepped.sound deep)) in
+      (subst (λ (n : ℕ). EntersAll n (activity_of (cell_at q.cells k)).turns (turn_marks k rest)) kinds (run_enters q es k stepped.sound)) in
       subst (λ (ts : List TurnMark). EntersAll depth a.turns ts) (sym (turn_marks-append k marks rest))
       (EntersAll-append depth a.turns (turn_marks k marks) (turn_marks k rest) (enters_marks depth k marks a r.tidy now)
       (subst (λ (ts : List Turn). EntersAll depth ts (turn_marks k rest)) (sym (open_turns k marks a)) later))
@@ -189,4 +175,4 @@ module _ (owner : PlacementTable → ActorKey → Option HostInfo) where
   pub part_isolated : (m : Member) (number : ℕ) (kinds : List TypeSettings) (es : List PartEvent) (k : ActorKey) → TurnsIsolated (settings_of kinds k.kind).depth (turn_marks k (marks_after owner (new_part m number kinds) es))
   part_isolated m number kinds es k =
       isolated_from_enters (settings_of kinds k.kind).depth (turn_marks k (marks_after owner (new_part m number kinds) es))
-      (run_enters (new_part m number kinds) es k (new_part_sound owner m number kinds) (λ c i. absurd i))
+      (run_enters (new_part m number kinds) es k (new_part_sound owner m number kinds))

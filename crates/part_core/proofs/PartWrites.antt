@@ -1,23 +1,27 @@
 -- What a part keeps if nothing changes, or if one cell is written.
-use Rattle.std.proofs.Common.{◌≡◌, ◌⊎◌, ℕ, Bool, true, false, ◌||◌, ◌+◌, ◌≤◌, [], Option, None, Some, refl, sym, ◌∙◌, subst, inl, inr, arith}
+use Rattle.std.proofs.Common.{◌≡◌, ◌⊎◌, ℕ, Bool, true, false, ◌||◌, ◌+◌, ◌≤◌, ◌<◌, [], length, Option, None, Some, refl, sym, ◌∙◌, subst, inl, inr, arith}
 use Rattle.std.specs.Prelude.{nat_lt}
-use Rattle.std.proofs.lemmas.Bool.{false≢true}
+use Rattle.std.proofs.lemmas.Bool.{false≢true, leb-false}
 use Rattle.actor_names.specs.declared.actor_key.ActorKey.{ActorKey}
 use Rattle.place_table.specs.declared.host.HostInfo.{HostInfo}
 use Rattle.place_table.specs.Hosts.{PlacementTable}
+use Rattle.turn_core.specs.Cell.{is_in_cell}
 use Rattle.turn_core.specs.CellSound.{In}
 use Rattle.part_core.specs.declared.stage.Stage.{Stage}
 use Rattle.part_core.specs.declared.stage.Stage.TheVariants.{Locked, Updated, Open, Stopped}
 use Rattle.part_core.specs.declared.event.PartEvent.{PartEvent}
 use Rattle.part_cells.specs.declared.actor_cell.ActorCell.{ActorCell}
-use Rattle.part_cells.specs.Cells.{cell_at, drop_cell, is_kept, first_cell}
-use Rattle.part_core.specs.Part.{PartState, with_cell, found_or_first, is_open, is_updated, is_locked, is_own, is_owned_by}
-use Rattle.part_core.specs.Sound.{total_holds, IsActorSound, IsWorkDone, NoIdleWaiterAt, HasNoCellAt, IsPartSound}
+use Rattle.part_core.specs.Settings.{settings_of}
+use Rattle.part_cells.specs.Cells.{cell_at, drop_cell, keep_cell, is_kept, first_cell}
+use Rattle.part_core.specs.Part.{PartState, with_cell, found_or_first, is_full, is_open, is_updated, is_locked, is_own, is_owned_by, most_cells, most_drawn}
+use Rattle.part_core.specs.Sound.{total_holds, IsActorSound, IsWorkDone, NoIdleWaiterAt, HasNoCellAt, IsWithinLimits, IsPartSound}
 use Rattle.part_core.specs.PartMoves.{HadActive, keeps, Stepped}
 use Rattle.part_cells.proofs.Elements.{In-cell_at, In-keep_cell}
 use Rattle.part_cells.proofs.Orders.{order-keep_cell}
+use Rattle.part_cells.proofs.Sizes.{length-drop_cell}
 use Rattle.part_core.proofs.CellLaws.{first_sound}
 use Rattle.part_core.proofs.PartOrders.{total_holds-others, total_holds-new, total_holds-keep}
+use Rattle.part_core.proofs.Limits.{HadCall, more_within, found_room}
 
 -- ---- stages
 
@@ -97,8 +101,8 @@ module _ (owner : PlacementTable → ActorKey → Option HostInfo) where
 
   -- ---- nothing changes, or only the count of numbers
 
-  pub draws : (p : PartState) (e : PartEvent) (n : ℕ) → p.drawn ≤ n → IsPartSound owner p → Stepped owner p e (record p { drawn = n })
-  draws p e n le s =
+  pub draws : (p : PartState) (e : PartEvent) (n : ℕ) → p.drawn ≤ n → n ≤ most_drawn → IsPartSound owner p → Stepped owner p e (record p { drawn = n })
+  draws p e n le fits s =
       record {
         member = refl;
         number = refl;
@@ -109,6 +113,7 @@ module _ (owner : PlacementTable → ActorKey → Option HostInfo) where
           in_order = s.in_order;
           each_sound = s.each_sound;
           each_kept = s.each_kept;
+          limits = more_within p.kinds p.drawn p.cells s.limits n le fits;
           holds_drawn = (let h = s.holds_drawn in omega arith);
           no_idle_waiter = idle_of p.stage (record p { drawn = n }) (λ o c i. work_done p (record p { drawn = n }) c refl refl (at_open p.stage p o s.no_idle_waiter c i));
           stopped_empty = empty_of p.stage (record p { drawn = n }) (λ o. at_stopped p.stage p o s.stopped_empty);
@@ -137,6 +142,7 @@ module _ (owner : PlacementTable → ActorKey → Option HostInfo) where
     pub sound : IsActorSound x
     pub comes : x.active ≡ true → HadActive p x.key ⊎ ((p.stage ≡ Open) × (is_own owner p x.key ≡ true))
     pub done : p.stage ≡ Open → IsWorkDone owner p x
+    pub limits : IsWithinLimits p.kinds n (keep_cell p.cells x)
     pub held : total_holds (drop_cell p.cells x.key) + x.inner.holds ≤ n
     pub drawn : p.drawn ≤ n
 
@@ -156,6 +162,7 @@ module _ (owner : PlacementTable → ActorKey → Option HostInfo) where
           in_order = order-keep_cell p.cells x s.in_order;
           each_sound = λ d i. elim (In-keep_cell p.cells x d i) [ inl h ↦ subst IsActorSound (sym h.0) w.sound | inr j ↦ s.each_sound d j.0 ];
           each_kept = λ d i. elim (In-keep_cell p.cells x d i) [ inl h ↦ subst (λ (z : ActorCell). is_kept z ≡ true) (sym h.0) h.1 | inr j ↦ s.each_kept d j.0 ];
+          limits = w.limits;
           holds_drawn = (let h = total_holds-keep p.cells x in let k = w.held in omega arith);
           no_idle_waiter = idle_of p.stage q (λ o d i. work_done p q d refl refl (elim (In-keep_cell p.cells x d i) [
             | inl h ↦ subst (λ (z : ActorCell). IsWorkDone owner p z) (sym h.0) (w.done o)
@@ -172,6 +179,8 @@ module _ (owner : PlacementTable → ActorKey → Option HostInfo) where
     pub sound : IsActorSound c
     pub had : c.active ≡ true → HadActive p c.key
     pub done : p.stage ≡ Open → IsWorkDone owner p c
+    pub calls : (call : ℕ) → is_in_cell call c.inner ≡ true → HadCall p.cells c.key call
+    pub depth : (settings_of p.kinds c.key.kind).depth ≡ c.inner.depth
     pub held : total_holds (drop_cell p.cells c.key) + c.inner.holds ≤ p.drawn
 
   pub at_found : (p : PartState) (c : ActorCell) → IsPartSound owner p → In c p.cells → IsAt p c
@@ -180,18 +189,35 @@ module _ (owner : PlacementTable → ActorKey → Option HostInfo) where
         sound = s.each_sound c i;
         had = λ a. (c, i, a, refl);
         done = λ o. at_open p.stage p o s.no_idle_waiter c i;
+        calls = λ call h. (c, i, refl, h);
+        depth = s.limits.depths c i;
         held = (let h = total_holds-others p.cells c i in let k = s.holds_drawn in omega arith);
       }
 
-  pub at_first : (p : PartState) (key : ActorKey) (depth : ℕ) → IsPartSound owner p → IsAt p (first_cell key depth)
-  at_first p key depth s =
+  pub at_first : (p : PartState) (key : ActorKey) (depth : ℕ) → (settings_of p.kinds key.kind).depth ≡ depth → IsPartSound owner p → IsAt p (first_cell key depth)
+  at_first p key depth of_type s =
       record {
         sound = first_sound key depth;
         had = λ a. absurd (false≢true a);
         done = λ o. record { foreign = λ f w i. absurd i; free = λ t k w i. absurd i };
+        calls = λ call h. absurd (false≢true h);
+        depth = of_type;
         held = (let h = total_holds-new p.cells key in let k = s.holds_drawn in omega arith);
       }
 
   pub at_found_or_first : (p : PartState) (key : ActorKey) (found : Option ActorCell) → cell_at p.cells key ≡ found → IsPartSound owner p → IsAt p (found_or_first p key found)
-  at_found_or_first p key None e s = at_first p key _ s
+  at_found_or_first p key None e s = at_first p key _ refl s
   at_found_or_first p key (Some c) e s = at_found p c s (In-cell_at p.cells key c e)
+
+  -- a number is left to draw, and there is room for the cell
+  pub record HasRoom (p : PartState) (c : ActorCell) : Type 0 where
+    pub number : p.drawn < most_drawn
+    pub cell : length (drop_cell p.cells c.key) < most_cells
+
+  pub room_for : (p : PartState) (key : ActorKey) (found : Option ActorCell) → cell_at p.cells key ≡ found → IsPartSound owner p → p.drawn < most_drawn → is_full p found ≡ false → HasRoom p (found_or_first p key found)
+  room_for p key None e s more full =
+      record {
+        number = more;
+        cell = (let d = length-drop_cell p.cells key in let l : length p.cells < most_cells = leb-false most_cells (length p.cells) full in omega arith);
+      }
+  room_for p key (Some c) e s more full = record { number = more; cell = found_room p.kinds p.drawn p.cells s.limits c (In-cell_at p.cells key c e) s.in_order }

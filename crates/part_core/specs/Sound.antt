@@ -1,21 +1,23 @@
 -- What stays true of a part, whatever happens to it. Own.
-use Rattle.std.specs.Prelude.{◌≡◌, ◌≤◌, ◌+◌, ℕ, true, false, List, [], ◌∷◌, Option, None, Some, IfSome}
+use Rattle.std.specs.Prelude.{◌≡◌, ◌≤◌, ◌+◌, ℕ, true, false, List, [], ◌∷◌, length, Option, None, Some, IfSome}
 use Rattle.actor_names.specs.declared.actor_key.ActorKey.{ActorKey}
 use Rattle.place_table.specs.declared.host.HostInfo.{HostInfo}
 use Rattle.place_table.specs.Hosts.{PlacementTable}
 use Rattle.turn_core.specs.declared.cell.Turn.{Turn}
 use Rattle.turn_core.specs.declared.cell.Waiter.{Waiter}
-use Rattle.turn_core.specs.Cell.{CellState}
+use Rattle.turn_core.specs.Cell.{CellState, is_in_cell}
 use Rattle.turn_core.specs.CellSound.{In, IsCellSound}
+use Rattle.part_core.specs.declared.settings.TypeSettings.{TypeSettings}
 use Rattle.part_core.specs.declared.stage.Stage.{Stage}
 use Rattle.part_core.specs.declared.stage.Stage.TheVariants.{Locked, Updated, Open, Stopped}
 use Rattle.part_cells.specs.declared.actor_cell.ActorCell.{ActorCell}
 use Rattle.part_core.specs.declared.event.PartReply.{PartReply}
 use Rattle.part_core.specs.declared.event.PartReply.TheVariants as replies
 use Rattle.part_core.specs.Receipts.{ReceiptState}
+use Rattle.part_core.specs.Settings.{settings_of}
 use Rattle.part_cells.specs.Cells.{is_kept}
 use Rattle.part_cells.specs.Order.{AreInOrder}
-use Rattle.part_core.specs.Part.{PartState, is_own, receipt_of}
+use Rattle.part_core.specs.Part.{PartState, is_own, receipt_of, most_cells, most_drawn}
 
 -- how many holds there are
 abbrev pub total_holds : List ActorCell → ℕ
@@ -27,12 +29,22 @@ abbrev pub HasNoWaiter : CellState → Type 0
 HasNoWaiter c = (w : Waiter) → In w c.line → w.moved ≡ true
 
 -- What is true of one cell: its turns are sound; if a turn is open, it is active; if it is closing, it is active and
--- has no open turn.
+-- has no open turn and no hold.
 pub record IsActorSound (c : ActorCell) : Type 0 where
   pub sound : IsCellSound c.inner
   pub open_active : (t : Turn) → In t c.inner.turns → c.active ≡ true
   pub closing_active : c.closing ≡ true → c.active ≡ true
   pub closing_free : c.closing ≡ true → c.inner.turns ≡ []
+  pub closing_unheld : c.closing ≡ true → c.inner.holds ≡ 0
+
+-- The limits of a part: 65,536 cells, and 2^62 numbers. Each call that is open or waits has a number that was drawn,
+-- and stands in the cell of one actor alone. Each cell has the depth of its type.
+pub record IsWithinLimits (kinds : List TypeSettings) (drawn : ℕ) (cells : List ActorCell) : Type 0 where
+  pub few : length cells ≤ most_cells
+  pub drawn_within : drawn ≤ most_drawn
+  pub drawn_calls : (c : ActorCell) (call : ℕ) → In c cells → is_in_cell call c.inner ≡ true → (1 ≤ call) × (call ≤ drawn)
+  pub apart : (c d : ActorCell) (call : ℕ) → In c cells → In d cells → is_in_cell call c.inner ≡ true → is_in_cell call d.inner ≡ true → c.key ≡ d.key
+  pub depths : (c : ActorCell) → In c cells → (settings_of kinds c.key.kind).depth ≡ c.inner.depth
 
 -- the receipt in a reply, if there is one
 abbrev pub receipt_in : PartReply → Option ReceiptState
@@ -78,6 +90,7 @@ module _ (owner : PlacementTable → ActorKey → Option HostInfo) where
     pub in_order : AreInOrder p.cells
     pub each_sound : (c : ActorCell) → In c p.cells → IsActorSound c
     pub each_kept : (c : ActorCell) → In c p.cells → is_kept c ≡ true
+    pub limits : IsWithinLimits p.kinds p.drawn p.cells
     pub holds_drawn : total_holds p.cells ≤ p.drawn
     pub no_idle_waiter : NoIdleWaiter p
     pub stopped_empty : IsEmptyWhenStopped p
