@@ -14,9 +14,10 @@ use Rattle.part_core.specs.declared.stage.Stage.TheVariants.{Locked, Updated, Op
 use Rattle.part_core.specs.declared.event.PartEvent.{PartEvent}
 use Rattle.part_cells.specs.declared.actor_cell.ActorCell.{ActorCell}
 use Rattle.part_core.specs.Part.{PartState, new_part, is_own, is_owned_by, is_foreign, no_active_foreign, is_drained, seen_stage, part_step}
-use Rattle.part_core.specs.Sound.{IsPartSound}
+use Rattle.part_core.specs.Rooms.{IsInRange}
+use Rattle.part_core.specs.Sound.{IsPartSound, AreVersionsWithin}
 use Rattle.part_core.specs.PartMoves.{Moves, keeps, locks, updates, opens, stops, Stepped}
-use Rattle.part_core.specs.PartRuns.{part_after, AreTiedAt, AreVersionsTied, OwnsActive, OwnsWhenOpenAt, OwnsWhenOpen, IsTrulyDrained}
+use Rattle.part_core.specs.PartRuns.{part_after, AreInRange, AreTiedAt, AreVersionsTied, OwnsActive, OwnsWhenOpenAt, OwnsWhenOpen, IsTrulyDrained}
 use Rattle.part_core.proofs.PartTables.{new_part_sound, part_stepped}
 
 -- ---- versions
@@ -81,8 +82,42 @@ module _ (owner : PlacementTable → ActorKey → Option HostInfo) where
         stage = tied_of q.stage q (λ u. absurd (let w = sym stage ∙ u in cc)) (λ o. absurd (let w = sym stage ∙ o in cc));
       }
 
+  -- an event in range leaves versions in range
+  pub moves_within : (p : PartState) (e : PartEvent) (q : PartState) → Moves owner p e q → IsInRange e → AreVersionsWithin p → AreVersionsWithin q
+  moves_within p e q (keeps stage seen opened table) r w =
+      let v = version_of q.table p.table table in
+      record {
+        seen_within = (let h = w.seen_within in omega arith);
+        opened_within = (let h = w.opened_within in omega arith);
+        table_within = (let h = w.table_within in omega arith);
+      }
+  moves_within p e q (locks stage more opened table heard) r w =
+      let v = version_of q.table p.table table in
+      record {
+        seen_within = subst IsInRange heard r;
+        opened_within = (let h = w.opened_within in omega arith);
+        table_within = (let h = w.table_within in omega arith);
+      }
+  moves_within p e q (updates was stage seen opened version heard) r w =
+      let h = w.seen_within in
+      record { seen_within = omega arith; opened_within = (let o = w.opened_within in omega arith); table_within = omega arith }
+  moves_within p e q (opens was dry stage seen opened table heard) r w =
+      let v = version_of q.table p.table table in
+      let h = w.seen_within in
+      record { seen_within = omega arith; opened_within = omega arith; table_within = (let t = w.table_within in omega arith) }
+  moves_within p e q (stops stage seen opened table none heard) r w =
+      let v = version_of q.table p.table table in
+      record {
+        seen_within = (let h = w.seen_within in omega arith);
+        opened_within = (let h = w.opened_within in omega arith);
+        table_within = (let h = w.table_within in omega arith);
+      }
+
   pub new_part_tied : (m : Member) (number : ℕ) (kinds : List TypeSettings) → AreVersionsTied (new_part m number kinds)
   new_part_tied m number kinds = record { opened_seen = omega arith; table_seen = omega arith; stage = tt }
+
+  pub new_part_within : (m : Member) (number : ℕ) (kinds : List TypeSettings) → AreVersionsWithin (new_part m number kinds)
+  new_part_within m number kinds = record { seen_within = omega arith; opened_within = omega arith; table_within = omega arith }
 
   -- ---- active actors are own
 
@@ -166,6 +201,12 @@ module _ (owner : PlacementTable → ActorKey → Option HostInfo) where
   run_tied p (e ∷ es) s t =
       let k = part_stepped owner p e s in
       run_tied (part_step owner p e).part es k.sound (moves_tied p e (part_step owner p e).part k.moves t)
+
+  pub run_within : (p : PartState) (es : List PartEvent) → IsPartSound owner p → AreInRange es → AreVersionsWithin p → AreVersionsWithin (part_after owner p es)
+  run_within p [] s r w = w
+  run_within p (e ∷ es) s r w =
+      let k = part_stepped owner p e s in
+      run_within (part_step owner p e).part es k.sound r.1 (moves_within p e (part_step owner p e).part k.moves r.0 w)
 
   pub run_owns : (p : PartState) (es : List PartEvent) → IsPartSound owner p → OwnsWhenOpen owner p → OwnsWhenOpen owner (part_after owner p es)
   run_owns p [] s h = h

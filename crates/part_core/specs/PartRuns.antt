@@ -16,6 +16,7 @@ use Rattle.part_cells.specs.Cells.{cell_at}
 use Rattle.part_core.specs.Marks.{PartMark, TurnBegan}
 use Rattle.part_core.specs.Activity.{activity_of}
 use Rattle.part_core.specs.Part.{PartState, PartStep, is_own, part_step}
+use Rattle.part_core.specs.Rooms.{IsInRange}
 
 -- the part after these events
 abbrev pub part_after : (PlacementTable → ActorKey → Option HostInfo) → PartState → List PartEvent → PartState
@@ -26,6 +27,11 @@ part_after owner p (e ∷ es) = part_after owner (part_step owner p e).part es
 abbrev pub marks_after : (PlacementTable → ActorKey → Option HostInfo) → PartState → List PartEvent → List PartMark
 marks_after owner p [] = []
 marks_after owner p (e ∷ es) = (part_step owner p e).marks ++ marks_after owner (part_step owner p e).part es
+
+-- each event's version is in range
+abbrev pub AreInRange : List PartEvent → Type 0
+AreInRange [] = Unit {0}
+AreInRange (e ∷ es) = IsInRange e × AreInRange es
 
 -- these replies refuse any event
 abbrev pub is_refusal : PartReply → Bool

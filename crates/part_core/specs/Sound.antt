@@ -1,5 +1,5 @@
 -- What stays true of a part, whatever happens to it. Own.
-use Rattle.std.specs.Prelude.{◌≡◌, ◌≤◌, ◌+◌, ℕ, true, false, List, [], ◌∷◌, length, Option, None, Some, IfSome}
+use Rattle.std.specs.Prelude.{◌≡◌, ◌≤◌, ◌+◌, ◌^◌, ℕ, true, false, List, [], ◌∷◌, length, Option, None, Some, IfSome}
 use Rattle.actor_names.specs.declared.actor_key.ActorKey.{ActorKey}
 use Rattle.place_table.specs.declared.host.HostInfo.{HostInfo}
 use Rattle.place_table.specs.Hosts.{PlacementTable}
@@ -45,6 +45,12 @@ pub record IsWithinLimits (kinds : List TypeSettings) (drawn : ℕ) (cells : Lis
   pub drawn_calls : (c : ActorCell) (call : ℕ) → In c cells → is_in_cell call c.inner ≡ true → (1 ≤ call) × (call ≤ drawn)
   pub apart : (c d : ActorCell) (call : ℕ) → In c cells → In d cells → is_in_cell call c.inner ≡ true → is_in_cell call d.inner ≡ true → c.key ≡ d.key
   pub depths : (c : ActorCell) → In c cells → (settings_of kinds c.key.kind).depth ≡ c.inner.depth
+
+-- no version that a part knows is above 2^62
+pub record AreVersionsWithin (p : PartState) : Type 0 where
+  pub seen_within : p.seen ≤ 2 ^ 62
+  pub opened_within : p.opened ≤ 2 ^ 62
+  pub table_within : p.table.version ≤ 2 ^ 62
 
 -- the receipt in a reply, if there is one
 abbrev pub receipt_in : PartReply → Option ReceiptState

@@ -12,14 +12,14 @@ ghost use Rattle.part_core.specs.Settings.{settings_of};
 ghost use Rattle.part_cells.specs.Cells.{cell_at};
 ghost use Rattle.part_core.specs.Activity.{Replays, activity_of, no_activity, replay, turn_marks};
 ghost use Rattle.part_core.specs.Part.{PartState, new_part, part_step, seen_stage};
-ghost use Rattle.part_core.specs.Sound.{IsPartSound, NoIdleWaiter, TellsState};
+ghost use Rattle.part_core.specs.Sound.{IsPartSound, AreVersionsWithin, NoIdleWaiter, TellsState};
 ghost use Rattle.part_core.specs.PartMoves.{Stepped};
-ghost use Rattle.part_core.specs.PartRuns.{part_after, marks_after, refuses, LeavesAsWas, AreVersionsTied, OwnsWhenOpen, IsTrulyDrained, BeginsRightly};
+ghost use Rattle.part_core.specs.PartRuns.{part_after, marks_after, AreInRange, refuses, LeavesAsWas, AreVersionsTied, OwnsWhenOpen, IsTrulyDrained, BeginsRightly};
 
 /// Whatever the owners of actors are, after every list of events from a new part: in an open part no call waits
-/// that could run, the part is sound, its versions are tied, and an open part's active actors are its own. Each
-/// step of a sound part changes stage, versions and table in one of five ways, and opens a part only if it is
-/// drained.
+/// that could run, the part is sound, its versions are tied, and an open part's active actors are its own. After
+/// events in range versions are in range. Each step of a sound part changes stage, versions and table in one of five
+/// ways, and opens a part only if it is drained.
 ///
 /// For every state: a receipt in a reply is that of the new state, its stage is Drained exactly if the part is
 /// updated and no active actor is foreign, and a refused event leaves the part as it was.
@@ -32,6 +32,8 @@ pub fn part_law()
         IsPartSound owner (part_after owner (new_part m number kinds) events) }
     ensures tied { (owner : PlacementTable → ActorKey → Option HostInfo) (m : Member) (number : ℕ) (kinds : List TypeSettings) (events : List PartEvent) →
         AreVersionsTied (part_after owner (new_part m number kinds) events) }
+    ensures within { (owner : PlacementTable → ActorKey → Option HostInfo) (m : Member) (number : ℕ) (kinds : List TypeSettings) (events : List PartEvent) →
+        AreInRange events → AreVersionsWithin (part_after owner (new_part m number kinds) events) }
     ensures owns { (owner : PlacementTable → ActorKey → Option HostInfo) (m : Member) (number : ℕ) (kinds : List TypeSettings) (events : List PartEvent) →
         OwnsWhenOpen owner (part_after owner (new_part m number kinds) events) }
     ensures stepped { (owner : PlacementTable → ActorKey → Option HostInfo) (p : PartState) (event : PartEvent) → IsPartSound owner p →

@@ -3,7 +3,7 @@ ghost use Rattle.std.specs.Prelude.{◌≡◌, [], IfOk, IfSome};
 ghost use Rattle.part_core.specs.Part.{new_part, receipt_of, ring_owner};
 ghost use Rattle.part_core.specs.Rooms.{GivesStep, IsInRange};
 ghost use Rattle.part_core.specs.Settings.{AreShallow};
-ghost use Rattle.part_core.specs.Sound.{NoIdleWaiter, IsPartSound, receipt_in};
+ghost use Rattle.part_core.specs.Sound.{NoIdleWaiter, IsPartSound, AreVersionsWithin, receipt_in};
 
 use crate::actors::Actors;
 use crate::event::{PartEvent, PartReply};
@@ -25,13 +25,13 @@ pub struct Part {
 impl Model for Part {
     ghost use Rattle.part_core.specs.Part.{ring_owner};
     ghost use Rattle.part_core.specs.Rooms.{PartView};
-    ghost use Rattle.part_core.specs.Sound.{IsPartSound};
+    ghost use Rattle.part_core.specs.Sound.{IsPartSound, AreVersionsWithin};
 
     ghost Value = { PartView };
 
     ghost view = { λ a. a.shard };
 
-    ghost invariant = { λ a. IsPartSound ring_owner a.shard.state };
+    ghost invariant = { λ a. IsPartSound ring_owner a.shard.state × AreVersionsWithin a.shard.state };
 }
 
 impl Part {
@@ -75,6 +75,7 @@ impl Part {
         ensures gives { GivesStep event result self.old.state self.new }
         ensures no_idle_waiter { NoIdleWaiter ring_owner self.new.state }
         ensures sound { IsPartSound ring_owner self.new.state }
+        ensures within { AreVersionsWithin self.new.state }
         ensures tells { IfSome (receipt_in result) (λ r. r ≡ receipt_of ring_owner self.new.state) }
     {
         self.shard.step(event)
