@@ -9,6 +9,7 @@ mod EachCell
 mod EachKept
 mod Runnings
 mod Shallow
+mod MadeChains
 mod Rows
 pub mod CellLaws
 pub mod CellCalls

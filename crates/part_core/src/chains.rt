@@ -1,21 +1,24 @@
 // The chains of calls.
 ghost use Rattle.std.specs.Prelude.{◌≡◌, ◌+◌, ◌<◌, ◌^◌, ◌==◌, if◌then◌else◌, None, IfOk, IsSome};
 ghost use Rattle.std.specs.Option.{option_copied};
+ghost use Rattle.actor_names.specs.Names.{chain_id_fault};
 ghost use Rattle.turn_core.specs.Cell.{is_open_chain};
 ghost use Rattle.part_core.specs.Part.{made_chain, chain_or};
 
 use crate::standing::Standing;
-use actor_names::{ChainId, Member, OutOfMemory, read_chain_id};
+use actor_names::{ChainId, Member, NameError, OutOfMemory, read_chain_id};
 use std::alloc::Global;
 use turn_core::Cell;
 
-/// The text as a chain identifier. The text must have the form of a chain, so any failure means out of memory.
+/// The text as a chain identifier. The text has the form of a chain, so nothing but memory can fail.
 fn chain_in(alloc: Global, text: &[u8]) -> Result<ChainId, OutOfMemory>
+    requires { chain_id_fault text.now ≡ None }
     ensures { IfOk result (λ chain. chain ≡ text.now) }
 {
     match read_chain_id(alloc, text) {
         Ok(chain) => Ok(chain),
-        Err(_) => Err(OutOfMemory),
+        Err(NameError::OutOfMemory) => Err(OutOfMemory),
+        Err(_) => unreachable!(),
     }
 }
 
