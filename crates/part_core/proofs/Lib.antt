@@ -8,6 +8,7 @@ mod HoldGives
 mod EachCell
 mod EachKept
 mod Runnings
+mod Wants
 mod Shallow
 mod MadeChains
 mod Rows

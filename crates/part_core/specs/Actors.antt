@@ -84,6 +84,10 @@ pub record AreActorsKept (drawn : ℕ) (cells : List ActorCell) (room : ℕ) : T
   pub counted : total_calls cells ≤ drawn
   pub has_room : total_calls cells ≤ room
 
+-- memory has run out
+abbrev pub HasRunOut : PartReply → Type 0
+HasRunOut reply = reply ≡ replies.OutOfMemory
+
 -- ---- a call asked at a cell
 
 -- whether the reply says that a deactivation is over

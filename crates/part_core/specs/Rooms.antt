@@ -1,5 +1,5 @@
 -- What contracts see of a part, and what a step gives. Own.
-use Rattle.std.specs.Prelude.{◌≡◌, ◌≤◌, ◌^◌, ℕ, false, List, []}
+use Rattle.std.specs.Prelude.{◌≡◌, ◌≤◌, ◌^◌, ℕ, Bool, true, false, List, [], is_some}
 use Rattle.part_core.specs.declared.event.PartEvent.{PartEvent}
 use Rattle.part_core.specs.declared.event.PartEvent.TheVariants as events
 use Rattle.part_core.specs.declared.event.PartReply.{PartReply}
@@ -44,6 +44,44 @@ GivesStep (events.TakeClosing now) reply old new = GivesInMemory (part_step ring
 GivesStep (events.Tick now) reply old new = GivesEnded (part_step ring_owner old (events.Tick now)) reply new
 GivesStep events.StopPart reply old new = GivesEnded (part_step ring_owner old events.StopPart) reply new
 GivesStep event reply old new = Gives (part_step ring_owner old event) reply new
+
+-- ---- where memory may run out
+
+-- an Ask may take memory as soon as it isn't refused by the tests that come first
+abbrev pub ask_takes : PartReply → Bool
+ask_takes (replies.Spent count) = false
+ask_takes (replies.Behind seen) = false
+ask_takes replies.Stopped = false
+ask_takes reply = true
+
+-- a chain, an owner or a key is handed out as a copy, which takes memory
+abbrev pub hands_out : PartReply → Bool
+hands_out (replies.Begun call chain) = is_some chain
+hands_out (replies.Elsewhere version owner) = true
+hands_out (replies.Close key) = true
+hands_out reply = false
+
+-- memory runs out only where the step's answer takes some
+abbrev pub RunsOutFor : (PartReply → Bool) → PartStep → PartReply → Type 0
+RunsOutFor takes step reply = reply ≡ replies.OutOfMemory → takes step.reply ≡ true
+
+-- the same for the four events that may run out of memory, here in a part that has not stopped
+abbrev pub RunsOutRunning : PartEvent → PartReply → PartState → Type 0
+RunsOutRunning (events.Ask key chain now) reply old = RunsOutFor ask_takes (running_step ring_owner old (events.Ask key chain now)) reply
+RunsOutRunning (events.AskAt key chain least now) reply old = RunsOutFor ask_takes (running_step ring_owner old (events.AskAt key chain least now)) reply
+RunsOutRunning (events.Poll call) reply old = RunsOutFor hands_out (running_step ring_owner old (events.Poll call)) reply
+RunsOutRunning (events.TakeClosing now) reply old = RunsOutFor hands_out (running_step ring_owner old (events.TakeClosing now)) reply
+RunsOutRunning event reply old = Unit {0}
+
+-- and for any part
+abbrev pub RunsOutRightly : PartEvent → PartReply → PartState → Type 0
+RunsOutRightly (events.Ask key chain now) reply old = RunsOutFor ask_takes (part_step ring_owner old (events.Ask key chain now)) reply
+RunsOutRightly (events.AskAt key chain least now) reply old = RunsOutFor ask_takes (part_step ring_owner old (events.AskAt key chain least now)) reply
+RunsOutRightly (events.Poll call) reply old = RunsOutFor hands_out (part_step ring_owner old (events.Poll call)) reply
+RunsOutRightly (events.TakeClosing now) reply old = RunsOutFor hands_out (part_step ring_owner old (events.TakeClosing now)) reply
+RunsOutRightly event reply old = Unit {0}
+
+-- ---- events in range
 
 -- a version is at most 2^62
 abbrev pub IsInRange : PartEvent → Type 0

@@ -1,9 +1,9 @@
 // Calls of a part's actors: asked, polled and ended.
-ghost use Rattle.std.specs.Prelude.{◌≡◌, ◌<◌, ◌^◌, [], None, false, length, IsSome};
+ghost use Rattle.std.specs.Prelude.{◌≡◌, ◌<◌, ◌≤◌, ◌^◌, [], None, false, length, IsSome};
 ghost use Rattle.part_cells.specs.Cells.{cell_at};
-ghost use Rattle.part_core.specs.Actors.{state_of, view_of, IsFirstCell};
+ghost use Rattle.part_core.specs.Actors.{state_of, view_of, IsFirstCell, HasRunOut};
 ghost use Rattle.part_core.specs.Part.{is_stopped, ask_part, ask_found, ask_cell, poll_part, end_part, ring_owner};
-ghost use Rattle.part_core.specs.Rooms.{Gives, GivesInMemory};
+ghost use Rattle.part_core.specs.Rooms.{Gives, GivesInMemory, RunsOutFor, hands_out};
 ghost use Rattle.part_core.specs.Settings.{AreShallow};
 
 use crate::actors::{Actors, MOST_CELLS, MOST_DRAWN};
@@ -88,7 +88,8 @@ impl Actors {
     ) -> PartReply
         requires running { is_stopped standing.now.stage ≡ false }
         requires shallow { AreShallow standing.now.kinds }
-        ensures { GivesInMemory (ask_part ring_owner (state_of standing.now self.old) key chain least) result (state_of standing.now self.old) (view_of standing.now self.new) }
+        ensures gives { GivesInMemory (ask_part ring_owner (state_of standing.now self.old) key chain least) result (state_of standing.now self.old) (view_of standing.now self.new) }
+        ensures memory { HasRunOut result → (self.old.drawn < 2 ^ 62) × (least ≤ standing.now.seen) }
     {
         self.recent.clear();
         if self.drawn >= MOST_DRAWN {
@@ -129,7 +130,8 @@ impl Actors {
     /// A caller asks for the state of the call; a moved call is removed from its queue.
     pub(crate) fn poll(&mut self, standing: &Standing, call: u64) -> PartReply
         requires running { is_stopped standing.now.stage ≡ false }
-        ensures { GivesInMemory (poll_part ring_owner (state_of standing.now self.old) call) result (state_of standing.now self.old) (view_of standing.now self.new) }
+        ensures gives { GivesInMemory (poll_part ring_owner (state_of standing.now self.old) call) result (state_of standing.now self.old) (view_of standing.now self.new) }
+        ensures memory { RunsOutFor hands_out (poll_part ring_owner (state_of standing.now self.old) call) result }
     {
         self.recent.clear();
         let Some((slot, cell)) = self.cells.find_call(call) else {

@@ -1,5 +1,5 @@
 // The chains of calls.
-ghost use Rattle.std.specs.Prelude.{◌≡◌, ◌+◌, ◌<◌, ◌^◌, ◌==◌, if◌then◌else◌, None, IfOk, IsSome};
+ghost use Rattle.std.specs.Prelude.{◌≡◌, ◌+◌, ◌<◌, ◌^◌, ◌==◌, if◌then◌else◌, None, IfOk, IfErr, IsSome};
 ghost use Rattle.std.specs.Option.{option_copied};
 ghost use Rattle.actor_names.specs.Names.{chain_id_fault};
 ghost use Rattle.turn_core.specs.Cell.{is_open_chain};
@@ -71,12 +71,13 @@ pub(crate) fn carries(cell: &Cell, chain: Option<&ChainId>) -> bool
     }
 }
 
-/// A copy of the chain, or `None` if there is no chain.
+/// A copy of the chain, or `None` if there is no chain, which takes no memory.
 pub(crate) fn copy_chain(
     alloc: Global,
     chain: Option<&ChainId>,
 ) -> Result<Option<ChainId>, OutOfMemory>
-    ensures { IfOk result (λ copy. copy ≡ option_copied chain.entry) }
+    ensures chain { IfOk result (λ copy. copy ≡ option_copied chain.entry) }
+    ensures taken { IfErr result (λ _. IsSome (option_copied chain.entry)) }
 {
     match chain {
         None => Ok(None),

@@ -2,7 +2,7 @@
 ghost use Rattle.std.specs.Prelude.{◌≡◌, ◌&&◌, false};
 ghost use Rattle.part_core.specs.Actors.{no_actors, state_of, view_of, is_closed};
 ghost use Rattle.part_core.specs.Part.{is_stopped, is_idle, may_close, take_closing, closed_part, is_updated, is_foreign, ring_owner};
-ghost use Rattle.part_core.specs.Rooms.{Gives, GivesInMemory};
+ghost use Rattle.part_core.specs.Rooms.{Gives, GivesInMemory, RunsOutFor, hands_out};
 
 use crate::actors::Actors;
 use crate::asking::note_next;
@@ -73,7 +73,8 @@ impl Actors {
     /// Takes the actor with the least key that may be deactivated; it is closing from now on.
     pub(crate) fn take_closing(&mut self, standing: &Standing, now: u64) -> PartReply
         requires running { is_stopped standing.now.stage ≡ false }
-        ensures { GivesInMemory (take_closing ring_owner (state_of standing.now self.old) now) result (state_of standing.now self.old) (view_of standing.now self.new) }
+        ensures gives { GivesInMemory (take_closing ring_owner (state_of standing.now self.old) now) result (state_of standing.now self.old) (view_of standing.now self.new) }
+        ensures memory { RunsOutFor hands_out (take_closing ring_owner (state_of standing.now self.old) now) result }
     {
         self.recent.clear();
         let test = MayClose { standing, now };

@@ -169,6 +169,7 @@ pub enum PartReply {
     },
     /// Refused: the part has stopped.
     Stopped,
-    /// Out of memory; the part is as before. Only Ask, AskAt, Poll and TakeClosing are answered so.
+    /// Out of memory; the part is as before. Only an Ask or AskAt that isn't `Spent` or `Behind` may be answered so,
+    /// a Poll that would hand out a chain or an owner, and a TakeClosing that would hand out a key.
     OutOfMemory,
 }

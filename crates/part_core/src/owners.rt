@@ -1,5 +1,5 @@
 // Which actors belong to this member.
-ghost use Rattle.std.specs.Prelude.{◌≡◌, ◌<◌, ◌&&◌, not, length, IfOk};
+ghost use Rattle.std.specs.Prelude.{◌≡◌, ◌<◌, ◌&&◌, not, length, IfOk, IfErr, IsSome};
 ghost use Rattle.std.specs.Option.{option_copied};
 ghost use Rattle.part_core.specs.Actors.{no_actors, state_of, total_foreign};
 ghost use Rattle.part_core.specs.Part.{ring_owner, is_owned_by, is_open, is_foreign, owner_reply};
@@ -54,13 +54,14 @@ impl Actors {
     }
 }
 
-/// Where a moved call should go, by the installed table.
+/// Where a moved call should go, by the installed table. Only an owner takes memory.
 pub(crate) fn moved_reply(
     alloc: Global,
     table: &Table,
     key: &ActorKey,
 ) -> Result<PartReply, OutOfMemory>
-    ensures { IfOk result (λ reply. reply ≡ owner_reply table.now.version (ring_owner table.now key.now)) }
+    ensures reply { IfOk result (λ reply. reply ≡ owner_reply table.now.version (ring_owner table.now key.now)) }
+    ensures owned { IfErr result (λ _. IsSome (ring_owner table.now key.now)) }
 {
     let version = table.version();
     match owner_host(table, key) {

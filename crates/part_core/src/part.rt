@@ -1,7 +1,7 @@
 // A part of a sidecar.
 ghost use Rattle.std.specs.Prelude.{◌≡◌, [], IfOk, IfSome};
 ghost use Rattle.part_core.specs.Part.{new_part, receipt_of, ring_owner};
-ghost use Rattle.part_core.specs.Rooms.{GivesStep, IsInRange};
+ghost use Rattle.part_core.specs.Rooms.{GivesStep, RunsOutRightly, IsInRange};
 ghost use Rattle.part_core.specs.Settings.{AreShallow};
 ghost use Rattle.part_core.specs.Sound.{NoIdleWaiter, IsPartSound, AreVersionsWithin, receipt_in};
 
@@ -69,10 +69,11 @@ impl Part {
     }
 
     /// One step of the part. A refused event leaves the part as it was. Only Ask, AskAt, Poll and TakeClosing may run
-    /// out of memory. After each step an open part leaves no call waiting that could run.
+    /// out of memory, and only where their answer takes some. After each step an open part leaves no call waiting that could run.
     pub fn step(&mut self, event: PartEvent) -> PartReply
         requires { IsInRange event }
         ensures gives { GivesStep event result self.old.state self.new }
+        ensures memory { RunsOutRightly event result self.old.state }
         ensures no_idle_waiter { NoIdleWaiter ring_owner self.new.state }
         ensures sound { IsPartSound ring_owner self.new.state }
         ensures within { AreVersionsWithin self.new.state }

@@ -1,7 +1,7 @@
 // A part as a state machine: what it is, and its actors.
 ghost use Rattle.std.specs.Prelude.{◌≡◌, ◌≤◌, ◌^◌, false, true, []};
 ghost use Rattle.part_core.specs.Part.{is_stopped, unchanged, lock_part, update_part, unlock_part, tick_part, stop_part, closed_part, running_step, stopped_step, part_step, receipt_of, ring_owner};
-ghost use Rattle.part_core.specs.Rooms.{Gives, GivesEnded, GivesRunning, GivesStep, IsInRange};
+ghost use Rattle.part_core.specs.Rooms.{Gives, GivesEnded, GivesRunning, GivesStep, RunsOutRunning, RunsOutRightly, IsInRange};
 ghost use Rattle.part_core.specs.Sound.{IsPartSound};
 
 use crate::actors::Actors;
@@ -176,7 +176,8 @@ impl Shard {
         requires running { is_stopped self.old.state.stage ≡ false }
         requires range { IsInRange event }
         requires sound { IsPartSound ring_owner self.old.state }
-        ensures { GivesRunning event result self.old.state self.new }
+        ensures gives { GivesRunning event result self.old.state self.new }
+        ensures memory { RunsOutRunning event result self.old.state }
     {
         match event {
             PartEvent::Ask { key, chain, .. } => self.actors.ask(&self.standing, key, chain, 0),
@@ -205,7 +206,8 @@ impl Shard {
     pub(crate) fn step(&mut self, event: PartEvent) -> PartReply
         requires range { IsInRange event }
         requires sound { IsPartSound ring_owner self.old.state }
-        ensures { GivesStep event result self.old.state self.new }
+        ensures gives { GivesStep event result self.old.state self.new }
+        ensures memory { RunsOutRightly event result self.old.state }
     {
         match self.standing.stage {
             Stage::Stopped => self.stopped(event),

@@ -8,15 +8,15 @@ use Rattle.part_core.proofs.AskedGives.{quiet, ask_goes, known_step, refused_giv
 use Rattle.part_core.proofs.Kept.{fresh, kept_asked, kept_refused}
 use Rattle.part_core.proofs.actors.Actors.ask.Goals as goal
 
-pub returns-in_default : goal.returns-in_default
-returns-in_default c =
+pub returns-in_default-clause-gives : goal.returns-in_default-clause-gives
+returns-in_default-clause-gives c =
     let s = c.args.standing.now in
     let old : ActorsState = record { drawn = c.self.inside.drawn; cells = c.self.inside.cells.cells; recent = c.self.inside.recent.items } in
     let p : PartState = state_of s old in
     rw (← c.self.view_is) (ask_goes p p c.args.key c.args.chain c.args.least c.ask_first.result (view_of s c.ask_first.new.self) (omega arith) (omega arith) c.ask_first.ensures)
 
-pub returns-in-Err : goal.returns-in-Err
-returns-in-Err c =
+pub returns-in-Err-clause-gives : goal.returns-in-Err-clause-gives
+returns-in-Err-clause-gives c =
     let s = c.args.standing.now in
     let old : ActorsState = record { drawn = c.self.inside.drawn; cells = c.self.inside.cells.cells; recent = c.self.inside.recent.items } in
     let p : PartState = state_of s old in

@@ -9,15 +9,22 @@ use Rattle.part_core.specs.Actors.{ActorsState, no_actors, state_of, view_of}
 use Rattle.part_core.proofs.Kept.{found_numbered, kept_within}
 use Rattle.part_core.proofs.EachKept.{close-first, may-first}
 use Rattle.part_core.proofs.HoldGives.{close_none, close_gives}
+use Rattle.part_core.proofs.Wants.{closing_hands}
 use Rattle.part_core.proofs.actors.Actors.take_closing.Goals as goal
 
-pub returns-in_default : goal.returns-in_default
-returns-in_default c =
+pub returns-in_default-clause-gives : goal.returns-in_default-clause-gives
+returns-in_default-clause-gives c =
     let s = c.args.standing.now in
     let old : ActorsState = record { drawn = c.self.inside.drawn; cells = c.self.inside.cells.cells; recent = c.self.inside.recent.items } in
     rw (← c.self.view_is) (subst (λ (v : ActorsState). GivesInMemory (take_closing ring_owner (state_of s old) c.args.now) replies.NoneClosing (state_of s old) (view_of s v))
     (λ i. record { drawn = old.drawn; cells = old.cells; recent = sym c.clear.ensures.items i })
     (close_none s old c.args.now (sym (close-first (state_of s no_actors) c.args.now old.cells) ∙ c.in_default.ensures)))
+
+pub returns-in_default-copy-clause-memory : goal.returns-in_default-copy-clause-memory
+returns-in_default-copy-clause-memory c =
+    let s = c.args.standing.now in
+    let old : ActorsState = record { drawn = c.self.inside.drawn; cells = c.self.inside.cells.cells; recent = c.self.inside.recent.items } in
+    rw (← c.self.view_is) (λ _. closing_hands (state_of s old) c.args.now c.in-Some.cell.now (sym (close-first (state_of s no_actors) c.args.now old.cells) ∙ c.in-Some.ensures.0))
 
 pub close-requires : goal.close-requires
 close-requires c =
@@ -36,8 +43,8 @@ invariant_of-self-2 c =
     let d = c.clear.ensures.capacity in
     rw h (kept_within c.self.inside.drawn c.self.inside.cells (vec_capacity c.self.inside.recent) k c.in-Some.slot cell f x _ refl n (omega arith) (omega arith))
 
-pub returns : goal.returns
-returns c =
+pub returns-clause-gives : goal.returns-clause-gives
+returns-clause-gives c =
     let s = c.args.standing.now in
     let old : ActorsState = record { drawn = c.self.inside.drawn; cells = c.self.inside.cells.cells; recent = c.self.inside.recent.items } in
     let cell = c.in-Some.cell.now in

@@ -3,18 +3,18 @@ use Rattle.part_core.proofs.part.Part.step.Goals as goal
 
 pub invariant_of-self : goal.invariant_of-self
 invariant_of-self c =
-    let g = step_good c.step.result c.self.inside.shard.state c.step.new.self c.self.invariant.0 c.args.event c.step.ensures in
+    let g = step_good c.step.result c.self.inside.shard.state c.step.new.self c.self.invariant.0 c.args.event c.step.ensures.gives in
     (g.sound, g.within c.requires c.self.invariant.1)
 
 pub returns-clause-no_idle_waiter : goal.returns-clause-no_idle_waiter
-returns-clause-no_idle_waiter c = (step_good c.step.result c.self.inside.shard.state c.step.new.self c.self.invariant.0 c.args.event c.step.ensures).sound.no_idle_waiter
+returns-clause-no_idle_waiter c = (step_good c.step.result c.self.inside.shard.state c.step.new.self c.self.invariant.0 c.args.event c.step.ensures.gives).sound.no_idle_waiter
 
 pub returns-clause-sound : goal.returns-clause-sound
-returns-clause-sound c = (step_good c.step.result c.self.inside.shard.state c.step.new.self c.self.invariant.0 c.args.event c.step.ensures).sound
+returns-clause-sound c = (step_good c.step.result c.self.inside.shard.state c.step.new.self c.self.invariant.0 c.args.event c.step.ensures.gives).sound
 
 pub returns-clause-within : goal.returns-clause-within
 returns-clause-within c =
-    (step_good c.step.result c.self.inside.shard.state c.step.new.self c.self.invariant.0 c.args.event c.step.ensures).within c.requires c.self.invariant.1
+    (step_good c.step.result c.self.inside.shard.state c.step.new.self c.self.invariant.0 c.args.event c.step.ensures.gives).within c.requires c.self.invariant.1
 
 pub returns-clause-tells : goal.returns-clause-tells
-returns-clause-tells c = (step_good c.step.result c.self.inside.shard.state c.step.new.self c.self.invariant.0 c.args.event c.step.ensures).tells
+returns-clause-tells c = (step_good c.step.result c.self.inside.shard.state c.step.new.self c.self.invariant.0 c.args.event c.step.ensures.gives).tells

@@ -4,27 +4,38 @@ use Rattle.part_core.specs.Actors.{state_of}
 use Rattle.part_core.specs.Part.{ask_part, draw_part, poll_part, end_part, hold_part, release_part, take_closing, first_to_close, ring_owner}
 use Rattle.part_core.proofs.Foreigns.{asks_steady, draws_steady, polls_steady, ends_steady, holds_steady, releases_steady, takes_steady}
 use Rattle.part_core.proofs.Drained.{kept_by, kept_in_memory}
+use Rattle.part_core.proofs.Wants.{ask_goes_on}
 use Rattle.part_core.proofs.shard.Shard.run.Goals as goal
 
-pub returns-in-Ask : goal.returns-in-Ask
-returns-in-Ask c = rw (c.in-Ask.is, ← c.self.view_is) c.ask.ensures
+pub returns-in-Ask-clause-gives : goal.returns-in-Ask-clause-gives
+returns-in-Ask-clause-gives c = rw (c.in-Ask.is, ← c.self.view_is) c.ask.ensures.gives
 
-pub returns-in-AskAt : goal.returns-in-AskAt
-returns-in-AskAt c = rw (c.in-AskAt.is, ← c.self-in-AskAt.view_is) c.ask-in-AskAt.ensures
+pub returns-in-Ask-clause-memory : goal.returns-in-Ask-clause-memory
+returns-in-Ask-clause-memory c =
+    let p = state_of c.self.inside.standing c.self.inside.actors in
+    rw (c.in-Ask.is, ← c.self.view_is) (λ e. let m = c.ask.ensures.memory e in ask_goes_on p c.in-Ask.key c.in-Ask.chain 0 m.0 m.1)
+
+pub returns-in-AskAt-clause-gives : goal.returns-in-AskAt-clause-gives
+returns-in-AskAt-clause-gives c = rw (c.in-AskAt.is, ← c.self-in-AskAt.view_is) c.ask-in-AskAt.ensures.gives
+
+pub returns-in-AskAt-clause-memory : goal.returns-in-AskAt-clause-memory
+returns-in-AskAt-clause-memory c =
+    let p = state_of c.self-in-AskAt.inside.standing c.self-in-AskAt.inside.actors in
+    rw (c.in-AskAt.is, ← c.self-in-AskAt.view_is) (λ e. let m = c.ask-in-AskAt.ensures.memory e in ask_goes_on p c.in-AskAt.key c.in-AskAt.chain c.in-AskAt.least m.0 m.1)
 
 pub invariant_of-self : goal.invariant_of-self
 invariant_of-self c =
     let s = c.self in
     let p = state_of s.inside.standing s.inside.actors in
     let h = rw (← s.view_is) at c.requires.sound in
-    kept_in_memory s.inside.standing s.inside.actors c.ask.new.self s.invariant (ask_part ring_owner p c.in-Ask.key c.in-Ask.chain 0) (λ up. asks_steady ring_owner p h up c.in-Ask.key c.in-Ask.chain 0) c.ask.result c.ask.ensures
+    kept_in_memory s.inside.standing s.inside.actors c.ask.new.self s.invariant (ask_part ring_owner p c.in-Ask.key c.in-Ask.chain 0) (λ up. asks_steady ring_owner p h up c.in-Ask.key c.in-Ask.chain 0) c.ask.result c.ask.ensures.gives
 
 pub invariant_of-self-in-AskAt : goal.invariant_of-self-in-AskAt
 invariant_of-self-in-AskAt c =
     let s = c.self-in-AskAt in
     let p = state_of s.inside.standing s.inside.actors in
     let h = rw (← s.view_is) at c.requires.sound in
-    kept_in_memory s.inside.standing s.inside.actors c.ask-in-AskAt.new.self s.invariant (ask_part ring_owner p c.in-AskAt.key c.in-AskAt.chain c.in-AskAt.least) (λ up. asks_steady ring_owner p h up c.in-AskAt.key c.in-AskAt.chain c.in-AskAt.least) c.ask-in-AskAt.result c.ask-in-AskAt.ensures
+    kept_in_memory s.inside.standing s.inside.actors c.ask-in-AskAt.new.self s.invariant (ask_part ring_owner p c.in-AskAt.key c.in-AskAt.chain c.in-AskAt.least) (λ up. asks_steady ring_owner p h up c.in-AskAt.key c.in-AskAt.chain c.in-AskAt.least) c.ask-in-AskAt.result c.ask-in-AskAt.ensures.gives
 
 pub invariant_of-self-in-Draw : goal.invariant_of-self-in-Draw
 invariant_of-self-in-Draw c =
@@ -38,7 +49,7 @@ invariant_of-self-in-Poll c =
     let s = c.self-in-Poll in
     let p = state_of s.inside.standing s.inside.actors in
     let h = rw (← s.view_is) at c.requires.sound in
-    kept_in_memory s.inside.standing s.inside.actors c.poll.new.self s.invariant (poll_part ring_owner p c.in-Poll.call) (λ _. polls_steady ring_owner p h c.in-Poll.call (cell_of_call p.cells c.in-Poll.call) refl) c.poll.result c.poll.ensures
+    kept_in_memory s.inside.standing s.inside.actors c.poll.new.self s.invariant (poll_part ring_owner p c.in-Poll.call) (λ _. polls_steady ring_owner p h c.in-Poll.call (cell_of_call p.cells c.in-Poll.call) refl) c.poll.result c.poll.ensures.gives
 
 pub invariant_of-self-in-End : goal.invariant_of-self-in-End
 invariant_of-self-in-End c =
@@ -66,4 +77,4 @@ invariant_of-self-in-TakeClosing c =
     let s = c.self-in-TakeClosing in
     let p = state_of s.inside.standing s.inside.actors in
     let h = rw (← s.view_is) at c.requires.sound in
-    kept_in_memory s.inside.standing s.inside.actors c.take_closing.new.self s.invariant (take_closing ring_owner p c.in-TakeClosing.now) (λ _. takes_steady ring_owner p h c.in-TakeClosing.now (first_to_close ring_owner p c.in-TakeClosing.now p.cells) refl) c.take_closing.result c.take_closing.ensures
+    kept_in_memory s.inside.standing s.inside.actors c.take_closing.new.self s.invariant (take_closing ring_owner p c.in-TakeClosing.now) (λ _. takes_steady ring_owner p h c.in-TakeClosing.now (first_to_close ring_owner p c.in-TakeClosing.now p.cells) refl) c.take_closing.result c.take_closing.ensures.gives
