@@ -12,6 +12,7 @@ mod Wants
 mod Shallow
 mod MadeChains
 mod Rows
+mod Owned
 pub mod CellLaws
 pub mod CellCalls
 pub mod PartOrders

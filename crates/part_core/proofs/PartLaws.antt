@@ -15,9 +15,9 @@ use Rattle.part_core.specs.declared.event.PartEvent.{PartEvent}
 use Rattle.part_cells.specs.declared.actor_cell.ActorCell.{ActorCell}
 use Rattle.part_core.specs.Part.{PartState, new_part, is_own, is_owned_by, is_foreign, no_active_foreign, is_drained, seen_stage, part_step}
 use Rattle.part_core.specs.Rooms.{IsInRange}
-use Rattle.part_core.specs.Sound.{IsPartSound, AreVersionsWithin}
+use Rattle.part_core.specs.Sound.{IsPartSound, AreVersionsWithin, OwnsActive, OwnsWhenOpenAt, OwnsWhenOpen}
 use Rattle.part_core.specs.PartMoves.{Moves, keeps, locks, updates, opens, stops, Stepped}
-use Rattle.part_core.specs.PartRuns.{part_after, AreInRange, AreTiedAt, AreVersionsTied, OwnsActive, OwnsWhenOpenAt, OwnsWhenOpen, IsTrulyDrained}
+use Rattle.part_core.specs.PartRuns.{part_after, AreInRange, AreTiedAt, AreVersionsTied, IsTrulyDrained}
 use Rattle.part_core.proofs.PartTables.{new_part_sound, part_stepped}
 
 -- ---- versions
@@ -116,12 +116,15 @@ module _ (owner : PlacementTable → ActorKey → Option HostInfo) where
   pub new_part_tied : (m : Member) (number : ℕ) (kinds : List TypeSettings) → AreVersionsTied (new_part m number kinds)
   new_part_tied m number kinds = record { opened_seen = omega arith; table_seen = omega arith; stage = tt }
 
+  pub new_part_owns : (m : Member) (number : ℕ) (kinds : List TypeSettings) → OwnsWhenOpen owner (new_part m number kinds)
+  new_part_owns m number kinds = tt
+
   pub new_part_within : (m : Member) (number : ℕ) (kinds : List TypeSettings) → AreVersionsWithin (new_part m number kinds)
   new_part_within m number kinds = record { seen_within = omega arith; opened_within = omega arith; table_within = omega arith }
 
   -- ---- active actors are own
 
-  owns_open : (s : Stage) (p : PartState) → s ≡ Open → OwnsWhenOpenAt owner s p → OwnsActive owner p
+  pub owns_open : (s : Stage) (p : PartState) → s ≡ Open → OwnsWhenOpenAt owner s p → OwnsActive owner p
   owns_open Open p e h = h
   owns_open Locked p e h = absurd (cc)
   owns_open Updated p e h = absurd (cc)
@@ -158,7 +161,7 @@ module _ (owner : PlacementTable → ActorKey → Option HostInfo) where
         | inr now ↦ now.1
       ]
 
-  moves_own : (p : PartState) (e : PartEvent) (q : PartState) → Stepped owner p e q → Moves owner p e q → OwnsWhenOpen owner p → OwnsWhenOpen owner q
+  pub moves_own : (p : PartState) (e : PartEvent) (q : PartState) → Stepped owner p e q → Moves owner p e q → OwnsWhenOpen owner p → OwnsWhenOpen owner q
   moves_own p e q s (keeps stage seen opened table) h = owns_of q.stage q (λ o. stepped_owns p e q s table (owns_open p.stage p (sym stage ∙ o) h))
   moves_own p e q s (locks stage more opened table heard) h = owns_of q.stage q (λ o. absurd (let w = sym stage ∙ o in cc))
   moves_own p e q s (updates was stage seen opened version heard) h = owns_of q.stage q (λ o. absurd (let w = sym stage ∙ o in cc))

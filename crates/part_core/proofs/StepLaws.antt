@@ -6,22 +6,29 @@ use Rattle.part_core.specs.declared.event.PartReply.{PartReply}
 use Rattle.part_core.specs.declared.event.PartReply.TheVariants as replies
 use Rattle.part_core.specs.Part.{PartState, part_step, ring_owner}
 use Rattle.part_core.specs.Rooms.{PartView, Gives, GivesEnded, GivesInMemory, GivesStep, IsInRange}
-use Rattle.part_core.specs.Sound.{IsPartSound, AreVersionsWithin, TellsState}
+use Rattle.part_core.specs.Sound.{IsPartSound, AreVersionsWithin, OwnsWhenOpen, TellsState}
 use Rattle.part_core.proofs.PartTables.{part_stepped}
 use Rattle.part_core.proofs.PartTells.{part_honest}
-use Rattle.part_core.proofs.PartLaws.{moves_within}
+use Rattle.part_core.proofs.PartLaws.{moves_within, moves_own}
 
--- the part is sound, a receipt in the reply is that of the new state, and an event in range leaves versions in range
+-- The part is sound, a receipt in the reply is that of the new state, an event in range leaves versions in range, and
+-- in an open part active actors stay own.
 pub record IsGoodStep (old : PartState) (event : PartEvent) (reply : PartReply) (new : PartState) : Type 0 where
   pub sound : IsPartSound ring_owner new
   pub tells : TellsState ring_owner reply new
   pub within : IsInRange event → AreVersionsWithin old → AreVersionsWithin new
+  pub owns : OwnsWhenOpen ring_owner old → OwnsWhenOpen ring_owner new
 
 good : (old : PartState) (event : PartEvent) → IsPartSound ring_owner old → IsGoodStep old event (part_step ring_owner old event).reply (part_step ring_owner old event).part
 good old event s =
     let h = part_honest ring_owner old event in
     let t = part_stepped ring_owner old event s in
-    record { sound = t.sound; tells = h.tells; within = moves_within ring_owner old event (part_step ring_owner old event).part t.moves }
+    record {
+      sound = t.sound;
+      tells = h.tells;
+      within = moves_within ring_owner old event (part_step ring_owner old event).part t.moves;
+      owns = moves_own ring_owner old event (part_step ring_owner old event).part t t.moves;
+    }
 
 module _ (reply : PartReply) (old : PartState) (new : PartView) (s : IsPartSound ring_owner old) where
   by_gives : (event : PartEvent) → Gives (part_step ring_owner old event) reply new → IsGoodStep old event reply new.state
@@ -31,7 +38,7 @@ module _ (reply : PartReply) (old : PartState) (new : PartView) (s : IsPartSound
   by_ended event g = rw (g.0, ap (λ (v : PartView). v.state) g.1) (good old event s)
 
 in_memory : (reply : PartReply) (old : PartState) (new : PartView) → IsPartSound ring_owner old → (event : PartEvent) → GivesInMemory (part_step ring_owner old event) reply old new → IsGoodStep old event reply new.state
-in_memory replies.OutOfMemory old new s event g = rw (ap (λ (v : PartView). v.state) g.0) (record { sound = s; tells = tt; within = λ r w. w })
+in_memory replies.OutOfMemory old new s event g = rw (ap (λ (v : PartView). v.state) g.0) (record { sound = s; tells = tt; within = λ r w. w; owns = λ o. o })
 in_memory reply old new s event g = by_gives reply old new s event g
 
 pub step_good : (reply : PartReply) (old : PartState) (new : PartView) → IsPartSound ring_owner old → (event : PartEvent) → GivesStep event reply old new → IsGoodStep old event reply new.state

@@ -19,7 +19,7 @@ use Rattle.part_cells.specs.Cells.{total, total_calls}
 use Rattle.part_core.specs.declared.standing.Standing.{Standing}
 use Rattle.part_core.specs.declared.event.PartReply.{PartReply}
 use Rattle.part_core.specs.declared.event.PartReply.TheVariants as replies
-use Rattle.part_core.specs.Part.{PartState, PartStep, ask_cell, ask_owned, ask_here, refused, is_updated, is_foreign, ring_owner}
+use Rattle.part_core.specs.Part.{PartState, PartStep, ask_cell, ask_owned, ask_here, refused, is_open, is_updated, is_foreign, is_owned_by, ring_owner}
 use Rattle.part_core.specs.Rooms.{PartView}
 use Rattle.part_core.specs.Settings.{AreShallow}
 
@@ -107,6 +107,10 @@ Enters s c chain = EntersBy (λ full p. ask_here ring_owner full p c chain) s c 
 
 abbrev pub EntersOwned : Standing → ActorCell → Result Bool PartReply → Type 0
 EntersOwned s c r = (chain : Option (List ℕ)) → EntersBy (λ full p. ask_owned full p c chain (ring_owner s.table c.key)) s c chain r
+
+-- in an open part the cell's actor, if it is active, belongs to the member
+abbrev pub IsOwnIfActive : Standing → ActorCell → Type 0
+IsOwnIfActive s c = is_open s.stage ≡ true → c.active ≡ true → is_owned_by s.member (ring_owner s.table c.key) ≡ true
 
 -- a cell that no call has asked yet
 pub record IsFirstCell (c : ActorCell) : Type 0 where

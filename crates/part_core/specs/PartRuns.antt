@@ -11,12 +11,12 @@ use Rattle.part_core.specs.declared.event.PartReply.{PartReply}
 use Rattle.part_core.specs.declared.event.PartReply.TheVariants as replies
 use Rattle.turn_core.specs.declared.cell.Turn.{Turn}
 use Rattle.turn_core.specs.CellSound.{In}
-use Rattle.part_cells.specs.declared.actor_cell.ActorCell.{ActorCell}
 use Rattle.part_cells.specs.Cells.{cell_at}
 use Rattle.part_core.specs.Marks.{PartMark, TurnBegan}
 use Rattle.part_core.specs.Activity.{activity_of}
 use Rattle.part_core.specs.Part.{PartState, PartStep, is_own, part_step}
 use Rattle.part_core.specs.Rooms.{IsInRange}
+use Rattle.part_core.specs.Sound.{OwnsActive}
 
 -- the part after these events
 abbrev pub part_after : (PlacementTable → ActorKey → Option HostInfo) → PartState → List PartEvent → PartState
@@ -80,20 +80,6 @@ pub record AreVersionsTied (p : PartState) : Type 0 where
   pub opened_seen : p.opened ≤ p.seen
   pub table_seen : p.table.version ≤ p.seen
   pub stage : AreTiedAt p.stage p
-
--- each active actor belongs to this member by the installed table
-abbrev pub OwnsActive : (PlacementTable → ActorKey → Option HostInfo) → PartState → Type 0
-OwnsActive owner p = (c : ActorCell) → In c p.cells → c.active ≡ true → is_own owner p c.key ≡ true
-
-abbrev pub OwnsWhenOpenAt : (PlacementTable → ActorKey → Option HostInfo) → Stage → PartState → Type 0
-OwnsWhenOpenAt owner Open p = OwnsActive owner p
-OwnsWhenOpenAt owner Locked p = Unit {0}
-OwnsWhenOpenAt owner Updated p = Unit {0}
-OwnsWhenOpenAt owner Stopped p = Unit {0}
-
--- in an open part no active actor is foreign
-abbrev pub OwnsWhenOpen : (PlacementTable → ActorKey → Option HostInfo) → PartState → Type 0
-OwnsWhenOpen owner p = OwnsWhenOpenAt owner p.stage p
 
 -- what a receipt's stage Drained says: the part is updated, and no active actor is foreign
 pub record IsTrulyDrained (owner : PlacementTable → ActorKey → Option HostInfo) (p : PartState) : Type 0 where

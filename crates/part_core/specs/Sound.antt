@@ -78,6 +78,20 @@ module _ (owner : PlacementTable → ActorKey → Option HostInfo) where
   abbrev pub NoIdleWaiter : PartState → Type 0
   NoIdleWaiter p = NoIdleWaiterAt p.stage p
 
+  -- each active actor belongs to this member by the installed table
+  abbrev pub OwnsActive : PartState → Type 0
+  OwnsActive p = (c : ActorCell) → In c p.cells → c.active ≡ true → is_own owner p c.key ≡ true
+
+  abbrev pub OwnsWhenOpenAt : Stage → PartState → Type 0
+  OwnsWhenOpenAt Open p = OwnsActive p
+  OwnsWhenOpenAt Locked p = Unit {0}
+  OwnsWhenOpenAt Updated p = Unit {0}
+  OwnsWhenOpenAt Stopped p = Unit {0}
+
+  -- in an open part no active actor is foreign
+  abbrev pub OwnsWhenOpen : PartState → Type 0
+  OwnsWhenOpen p = OwnsWhenOpenAt p.stage p
+
   abbrev pub HasNoCellAt : Stage → PartState → Type 0
   HasNoCellAt Stopped p = p.cells ≡ []
   HasNoCellAt Locked p = Unit {0}

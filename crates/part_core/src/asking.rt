@@ -1,7 +1,8 @@
 // A call that is asked of an actor: whether it may enter, and the cell's answer as the part's reply.
-ghost use Rattle.std.specs.Prelude.{◌≡◌, ◌<◌, ◌≤◌, ◌++◌, ◌+◌, IsSome, length, vec_len, vec_capacity};
+ghost use Rattle.std.specs.Prelude.{◌≡◌, true, ◌<◌, ◌≤◌, ◌++◌, ◌+◌, IsSome, length, vec_len, vec_capacity};
 ghost use Rattle.std.specs.Option.{option_copied};
-ghost use Rattle.part_core.specs.Actors.{Enters, EntersOwned, is_begun, reply_by, begun_by, refusal_by, begun_next_in};
+ghost use Rattle.part_core.specs.Part.{is_owned_by, ring_owner};
+ghost use Rattle.part_core.specs.Actors.{Enters, EntersOwned, IsOwnIfActive, is_begun, reply_by, begun_by, refusal_by, begun_next_in};
 
 use crate::chains::carries;
 use crate::event::PartReply;
@@ -14,10 +15,14 @@ use std::alloc::Global;
 use turn_core::{Asked, CellError};
 
 /// Whether a new chain may begin in the cell of an open part, which refuses actors that its table gives to nobody or to
-/// another member.
+/// another member. An active actor belongs to the part's member, so its owner isn't looked up.
 fn enter_owned(alloc: Global, standing: &Standing, cell: &ActorCell) -> Result<bool, PartReply>
+    requires { cell.now.active ≡ true → is_owned_by standing.now.member (ring_owner standing.now.table cell.now.key) ≡ true }
     ensures { EntersOwned standing.now cell.now result }
 {
+    if cell.active {
+        return Ok(true);
+    }
     let version = standing.table.version();
     match owner_host(&standing.table, &cell.key) {
         None => Err(PartReply::NoHost { version }),
@@ -42,6 +47,7 @@ pub(crate) fn enter(
     chain: Option<&ChainId>,
 ) -> Result<bool, PartReply>
     requires chained { 0 < cell.now.inner.depth → IsSome chain }
+    requires owned { IsOwnIfActive standing.now cell.now }
     ensures { Enters standing.now cell.now (option_copied chain.entry) result }
 {
     if carries(&cell.inner, chain) {

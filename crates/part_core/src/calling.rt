@@ -5,6 +5,7 @@ ghost use Rattle.part_core.specs.Actors.{state_of, view_of, IsFirstCell, HasRunO
 ghost use Rattle.part_core.specs.Part.{is_stopped, ask_part, ask_found, ask_cell, poll_part, end_part, ring_owner};
 ghost use Rattle.part_core.specs.Rooms.{Gives, GivesInMemory, RunsOutFor, hands_out};
 ghost use Rattle.part_core.specs.Settings.{AreShallow};
+ghost use Rattle.part_core.specs.Sound.{OwnsWhenOpen};
 
 use crate::actors::{Actors, MOST_CELLS, MOST_DRAWN};
 use crate::asking::{accepted, enter, has_begun, note_next, refused};
@@ -88,6 +89,7 @@ impl Actors {
     ) -> PartReply
         requires running { is_stopped standing.now.stage ≡ false }
         requires shallow { AreShallow standing.now.kinds }
+        requires owns { OwnsWhenOpen ring_owner (state_of standing.now self.old) }
         ensures gives { GivesInMemory (ask_part ring_owner (state_of standing.now self.old) key chain least) result (state_of standing.now self.old) (view_of standing.now self.new) }
         ensures memory { HasRunOut result → (self.old.drawn < 2 ^ 62) × (least ≤ standing.now.seen) }
     {
@@ -156,6 +158,7 @@ impl Actors {
 
     /// The call's turn has ended; if the actor is then free, its next call begins if it may.
     pub(crate) fn end(&mut self, standing: &Standing, call: u64, now: u64) -> PartReply
+        requires { OwnsWhenOpen ring_owner (state_of standing.now self.old) }
         ensures { Gives (end_part ring_owner (state_of standing.now self.old) call now) result (view_of standing.now self.new) }
     {
         self.recent.clear();

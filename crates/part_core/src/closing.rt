@@ -2,6 +2,7 @@
 ghost use Rattle.std.specs.Prelude.{◌≡◌, ◌&&◌, false};
 ghost use Rattle.part_core.specs.Actors.{no_actors, state_of, view_of, is_closed};
 ghost use Rattle.part_core.specs.Part.{is_stopped, is_idle, may_close, take_closing, closed_part, is_updated, is_foreign, ring_owner};
+ghost use Rattle.part_core.specs.Sound.{OwnsWhenOpen};
 ghost use Rattle.part_core.specs.Rooms.{Gives, GivesInMemory, RunsOutFor, hands_out};
 
 use crate::actors::Actors;
@@ -90,6 +91,7 @@ impl Actors {
 
     /// The deactivation call of the actor has ended; a waiting call begins if it may.
     pub(crate) fn closed(&mut self, standing: &Standing, key: &ActorKey) -> PartReply
+        requires { OwnsWhenOpen ring_owner (state_of standing.now self.old) }
         ensures { Gives (closed_part ring_owner (state_of standing.now self.old) key.now) result (view_of standing.now self.new) }
     {
         self.recent.clear();
@@ -99,7 +101,7 @@ impl Actors {
         if !cell.closing {
             return PartReply::NotClosing;
         }
-        let may_begin = is_served(standing, &cell.key);
+        let may_begin = is_served(standing, cell);
         let next = self.cells.closed(slot, may_begin);
         note_next(&mut self.recent, next);
         PartReply::ClosedDone { next }

@@ -12,9 +12,9 @@ ghost use Rattle.part_core.specs.Settings.{settings_of};
 ghost use Rattle.part_cells.specs.Cells.{cell_at};
 ghost use Rattle.part_core.specs.Activity.{Replays, activity_of, no_activity, replay, turn_marks};
 ghost use Rattle.part_core.specs.Part.{PartState, new_part, part_step, seen_stage};
-ghost use Rattle.part_core.specs.Sound.{IsPartSound, AreVersionsWithin, NoIdleWaiter, TellsState};
+ghost use Rattle.part_core.specs.Sound.{IsPartSound, AreVersionsWithin, NoIdleWaiter, OwnsWhenOpen, TellsState};
 ghost use Rattle.part_core.specs.PartMoves.{Stepped};
-ghost use Rattle.part_core.specs.PartRuns.{part_after, marks_after, AreInRange, refuses, LeavesAsWas, AreVersionsTied, OwnsWhenOpen, IsTrulyDrained, BeginsRightly};
+ghost use Rattle.part_core.specs.PartRuns.{part_after, marks_after, AreInRange, refuses, LeavesAsWas, AreVersionsTied, IsTrulyDrained, BeginsRightly};
 
 /// Whatever the owners of actors are, after every list of events from a new part: in an open part no call waits
 /// that could run, the part is sound, its versions are tied, and an open part's active actors are its own. After

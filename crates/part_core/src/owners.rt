@@ -1,7 +1,7 @@
 // Which actors belong to this member.
 ghost use Rattle.std.specs.Prelude.{◌≡◌, ◌<◌, ◌&&◌, not, length, IfOk, IfErr, IsSome};
 ghost use Rattle.std.specs.Option.{option_copied};
-ghost use Rattle.part_core.specs.Actors.{no_actors, state_of, total_foreign};
+ghost use Rattle.part_core.specs.Actors.{no_actors, state_of, total_foreign, IsOwnIfActive};
 ghost use Rattle.part_core.specs.Part.{ring_owner, is_owned_by, is_open, is_foreign, owner_reply};
 
 use crate::actors::Actors;
@@ -73,12 +73,14 @@ pub(crate) fn moved_reply(
     }
 }
 
-/// Whether the part is open and the table gives the actor to its member.
-pub(crate) fn is_served(standing: &Standing, key: &ActorKey) -> bool
-    ensures { result ≡ (is_open standing.now.stage && is_owned_by standing.now.member (ring_owner standing.now.table key.now)) }
+/// Whether the part is open and the table gives the cell's actor to its member. An active actor of an open part belongs
+/// to its member, so its owner isn't looked up.
+pub(crate) fn is_served(standing: &Standing, cell: &ActorCell) -> bool
+    requires { IsOwnIfActive standing.now cell.now }
+    ensures { result ≡ (is_open standing.now.stage && is_owned_by standing.now.member (ring_owner standing.now.table cell.now.key)) }
 {
     match standing.stage {
-        Stage::Open => is_own(&standing.table, &standing.member, key),
+        Stage::Open => cell.active || is_own(&standing.table, &standing.member, &cell.key),
         _ => false,
     }
 }
@@ -86,10 +88,11 @@ pub(crate) fn is_served(standing: &Standing, key: &ActorKey) -> bool
 /// Whether a new chain may begin in the cell when its turns are over. The answer counts only if a call waits; if none
 /// does, the owner isn't looked up.
 pub(crate) fn may_hand_over(standing: &Standing, cell: &ActorCell) -> bool
+    requires { IsOwnIfActive standing.now cell.now }
     ensures { 0 < length cell.now.inner.line → result ≡ ((is_open standing.now.stage && is_owned_by standing.now.member (ring_owner standing.now.table cell.now.key)) && not cell.now.closing) }
 {
     if cell.inner.waiting() == 0 || cell.closing {
         return false;
     }
-    is_served(standing, &cell.key)
+    is_served(standing, cell)
 }

@@ -3,7 +3,7 @@ ghost use Rattle.std.specs.Prelude.{◌≡◌, [], IfOk, IfSome};
 ghost use Rattle.part_core.specs.Part.{new_part, receipt_of, ring_owner};
 ghost use Rattle.part_core.specs.Rooms.{GivesStep, RunsOutRightly, IsInRange};
 ghost use Rattle.part_core.specs.Settings.{AreShallow};
-ghost use Rattle.part_core.specs.Sound.{NoIdleWaiter, IsPartSound, AreVersionsWithin, receipt_in};
+ghost use Rattle.part_core.specs.Sound.{NoIdleWaiter, IsPartSound, AreVersionsWithin, OwnsWhenOpen, receipt_in};
 
 use crate::actors::Actors;
 use crate::event::{PartEvent, PartReply};
@@ -25,13 +25,13 @@ pub struct Part {
 impl Model for Part {
     ghost use Rattle.part_core.specs.Part.{ring_owner};
     ghost use Rattle.part_core.specs.Rooms.{PartView};
-    ghost use Rattle.part_core.specs.Sound.{IsPartSound, AreVersionsWithin};
+    ghost use Rattle.part_core.specs.Sound.{IsPartSound, AreVersionsWithin, OwnsWhenOpen};
 
     ghost Value = { PartView };
 
     ghost view = { λ a. a.shard };
 
-    ghost invariant = { λ a. IsPartSound ring_owner a.shard.state × AreVersionsWithin a.shard.state };
+    ghost invariant = { λ a. IsPartSound ring_owner a.shard.state × AreVersionsWithin a.shard.state × OwnsWhenOpen ring_owner a.shard.state };
 }
 
 impl Part {
@@ -69,7 +69,8 @@ impl Part {
     }
 
     /// One step of the part. A refused event leaves the part as it was. Only Ask, AskAt, Poll and TakeClosing may run
-    /// out of memory, and only where their answer takes some. After each step an open part leaves no call waiting that could run.
+    /// out of memory, and only where their answer takes some. After each step an open part leaves no call waiting that
+    /// could run, and no active actor of an open part belongs to another owner.
     pub fn step(&mut self, event: PartEvent) -> PartReply
         requires { IsInRange event }
         ensures gives { GivesStep event result self.old.state self.new }
@@ -77,6 +78,7 @@ impl Part {
         ensures no_idle_waiter { NoIdleWaiter ring_owner self.new.state }
         ensures sound { IsPartSound ring_owner self.new.state }
         ensures within { AreVersionsWithin self.new.state }
+        ensures owns { OwnsWhenOpen ring_owner self.new.state }
         ensures tells { IfSome (receipt_in result) (λ r. r ≡ receipt_of ring_owner self.new.state) }
     {
         self.shard.step(event)

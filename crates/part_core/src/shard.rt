@@ -2,7 +2,7 @@
 ghost use Rattle.std.specs.Prelude.{◌≡◌, ◌≤◌, ◌^◌, false, true, []};
 ghost use Rattle.part_core.specs.Part.{is_stopped, unchanged, lock_part, update_part, unlock_part, tick_part, stop_part, closed_part, running_step, stopped_step, part_step, receipt_of, ring_owner};
 ghost use Rattle.part_core.specs.Rooms.{Gives, GivesEnded, GivesRunning, GivesStep, RunsOutRunning, RunsOutRightly, IsInRange};
-ghost use Rattle.part_core.specs.Sound.{IsPartSound};
+ghost use Rattle.part_core.specs.Sound.{IsPartSound, OwnsWhenOpen};
 
 use crate::actors::Actors;
 use crate::closing::{gives_up, is_closed};
@@ -137,7 +137,8 @@ impl Shard {
 
     /// The deactivation of an actor is over. If the actor is foreign, an updated part counts one foreign actor less.
     fn closed(&mut self, key: &ActorKey) -> PartReply
-        requires { IsPartSound ring_owner self.old.state }
+        requires sound { IsPartSound ring_owner self.old.state }
+        requires owns { OwnsWhenOpen ring_owner self.old.state }
         ensures { Gives (closed_part ring_owner self.old.state key.now) result self.new }
     {
         let reply = self.actors.closed(&self.standing, key);
@@ -176,6 +177,7 @@ impl Shard {
         requires running { is_stopped self.old.state.stage ≡ false }
         requires range { IsInRange event }
         requires sound { IsPartSound ring_owner self.old.state }
+        requires owns { OwnsWhenOpen ring_owner self.old.state }
         ensures gives { GivesRunning event result self.old.state self.new }
         ensures memory { RunsOutRunning event result self.old.state }
     {
@@ -206,6 +208,7 @@ impl Shard {
     pub(crate) fn step(&mut self, event: PartEvent) -> PartReply
         requires range { IsInRange event }
         requires sound { IsPartSound ring_owner self.old.state }
+        requires owns { OwnsWhenOpen ring_owner self.old.state }
         ensures gives { GivesStep event result self.old.state self.new }
         ensures memory { RunsOutRightly event result self.old.state }
     {

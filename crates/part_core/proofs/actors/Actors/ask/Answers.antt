@@ -4,8 +4,10 @@ use Rattle.std.specs.Option.{option_copied}
 use Rattle.part_core.specs.Part.{PartState, PartStep, call_chain, ask_here, ask_part, ring_owner}
 use Rattle.part_core.specs.Rooms.{GivesInMemory}
 use Rattle.part_core.specs.Actors.{ActorsState, state_of, view_of, Enters}
+use Rattle.part_cells.proofs.Elements.{In-cell_at}
 use Rattle.part_core.proofs.AskedGives.{quiet, ask_goes, known_step, refused_gives}
 use Rattle.part_core.proofs.Kept.{fresh, kept_asked, kept_refused}
+use Rattle.part_core.proofs.Owned.{own_if_active}
 use Rattle.part_core.proofs.actors.Actors.ask.Goals as goal
 
 pub returns-in_default-clause-gives : goal.returns-in_default-clause-gives
@@ -53,3 +55,10 @@ invariant_of-self-in-Ok-ask c =
     let room = c.in-Ok-reserve.ensures.ok in
     let wide = c.accepted.ensures.room in
     kept_asked c.self.inside.drawn c.self.inside.cells (vec_capacity c.self.inside.recent) c.self.invariant c.in-Some.slot cell f c.in-Ok-ask.asked c.ask.new.self.cells (option_copied c.as_ref-2.result) (c.in-Ok-enter.may_begin && not cell.closing) _ g (omega arith) (omega arith)
+
+pub enter-requires-clause-owned : goal.enter-requires-clause-owned
+enter-requires-clause-owned c =
+    let s = c.args.standing.now in
+    let old : ActorsState = record { drawn = c.self.inside.drawn; cells = c.self.inside.cells.cells; recent = c.self.inside.recent.items } in
+    let cell = c.in-Some.cell.now in
+    own_if_active s old cell (rw (← c.self.view_is) at c.requires.owns) (In-cell_at old.cells cell.key cell c.in-Some.ensures.1.here)

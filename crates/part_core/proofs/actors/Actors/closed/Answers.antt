@@ -11,6 +11,7 @@ use Rattle.part_core.proofs.Counts.{begun-in_line}
 use Rattle.part_core.proofs.Numbers.{numbered_next, next_in_line}
 use Rattle.part_core.proofs.Kept.{found_numbered, kept_within}
 use Rattle.part_core.proofs.HoldGives.{closed_gives}
+use Rattle.part_core.proofs.Owned.{own_if_active}
 use Rattle.part_core.proofs.actors.Actors.closed.Goals as goal
 
 pub closed-next-requires : goal.closed-next-requires
@@ -58,3 +59,10 @@ returns c =
     rw (← c.self.view_is) (closed_gives s old c.args.key.now cell (next_call b cell.inner) c.closed-next.result c.closed-next.new.self.cells c.note_next.new.calls.items c.in-Some.ensures.0 c.if-not-cell.false
     (ap (λ m. next_call m cell.inner) c.is_served-may_begin.ensures) answer h
     (c.note_next.ensures.items ∙ ap (λ (l : List ℕ). l ++ begun_next_in c.closed-next.result) c.clear.ensures.items))
+
+pub is_served-may_begin-requires : goal.is_served-may_begin-requires
+is_served-may_begin-requires c =
+    let s = c.args.standing.now in
+    let old : ActorsState = record { drawn = c.self.inside.drawn; cells = c.self.inside.cells.cells; recent = c.self.inside.recent.items } in
+    let cell = c.in-Some.cell.now in
+    own_if_active s old cell (rw (← c.self.view_is) at c.requires) (In-cell_at old.cells cell.key cell c.in-Some.ensures.1.here)

@@ -13,6 +13,7 @@ use Rattle.part_core.proofs.Counts.{end_same, begun-short}
 use Rattle.part_core.proofs.Numbers.{numbered_end}
 use Rattle.part_core.proofs.Kept.{found_numbered, kept_within, kept_cleared}
 use Rattle.part_core.proofs.CallGives.{end_already, end_waiting, end_gives}
+use Rattle.part_core.proofs.Owned.{own_if_active}
 use Rattle.part_core.proofs.actors.Actors.end.Goals as goal
 
 pub note_next-requires : goal.note_next-requires
@@ -97,3 +98,10 @@ returns-in-StillWaiting c =
     rw (← c.self.view_is) (subst (λ (v : ActorsState). Gives (end_part ring_owner (state_of s old) c.args.call c.args.now) replies.StillWaiting (view_of s v))
     (λ i. record { drawn = old.drawn; cells = sym h i; recent = sym c.clear.ensures.items i })
     (end_waiting s old c.args.call c.args.now cell b c.in-Some.ensures.0 rule (sym c.in-StillWaiting.is ∙ answer)))
+
+pub may_hand_over-may_begin-requires : goal.may_hand_over-may_begin-requires
+may_hand_over-may_begin-requires c =
+    let s = c.args.standing.now in
+    let old : ActorsState = record { drawn = c.self.inside.drawn; cells = c.self.inside.cells.cells; recent = c.self.inside.recent.items } in
+    let cell = c.in-Some.cell.now in
+    own_if_active s old cell (rw (← c.self.view_is) at c.requires) (In-cell_at old.cells cell.key cell c.in-Some.ensures.1.here)

@@ -4,7 +4,7 @@ use Rattle.part_core.proofs.part.Part.step.Goals as goal
 pub invariant_of-self : goal.invariant_of-self
 invariant_of-self c =
     let g = step_good c.step.result c.self.inside.shard.state c.step.new.self c.self.invariant.0 c.args.event c.step.ensures.gives in
-    (g.sound, g.within c.requires c.self.invariant.1)
+    (g.sound, g.within c.requires c.self.invariant.1, g.owns c.self.invariant.2)
 
 pub returns-clause-no_idle_waiter : goal.returns-clause-no_idle_waiter
 returns-clause-no_idle_waiter c = (step_good c.step.result c.self.inside.shard.state c.step.new.self c.self.invariant.0 c.args.event c.step.ensures.gives).sound.no_idle_waiter
@@ -18,3 +18,7 @@ returns-clause-within c =
 
 pub returns-clause-tells : goal.returns-clause-tells
 returns-clause-tells c = (step_good c.step.result c.self.inside.shard.state c.step.new.self c.self.invariant.0 c.args.event c.step.ensures.gives).tells
+
+pub returns-clause-owns : goal.returns-clause-owns
+returns-clause-owns c =
+    (step_good c.step.result c.self.inside.shard.state c.step.new.self c.self.invariant.0 c.args.event c.step.ensures.gives).owns c.self.invariant.2
