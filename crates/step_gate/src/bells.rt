@@ -8,8 +8,9 @@ use std::time::Duration;
 /// How many bells a gate has. Topics share them.
 const BELLS: usize = 64;
 
-/// How often the longest sleep of a waiting call doubles, from one millisecond.
-const DOUBLINGS: u32 = 5;
+/// How often the longest sleep of a waiting call doubles, from one millisecond to 256. A bell ends a sleep at once; its
+/// own end is for a call that found no memory to answer with, and asks again.
+const DOUBLINGS: u32 = 8;
 
 /// What calls wait at. Calls share a bell if they poll for topics that are equal modulo the number of bells.
 #[derive(Drop)]
@@ -84,7 +85,7 @@ impl Bells {
         }
     }
 
-    /// Sleeps until the bell rings, for at most a time that grows with the tries, up to 32 milliseconds.
+    /// Sleeps until the bell rings, for at most a time that grows with the tries, up to 256 milliseconds.
     pub(crate) fn rest<R: Wait>(&self, rt: &R, heard: &Heard, tries: u32) {
         if let Some(bell) = self.bell(heard.topic) {
             let longest = Duration::from_millis(1 << tries.min(DOUBLINGS));
