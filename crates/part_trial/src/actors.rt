@@ -43,14 +43,14 @@ fn kind(alloc: Global) -> Option<ActorType> {
     read_actor_type(alloc, b"counter").ok()
 }
 
-/// A table of this version whose only host is `a/1`.
-pub fn table_of(alloc: Global, version: u64) -> Option<Table>
+/// A table of this version whose only host is this member, a text such as `a/1`.
+pub fn table_for(alloc: Global, member: &[u8], version: u64) -> Option<Table>
     ensures { IfSome result (λ table. table.version ≡ version) }
 {
     let mut kinds = Vec::new(alloc);
     kinds.push(kind(alloc)?).ok()?;
     let host = HostInfo {
-        member: read_member(b"a/1").ok()?,
+        member: read_member(member).ok()?,
         app: read_app_id(alloc, b"shop").ok()?,
         address: read_address(b"127.0.0.1:3500").ok()?,
         kinds: ActorTypes::from_vec(kinds),
@@ -58,8 +58,15 @@ pub fn table_of(alloc: Global, version: u64) -> Option<Table>
     build_table(alloc, &default_space(), version, &[host]).ok()
 }
 
-/// A part that has opened at version 1.
-fn open_part(alloc: Global) -> Option<Part> {
+/// A table of this version whose only host is `a/1`.
+pub fn table_of(alloc: Global, version: u64) -> Option<Table>
+    ensures { IfSome result (λ table. table.version ≡ version) }
+{
+    table_for(alloc, b"a/1", version)
+}
+
+/// The part of `a/1`, opened at version 1.
+pub fn open_part(alloc: Global) -> Option<Part> {
     let settings = PartSettings {
         member: read_member(b"a/1").ok()?,
         part: 3,

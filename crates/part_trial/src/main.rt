@@ -12,13 +12,16 @@
 //     owners HOSTS ROUNDS     the same in a table of HOSTS hosts of 32 types
 //     sort HOSTS ROUNDS       the points of HOSTS hosts are hashed and sorted, ROUNDS times
 //     build HOSTS ROUNDS      a table of HOSTS hosts of one type is built, ROUNDS times
+//     limits ACTORS HOSTS     a call of each of ACTORS actors begins at an Unlock, ends at a Tick, and again at a
+//                             StopPart; an owner is looked up in a table of HOSTS hosts of 32 types
 //
-// It prints how many of these there were. It promises nothing of its own. Depends on part_core, place_table and
+// It prints how many of these there were, of `limits` how many actors. It promises nothing of its own. Depends on part_core, place_table and
 // actor_names.
 #![tactic(auto)]
 
 mod actors;
 mod calls;
+mod limits;
 mod rounds;
 mod tables;
 
@@ -63,6 +66,7 @@ fn trial(alloc: Global, mode: &str, many: u32, rounds: u32) -> Option<u32> {
         "owners" => tables::find_owners(alloc, many, 32, rounds),
         "sort" => tables::sort_points(alloc, many, rounds),
         "build" => tables::build_tables(alloc, many, rounds),
+        "limits" => limits::run_all(alloc, many, rounds),
         _ => None,
     }
 }
