@@ -1,4 +1,5 @@
 mod Examples
+mod FirstForms
 pub mod Acts
 pub mod Written
 pub mod RowLaws
@@ -6,6 +7,7 @@ pub mod Readings
 pub mod ReadFits
 pub mod Fitting
 pub mod Snapshots
+mod OldBoots
 pub mod Keeping
 pub mod Outcomes
 pub mod Answering

@@ -11,7 +11,7 @@ use Rattle.store_payloads.specs.declared.payload.PayloadBody.TheVariants.{Comman
 use Rattle.store_payloads.specs.declared.payload.StorePayload.{StorePayload}
 use Rattle.store_payloads.specs.declared.fold.FoldPlace.{FoldPlace}
 use Rattle.store_payloads.specs.declared.fold.FoldPlace.TheVariants.{Rows, Commands}
-use Rattle.store_payloads.specs.Payloads.{payload_reading}
+use Rattle.store_payloads.specs.FirstForm.{reading_in}
 
 -- the tables, and where the next payload comes
 pub record Folded : Type 0 where
@@ -46,11 +46,11 @@ abbrev pub folded : Option StorePayload → Folded → Option Folded
 folded None f = None
 folded (Some p) f = after_body p.body p.now f
 
--- the same for payloads one after another
-abbrev pub fold_from : Option Folded → List (List ℕ) → Option Folded
-fold_from None payloads = None
-fold_from (Some f) [] = Some f
-fold_from (Some f) (p ∷ ps) = fold_from (folded (payload_reading p) f) ps
+-- the same for payloads one after another, of the first form or of today's
+abbrev pub fold_from : Bool → Option Folded → List (List ℕ) → Option Folded
+fold_from is_first None payloads = None
+fold_from is_first (Some f) [] = Some f
+fold_from is_first (Some f) (p ∷ ps) = fold_from is_first (folded (reading_in is_first p) f) ps
 
 -- before the first payload; in a snapshot rows come first
 abbrev pub start : Bool → Folded
@@ -61,6 +61,6 @@ abbrev pub tables_in : Option Folded → Option Tables
 tables_in None = None
 tables_in (Some f) = Some f.tables
 
--- the tables that payloads lead to, behind a Generation or without one
-abbrev pub folded_tables : Bool → List (List ℕ) → Option Tables
-folded_tables is_snapshot payloads = tables_in (fold_from (Some (start is_snapshot)) payloads)
+-- the tables that payloads lead to, of the first form or of today's, behind a Generation or without one
+abbrev pub folded_tables : Bool → Bool → List (List ℕ) → Option Tables
+folded_tables is_first is_snapshot payloads = tables_in (fold_from is_first (Some (start is_snapshot)) payloads)

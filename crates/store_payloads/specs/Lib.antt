@@ -1,5 +1,6 @@
 pub mod Fields
 pub mod Payloads
+pub mod FirstForm
 pub mod Folds
 pub mod Fits
 pub mod Gives

@@ -1,12 +1,12 @@
 // Payloads one after another, and the tables that they lead to.
 ghost use Rattle.std.specs.Prelude.{◌≡◌, ◌<◌, true, None, Some, if◌then◌else◌, IfOk};
-ghost use Rattle.store_payloads.specs.Payloads.{payload_reading};
+ghost use Rattle.store_payloads.specs.FirstForm.{reading_in};
 ghost use Rattle.store_payloads.specs.Fits.{TablesFit};
 ghost use Rattle.store_payloads.specs.Folds.{start, folded, after_set, after_act};
 
 use crate::error::PayloadError;
+use crate::first_form::read_in;
 use crate::payload::{PayloadBody, StorePayload};
-use crate::reading::read_payload;
 use actor_names::OutOfMemory;
 use frame_wire::StoreCommand;
 use std::alloc::Global;
@@ -89,13 +89,14 @@ impl StoreFold {
         Ok(true)
     }
 
-    /// Takes the next payload. False exactly if it has no reading, or can't come here: it is of a command that isn't
-    /// accepted, or of a row that comes elsewhere. Don't go on after `false` or `OutOfMemory`.
-    pub fn take(&mut self, payload: &[u8]) -> Result<bool, OutOfMemory>
-        ensures folded { IfOk result (λ done. folded (payload_reading payload.now) self.old ≡ (if done then Some self.new else None)) }
+    /// Takes the next payload, of the first form if `is_first` is true. False exactly if it has no reading, or can't
+    /// come here: it is of a command that isn't accepted, or of a row that comes elsewhere. Don't go on after `false` or
+    /// `OutOfMemory`.
+    pub fn take(&mut self, payload: &[u8], is_first: bool) -> Result<bool, OutOfMemory>
+        ensures folded { IfOk result (λ done. folded (reading_in is_first payload.now) self.old ≡ (if done then Some self.new else None)) }
         ensures fits { IfOk result (λ done. done ≡ true → TablesFit self.old.tables → TablesFit self.new.tables) }
     {
-        let StorePayload { now, body } = match read_payload(self.alloc, payload) {
+        let StorePayload { now, body } = match read_in(self.alloc, payload, is_first) {
             Ok(payload) => payload,
             Err(PayloadError::NoReading) => return Ok(false),
             Err(PayloadError::OutOfMemory) => return Err(OutOfMemory),

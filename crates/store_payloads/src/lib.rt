@@ -7,6 +7,7 @@
 #![tactic(auto)]
 
 mod error;
+mod first_form;
 mod fold;
 mod lanes;
 mod law;
@@ -16,6 +17,7 @@ mod rows;
 mod writing;
 
 pub use error::PayloadError;
+pub use first_form::is_first_payload;
 pub use fold::StoreFold;
 pub use law::payload_law;
 pub use payload::{PayloadBody, StorePayload};
