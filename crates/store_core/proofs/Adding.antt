@@ -10,7 +10,7 @@ use Rattle.tx_journal.specs.Calls.{Keeps as KeepsFilesAs, Kept}
 use Rattle.store_tables.specs.Tables.{Tables}
 use Rattle.store_core.specs.Store.{IsConsistent}
 use Rattle.store_core.specs.Compacts.{rows_end, MayAdd, IsStaged, IsStopped, IsRefused, IsHit, Misses, AddsRow}
-use Rattle.store_core.proofs.Stagings.{keeps_on, kept_on, one_refusal, staged_none, stopped}
+use Rattle.store_core.proofs.Stagings.{keeps_on, kept_on, kept_same, one_refusal, staged_none, stopped}
 
 -- what the addition of a row ensures
 pub record AddEnsures {T : Type 0} (row : List ℕ) (result : Result T JournalError) (old new : JournalState) : Type 0 where
@@ -60,6 +60,7 @@ module _ (t : Tables) (row : List ℕ) (old new : JournalState) (may : MayAdd ol
         paired = paired_on old.other new.other may.paired ensures_.count;
         count = ensures_.count;
         has = ensures_.added;
+        holds = ensures_.kept;
         consistent = kept_on t old new consistent may.works ensures_.kept;
         keeps = keeps_on t old new consistent may.works ensures_.crash;
       }
@@ -68,6 +69,7 @@ module _ (t : Tables) (row : List ℕ) (old new : JournalState) (may : MayAdd ol
   stopped_as same crash = record {
     journal = same ∙ ap (λ (j : JournalState). record old { other = j.other; staged = j.staged }) (sym same);
     paired = ap (λ (j : JournalState). is_alone j.other) same ∙ may.paired;
+    holds = subst (λ (j : JournalState). Tells Kept (told old) (told j)) (sym same) (kept_same old);
     consistent = subst (λ (j : JournalState). IsConsistent j t) (sym same) consistent;
     keeps = keeps_on t old new consistent may.works crash;
   }

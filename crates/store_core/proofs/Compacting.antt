@@ -7,7 +7,7 @@ use Rattle.store_tables.specs.Tables.{Tables, no_tables}
 use Rattle.store_tables.specs.Rows.{table_rows, Restores, AreInOrder}
 use Rattle.store_payloads.specs.Fits.{TablesFit}
 use Rattle.store_payloads.specs.Payloads.{end_of_moments}
-use Rattle.store_payloads.specs.Laws.{snapshot_payloads, ReadsSnapshot}
+use Rattle.store_payloads.specs.Laws.{snapshot_payloads, ReadsSnapshot, SpellsToday}
 use Rattle.tx_journal.specs.declared.error.JournalError.{JournalError}
 use Rattle.tx_journal.specs.declared.error.JournalError.TheVariants as errors
 use Rattle.tx_journal.specs.Calls.{JournalState, told, is_alone, next_number, is_last, start_refusal, end_refusal, Starts, Turns, HasBegun, Replaces, Replaced, OtherKeeps, OtherRises}
@@ -15,11 +15,12 @@ use Rattle.tx_journal.specs.Calls.{Keeps as KeepsFilesAs, Kept}
 use Rattle.tx_journal.specs.Pair.{IsJust, number, generation_row, is_generation, SinceOpened}
 use Rattle.store_core.specs.declared.events.CompactEnd.{CompactEnd}
 use Rattle.store_core.specs.declared.events.CompactEnd.TheVariants.{Compacted, NotNeeded, Failed, OutOfMemory}
-use Rattle.store_core.specs.Contents.{contents_of, compacted_payloads, OpensWith}
+use Rattle.store_core.specs.Contents.{contents_of, is_old, compacted_payloads, OpensWith}
 use Rattle.store_core.specs.Store.{StoreState, IsConsistent, Leaves}
 use Rattle.store_core.specs.Compacts.{end_by, refused_or, rows_refusal, compact_refusal, Keeps, IsKept, IsCompacted, HasFaulted, EndsAs, Compacts, MayAdd, IsStopped, IsRefused, Misses}
 use Rattle.store_core.proofs.Claims.{leaves_weaker, since_same, opened_now}
-use Rattle.store_core.proofs.Stagings.{Beside, since_over, rises_then, keeps_on, kept_on}
+use Rattle.store_core.proofs.Stagings.{Beside, since_over, rises_then, keeps_on, kept_on, kept_then, kept_same}
+use Rattle.store_core.proofs.Foldings.{contents-today}
 use Rattle.store_core.proofs.Adding.{paired_on, err_same}
 
 -- what the start of a compaction ensures
@@ -42,8 +43,12 @@ pub record EndEnsures {T : Type 0} (result : Result T JournalError) (old new : J
 generation_is : (n : ℕ) → is_generation (generation_row n) ≡ true
 generation_is n = refl
 
-pub compacted_contents : (n now : ℕ) (t : Tables) → ReadsSnapshot → now < end_of_moments → TablesFit t → Restores (table_rows t) no_tables t → AreInOrder None (table_rows t) → contents_of (compacted_payloads n now t) ≡ Some t
-compacted_contents n now t reads below fits restores order = reads now t below fits restores order
+-- they aren't of the first form
+pub compacted_today : (n now : ℕ) (t : Tables) → SpellsToday → now < end_of_moments → TablesFit t → is_old (compacted_payloads n now t) ≡ false
+compacted_today n now t today below fits = today now t below fits
+
+pub compacted_contents : (n now : ℕ) (t : Tables) → SpellsToday → ReadsSnapshot → now < end_of_moments → TablesFit t → Restores (table_rows t) no_tables t → AreInOrder None (table_rows t) → contents_of (compacted_payloads n now t) ≡ Some t
+compacted_contents n now t today reads below fits restores order = contents-today (compacted_payloads n now t) (compacted_today n now t today below fits) ∙ reads now t below fits restores order
 
 -- whatever a crash leaves of a journal that holds payloads that lead to these contents
 pub consistent_leaves : (t : Tables) (j : JournalState) → IsConsistent j t → j.is_broken ≡ false → Leaves t (record { contents = t; journal = j })
@@ -81,10 +86,11 @@ module _ (t : Tables) (now least : ℕ) (j : JournalState) (works : j.is_broken 
   there k = record { contents = t; journal = k }
 
   -- a compaction that isn't made, and whose journal goes on
-  pub kept : (k : JournalState) → k ≡ record j { other = k.other; staged = k.staged } → IsConsistent k t → Keeps t j k → IsKept here (there k)
-  kept k same holds keeps = record {
+  pub kept : (k : JournalState) → k ≡ record j { other = k.other; staged = k.staged } → Tells Kept (told j) (told k) → IsConsistent k t → Keeps t j k → IsKept here (there k)
+  kept k same held holds keeps = record {
     contents = refl;
     journal = same;
+    holds = held;
     leaves = consistent_leaves t k holds (ap (λ (x : JournalState). x.is_broken) same ∙ works);
     risks = keeps;
   }
@@ -122,7 +128,7 @@ module _ (t : Tables) (now least : ℕ) (j : JournalState) (works : j.is_broken 
   keeps_here = keeps_on t j j consistent works (tells_same KeepsFilesAs (told j) (told j) (λ f payloads holds. since_same (IsJust payloads) f holds.leaves) refl)
 
   pub ends_memory : Ends OutOfMemory j
-  ends_memory = ends_out j (kept j refl consistent keeps_here)
+  ends_memory = ends_out j (kept j refl (kept_same j) consistent keeps_here)
 
   -- ---- the start
 
@@ -164,25 +170,7 @@ module _ (t : Tables) (now least : ℕ) (j : JournalState) (works : j.is_broken 
           let refused : start_refusal j ≡ Some e = is ∙ ap (λ x. Some x) same in
           let end : end_by e ≡ Failed e = start_kinds j.is_broken (is_alone j.other) (is_last (number j.generation)) (number j.generation) e refused in
           subst (λ (x : CompactEnd). Ends x k) (sym end)
-          (subst (λ (x : JournalState). Ends (Failed e) x) (sym both.1) (ends_refused e j (refused_first e refused) (kept j refl consistent keeps_here)))
-
-  fault_consistent : (T : Type 0) (e : JournalError) (k : JournalState) → Starts {T = T} (Err e) j k → IsConsistent k t
-  fault_consistent T errors.DiskFault k starts = λ same files tells. absurd (let e : true ≡ false = sym (ap (λ (x : JournalState). x.is_broken) starts.0) ∙ same in cc)
-  fault_consistent T (errors.Damaged offset) k starts = absurd starts
-  fault_consistent T (errors.TooLong n) k starts = absurd starts
-  fault_consistent T (errors.Full len) k starts = absurd starts
-  fault_consistent T errors.Reopen k starts = absurd starts
-  fault_consistent T errors.NotStarted k starts = absurd starts
-  fault_consistent T errors.OneDisk k starts = absurd starts
-  fault_consistent T (errors.Spent count) k starts = absurd starts
-  fault_consistent T errors.OutOfMemory k starts = absurd starts
-
-  pub start_consistent : {T : Type 0} (e : JournalError) (k : JournalState) → StartEnsures {T = T} (Err e) j k → IsConsistent k t
-  start_consistent {T} e k ensures_ = go (start_refusal j) refl
-    where
-      go : (r : Option JournalError) → start_refusal j ≡ r → IsConsistent k t
-      go None is = fault_consistent T e k (ensures_.taken is)
-      go (Some d) is = subst (λ (x : JournalState). IsConsistent x t) (sym (ensures_.refused d is).1) consistent
+          (subst (λ (x : JournalState). Ends (Failed e) x) (sym both.1) (ends_refused e j (refused_first e refused) (kept j refl (kept_same j) consistent keeps_here)))
 
   -- it is
   pub record Started (a : JournalState) : Type 0 where
@@ -190,6 +178,7 @@ module _ (t : Tables) (now least : ℕ) (j : JournalState) (works : j.is_broken 
     pub paired : is_alone j.other ≡ false
     pub journal : a ≡ record j { other = a.other; staged = Some 31 }
     pub may : MayAdd a
+    pub held : Tells Kept (told j) (told a)
     pub holds : IsConsistent a t
     pub count : OtherKeeps j.other a.other
     pub keeps : Keeps t j a
@@ -213,6 +202,7 @@ module _ (t : Tables) (now least : ℕ) (j : JournalState) (works : j.is_broken 
               at = 31;
               started = ap (λ (x : JournalState). x.staged) journal;
             };
+            held = ensures_.kept;
             holds = kept_on t j a consistent works ensures_.kept;
             count = ensures_.count;
             keeps = keeps_on t j a consistent works ensures_.crash;
@@ -235,7 +225,7 @@ module _ (t : Tables) (now least : ℕ) (j : JournalState) (works : j.is_broken 
     -- ---- its rows
 
     stopped_kept : (b : JournalState) → IsStopped t a b → IsKept here (there b)
-    stopped_kept b is = kept b (is.journal ∙ ap (λ (x : JournalState). record x { other = b.other; staged = b.staged }) first.journal) is.consistent
+    stopped_kept b is = kept b (is.journal ∙ ap (λ (x : JournalState). record x { other = b.other; staged = b.staged }) first.journal) (kept_then j a b first.held is.holds) is.consistent
         (keeps_then b (ap (λ (x : JournalState). x.live) is.journal) (ap (λ (x : JournalState). x.is_second_live) is.journal) is.paired is.keeps)
 
     refused_row : (e : JournalError) (b : JournalState) → IsRefused t (snapshot_payloads now t) e a b → Ends (Failed e) b
@@ -259,15 +249,3 @@ module _ (t : Tables) (now least : ℕ) (j : JournalState) (works : j.is_broken 
     rows_missed errors.NotStarted b is = absurd is
     rows_missed errors.OneDisk b is = absurd is
     rows_missed (errors.Spent count) b is = absurd is
-
-    -- after a fault the store has to be opened again, else it holds its contents
-    pub missed_consistent : (e : JournalError) (b : JournalState) → Misses t (snapshot_payloads now t) e a b → IsConsistent b t
-    missed_consistent errors.DiskFault b is = λ same files tells. absurd (let e : true ≡ false = sym (ap (λ (x : JournalState). x.is_broken) is.journal) ∙ same in cc)
-    missed_consistent errors.OutOfMemory b is = is.consistent
-    missed_consistent (errors.TooLong n) b is = is.stopped.consistent
-    missed_consistent (errors.Full len) b is = is.stopped.consistent
-    missed_consistent (errors.Damaged offset) b is = absurd is
-    missed_consistent errors.Reopen b is = absurd is
-    missed_consistent errors.NotStarted b is = absurd is
-    missed_consistent errors.OneDisk b is = absurd is
-    missed_consistent (errors.Spent count) b is = absurd is

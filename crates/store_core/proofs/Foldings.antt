@@ -1,5 +1,5 @@
 -- What one more payload leads to.
-use Rattle.std.proofs.Common.{◌≡◌, ℕ, Bool, true, false, List, [], ◌∷◌, ◌++◌, length, Option, Some, None, refl, ap, ◌∙◌}
+use Rattle.std.proofs.Common.{◌≡◌, ℕ, Bool, true, false, List, [], ◌∷◌, ◌++◌, length, Option, Some, None, refl, sym, ap, ◌∙◌}
 use Rattle.std.specs.Prelude.{◌==◌, ◌&&◌, if◌then◌else◌, is_some}
 use Rattle.std.specs.Int.{byte_at}
 use Rattle.frame_wire.specs.declared.store_answer.StoreAnswer.{StoreAnswer}
@@ -10,12 +10,15 @@ use Rattle.frame_wire.specs.Store.{command, command_kind}
 use Rattle.store_tables.specs.Tables.{Tables, Accepted}
 use Rattle.store_tables.specs.Contents.{Timed, outcome_of}
 use Rattle.store_payloads.specs.Payloads.{command_payload, payload_reading}
+use Rattle.store_payloads.specs.FirstForm.{is_first_form}
+use Rattle.store_payloads.specs.declared.payload.PayloadBody.TheVariants.{Command}
+use Rattle.store_payloads.specs.declared.payload.StorePayload.{StorePayload}
 use Rattle.store_payloads.specs.Folds.{Folded, folded, fold_from, start, tables_in}
 use Rattle.store_payloads.specs.Laws.{MayCome, ReadsCommands}
 use Rattle.tx_journal.specs.File.{same_bytes}
 use Rattle.tx_journal.specs.Calls.{generation_with}
 use Rattle.tx_journal.specs.Pair.{is_generation, generation_kind, generation_in, first_generation, without_generation}
-use Rattle.store_core.specs.Contents.{contents_of}
+use Rattle.store_core.specs.Contents.{contents_of, contents_in, is_old}
 
 -- ---- no payload of a command is a Generation
 
@@ -65,11 +68,11 @@ first-more : (ps : List (List ℕ)) (p : List ℕ) → is_generation p ≡ false
 first-more [] p h = rw h refl
 first-more (x ∷ xs) p h = refl
 
-fold-nil : (o : Option Folded) → fold_from o [] ≡ o
+fold-nil : (o : Option Folded) → fold_from false o [] ≡ o
 fold-nil None = refl
 fold-nil (Some f) = refl
 
-fold-push : (start : Option Folded) (ps : List (List ℕ)) (p : List ℕ) (f : Folded) → fold_from start ps ≡ Some f → fold_from start (ps ++ p ∷ []) ≡ folded (payload_reading p) f
+fold-push : (start : Option Folded) (ps : List (List ℕ)) (p : List ℕ) (f : Folded) → fold_from false start ps ≡ Some f → fold_from false start (ps ++ p ∷ []) ≡ folded (payload_reading p) f
 fold-push None ps p f h = absurd (cc)
 fold-push (Some g) [] p f h = let same : g ≡ f = cc in fold-nil (folded (payload_reading p) g) ∙ ap (λ (x : Folded). folded (payload_reading p) x) same
 fold-push (Some g) (x ∷ xs) p f h = fold-push (folded (payload_reading x) g) xs p f h
@@ -85,10 +88,33 @@ acts c f t after answer reads may is o =
     let there : outcome_of f.tables c ≡ Accepted answer after = ap (λ (x : Tables). outcome_of x c) is ∙ o in
     rw (reads c may, there) refl
 
--- the contents after the payload of an accepted command
-pub contents-more : (ps : List (List ℕ)) (c : Timed) (t after : Tables) (answer : StoreAnswer) → ReadsCommands → MayCome c → contents_of ps ≡ Some t → outcome_of t c ≡ Accepted answer after → contents_of (ps ++ command_payload c ∷ []) ≡ Some after
-contents-more ps c t after answer reads may is o =
-    let first = folded-in (fold_from (Some (start (is_some (first_generation ps)))) (without_generation ps)) t is in
+-- no payload of a command is of the first form
+today : (p : List ℕ) (x : StorePayload) → payload_reading p ≡ Some x → is_first_form (p ∷ []) ≡ false
+today p x is = rw is refl
+
+first-stays : (ps : List (List ℕ)) (p : List ℕ) → is_first_form (p ∷ []) ≡ false → is_first_form ps ≡ false → is_first_form (ps ++ p ∷ []) ≡ false
+first-stays [] p one all = one
+first-stays (x ∷ xs) p one all = all
+
+-- the form is that of the payloads before it
+pub old-more : (ps : List (List ℕ)) (c : Timed) → ReadsCommands → MayCome c → is_old ps ≡ false → is_old (ps ++ command_payload c ∷ []) ≡ false
+old-more ps c reads may is =
+    ap is_first_form (without-more ps (command_payload c) (no-generation c))
+    ∙ first-stays (without_generation ps) (command_payload c) (today (command_payload c) (record { now = c.now; body = Command c.command }) (reads c may)) is
+
+contents-on : (ps : List (List ℕ)) (c : Timed) (t after : Tables) (answer : StoreAnswer) → ReadsCommands → MayCome c → contents_in false ps ≡ Some t → outcome_of t c ≡ Accepted answer after → contents_in false (ps ++ command_payload c ∷ []) ≡ Some after
+contents-on ps c t after answer reads may is o =
+    let first = folded-in (fold_from false (Some (start (is_some (first_generation ps)))) (without_generation ps)) t is in
     rw (first-more ps (command_payload c) (no-generation c), without-more ps (command_payload c) (no-generation c))
     (ap tables_in (fold-push (Some (start (is_some (first_generation ps)))) (without_generation ps) (command_payload c) first.0 first.1)
     ∙ acts c first.0 t after answer reads may first.2 o)
+
+-- payloads that aren't of the first form
+pub contents-today : (ps : List (List ℕ)) → is_old ps ≡ false → contents_of ps ≡ contents_in false ps
+contents-today ps is = ap (λ b. contents_in b ps) is
+
+-- the contents after the payload of an accepted command
+pub contents-more : (ps : List (List ℕ)) (c : Timed) (t after : Tables) (answer : StoreAnswer) → ReadsCommands → MayCome c → is_old ps ≡ false → contents_of ps ≡ Some t → outcome_of t c ≡ Accepted answer after → contents_of (ps ++ command_payload c ∷ []) ≡ Some after
+contents-more ps c t after answer reads may today_ is o =
+    contents-today (ps ++ command_payload c ∷ []) (old-more ps c reads may today_)
+    ∙ contents-on ps c t after answer reads may (sym (contents-today ps today_) ∙ is) o

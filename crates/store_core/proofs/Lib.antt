@@ -15,3 +15,5 @@ mod Staged
 mod Compacting
 mod Replacing
 mod Paired
+mod Migrating
+mod Migrated

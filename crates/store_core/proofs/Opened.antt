@@ -9,8 +9,8 @@ use Rattle.tx_journal.specs.Journal.{Rises, IsOpenError}
 use Rattle.tx_journal.specs.Calls.{Side, JournalState, told, tell_both, tell_sides, first_of, second_of, first_side, second_side, is_alone, is_making, FindsIn, OpensFiles, RefusesFiles, KeepsCount}
 use Rattle.tx_journal.specs.Pair.{Files, IsJust, read_payloads}
 use Rattle.store_core.specs.Contents.{contents_of, OpensWith}
-use Rattle.store_core.specs.Opens.{FindsTables, OpensStore, payloads_fault, RefusesStore, IsFolded, IsFoldFault}
-use Rattle.store_core.specs.Store.{IsConsistent}
+use Rattle.store_core.specs.Opens.{FindsTables, OpensStore, payloads_fault, IsStoreOpenError, RefusesStore, HasForm, IsFolded, IsFoldFault}
+use Rattle.store_core.specs.Store.{IsConsistent, IsCurrent}
 use Rattle.store_core.proofs.Claims.{at_told, leaves_weaker}
 use Rattle.store_core.proofs.Openings.{rises_from}
 
@@ -30,7 +30,7 @@ faulted true old payloads offset none is = absurd (let e : None ≡ Some offset 
 faulted false old payloads offset reads is = (refl, payloads, reads, is)
 
 pub refuses-store : (create : Bool) (old new : Files) (j : JournalState) (e : JournalError) → told j ≡ Some new → IsFoldFault e j → OpensFiles create old new → RefusesStore create e old
-refuses-store create old new j (Damaged offset) tells fault opens = inr (faulted (is_making create old.first old.second) old opens.0 offset opens.1 (fault new tells opens.0 opens.2))
+refuses-store create old new j (Damaged offset) tells fault opens = inr (inl (faulted (is_making create old.first old.second) old opens.0 offset opens.1 (fault new tells opens.0 opens.2)))
 refuses-store create old new j DiskFault tells fault opens = tt
 refuses-store create old new j OutOfMemory tells fault opens = tt
 refuses-store create old new j (TooLong n) tells fault opens = absurd fault
@@ -57,6 +57,14 @@ module _ (create : Bool) (before : Option Files) (j : JournalState) (opens : Tel
       let held = from.2 in
       (held.0, held.2, folded files here held.0 held.2)
 
+  -- they aren't of the first form
+  pub opened_current : (t : Tables) (k : JournalState) → told k ≡ told j → IsFolded t j → HasForm false j → IsCurrent k t
+  opened_current t k same folded form works files is =
+      let here : told j ≡ Some files = sym same ∙ is in
+      let from = told_before (OpensFiles create) before (told j) files opens here in
+      let held = from.2 in
+      (held.0, held.2, folded files here held.0 held.2, form files here held.0 held.2)
+
   pub refused_tells : (e : JournalError) → IsFoldFault e j → (files : Files) → before ≡ Some files → RefusesStore create e files
   refused_tells e fault files is =
       let on = tells_on (OpensFiles create) before (told j) files opens is in
@@ -67,18 +75,29 @@ pub as_store : (create : Bool) (e : JournalError) (files : Files) → RefusesFil
 as_store create (Damaged offset) files is = inl is
 as_store create DiskFault files is = is
 as_store create OutOfMemory files is = is
-as_store create (TooLong n) files is = is
-as_store create (Full len) files is = is
+as_store create (TooLong n) files is = absurd is
+as_store create (Full len) files is = inl is
 as_store create Reopen files is = is
 as_store create NotStarted files is = is
 as_store create OneDisk files is = is
 as_store create (Spent count) files is = is
 
-pub open_error : (e : JournalError) (j : JournalState) → IsFoldFault e j → IsOpenError e
+pub as_store_error : (e : JournalError) → IsOpenError e → IsStoreOpenError e
+as_store_error (Damaged offset) is = tt
+as_store_error DiskFault is = tt
+as_store_error OutOfMemory is = tt
+as_store_error (TooLong n) is = absurd is
+as_store_error (Full len) is = tt
+as_store_error Reopen is = is
+as_store_error NotStarted is = is
+as_store_error OneDisk is = is
+as_store_error (Spent count) is = is
+
+pub open_error : (e : JournalError) (j : JournalState) → IsFoldFault e j → IsStoreOpenError e
 open_error (Damaged offset) j fault = tt
 open_error DiskFault j fault = tt
 open_error OutOfMemory j fault = tt
-open_error (TooLong n) j fault = fault
+open_error (TooLong n) j fault = absurd fault
 open_error (Full len) j fault = absurd fault
 open_error Reopen j fault = fault
 open_error NotStarted j fault = fault

@@ -103,29 +103,12 @@ module _ (t : Tables) (now least : ℕ) (j : JournalState) (works : j.is_broken 
     pub end_refused : {T : Type 0} (e : JournalError) (k : JournalState) → EndEnsures {T = T} (Err e) b k → Ends (end_by e) k
     end_refused {T} e k ensures_ = end_fault T e k (ensures_.taken free) (keeps_turn k ensures_.crash)
 
-    fault_consistent : (T : Type 0) (e : JournalError) (k : JournalState) → Turns {T = T} (Err e) b k → IsConsistent k t
-    fault_consistent T errors.DiskFault k turns = λ same files tells. absurd (let e : true ≡ false = sym (ap (λ (x : JournalState). x.is_broken) turns.0) ∙ same in cc)
-    fault_consistent T (errors.Damaged offset) k turns = absurd turns
-    fault_consistent T (errors.TooLong n) k turns = absurd turns
-    fault_consistent T (errors.Full len) k turns = absurd turns
-    fault_consistent T errors.Reopen k turns = absurd turns
-    fault_consistent T errors.NotStarted k turns = absurd turns
-    fault_consistent T errors.OneDisk k turns = absurd turns
-    fault_consistent T (errors.Spent count) k turns = absurd turns
-    fault_consistent T errors.OutOfMemory k turns = absurd turns
-
-    pub refused_consistent : {T : Type 0} (e : JournalError) (k : JournalState) → EndEnsures {T = T} (Err e) b k → IsConsistent k t
-    refused_consistent {T} e k ensures_ = fault_consistent T e k (ensures_.taken free)
-
     -- ---- it is made
 
     holds : (k : JournalState) → Tells (Replaced b.is_second_live) (told b) (told k) → (files : Files) → told k ≡ Some files → Holds (compacted_payloads fresh now t) files
     holds k done files tells =
         let before = told_before (Replaced b.is_second_live) (told b) (told k) files done tells in
         before.2 (compacted_payloads fresh now t) (written before.0 before.1)
-
-    pub made_consistent : {T : Type 0} (x : T) (k : JournalState) → EndEnsures (Ok x) b k → IsConsistent k t
-    made_consistent x k ensures_ = λ same files tells. (compacted_payloads fresh now t, holds k ensures_.done files tells, reads)
 
     abbrev turned : Side → ℕ → JournalState → JournalState
     turned live end x = record { live = live; other = Some x.live; is_second_live = not x.is_second_live; format = Two; generation = Some (next_number x.generation); end = end; staged = None; is_broken = false }

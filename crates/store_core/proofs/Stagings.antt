@@ -90,6 +90,15 @@ module _ (t : Tables) (a b : JournalState) (consistent : IsConsistent a t) (work
       let held = consistent works before.0 before.1 in
       (held.0, before.2 held.0 held.1, held.2)
 
+-- what is held over one step and the next
+pub kept_then : (a b c : JournalState) → Tells Kept (told a) (told b) → Tells Kept (told b) (told c) → Tells Kept (told a) (told c)
+kept_then a b c one two =
+    tells_map (Then Kept Kept) Kept (told a) (told c) (λ f h calls payloads holds. calls.2 payloads (calls.1 payloads holds))
+    (tells_then Kept Kept (told a) (told b) (told c) one two)
+
+pub kept_same : (j : JournalState) → Tells Kept (told j) (told j)
+kept_same j = tells_same Kept (told j) (told j) (λ f payloads holds. holds) refl
+
 -- ---- refusals and places of several rows
 
 end_then : (at : ℕ) (xs ys : List (List ℕ)) → rows_end at (xs ++ ys) ≡ rows_end (rows_end at xs) ys
@@ -172,6 +181,7 @@ module _ (t : Tables) (xs : List (List ℕ)) (a b c : JournalState) (paired : is
         paired = two.paired;
         count = keeps_trans a.other b.other c.other one.count two.count;
         has = has_then ys two.has;
+        holds = kept_then a b c one.holds two.holds;
         consistent = two.consistent;
         keeps = keeps_then (ap (λ (j : JournalState). j.live) two.journal) (ap (λ (j : JournalState). j.is_second_live) two.journal) two.paired two.keeps;
       }
@@ -180,6 +190,7 @@ module _ (t : Tables) (xs : List (List ℕ)) (a b c : JournalState) (paired : is
   stopped_then two = record {
     journal = two.journal ∙ ap (λ (j : JournalState). record j { other = c.other; staged = c.staged }) one.journal;
     paired = two.paired;
+    holds = kept_then a b c one.holds two.holds;
     consistent = two.consistent;
     keeps = keeps_then (ap (λ (j : JournalState). j.live) two.journal) (ap (λ (j : JournalState). j.is_second_live) two.journal) two.paired two.keeps;
   }
@@ -221,6 +232,7 @@ module _ (t : Tables) (xs : List (List ℕ)) (a b c : JournalState) (paired : is
   stopped = record {
     journal = one.journal ∙ ap (λ s. record a { other = b.other; staged = s }) (sym (ap (λ (j : JournalState). j.staged) one.journal));
     paired = one.paired;
+    holds = one.holds;
     consistent = one.consistent;
     keeps = one.keeps;
   }
@@ -250,6 +262,7 @@ staged_none t j at started paired works consistent = record {
   paired = paired;
   count = keeps_same j.other;
   has = tells_same (HasRows j.is_second_live []) (told j) (told j) (λ f before is. is ∙ ap (λ (l : List (List ℕ)). Ok l) (sym (append-nil before))) refl;
+  holds = kept_same j;
   consistent = consistent;
   keeps = keeps_here;
 }

@@ -15,10 +15,10 @@ use Rattle.tx_journal.specs.Calls.{JournalState, told, append_refusal, Commits, 
 use Rattle.tx_journal.specs.Pair.{IsJust, IsEither, SinceOpened}
 use Rattle.store_payloads.specs.Payloads.{command_payload}
 use Rattle.store_payloads.specs.Laws.{MayCome, ReadsCommands, OutcomeFits}
-use Rattle.store_core.specs.Contents.{contents_of, OpensWith, OpensWithEither}
-use Rattle.store_core.specs.Store.{StoreState, IsConsistent, Leaves, Rests, IsDone, HasFailed, Writes, Goes, RanOut, Moves, IsLonger, IsFaulted, Written}
+use Rattle.store_core.specs.Contents.{contents_of, is_old, OpensWith, OpensWithEither}
+use Rattle.store_core.specs.Store.{StoreState, IsCurrent, Leaves, Rests, IsDone, HasFailed, Writes, Goes, RanOut, Moves, IsLonger, IsFaulted, Written}
 use Rattle.store_core.proofs.Claims.{leaves_weaker, since_opened_weaker}
-use Rattle.store_core.proofs.Foldings.{no-generation, generation-same, contents-more}
+use Rattle.store_core.proofs.Foldings.{no-generation, generation-same, old-more, contents-more}
 
 clash : (b : Bool) → b ≡ true → b ≡ false → ⊥
 clash b t f = let e : true ≡ false = sym t ∙ f in cc
@@ -44,7 +44,7 @@ pub told_fits : (o : Outcome) (given : StoreAnswer) → told_in o ≡ Some given
 told_fits (Told a) given is fits = let same : a ≡ given = cc in subst AnswerFits same fits
 told_fits (Accepted a after) given is fits = absurd (cc)
 
-module _ (t : Tables) (j : JournalState) (consistent : IsConsistent j t) (works : j.is_broken ≡ false) where
+module _ (t : Tables) (j : JournalState) (current : IsCurrent j t) (works : j.is_broken ≡ false) where
   abbrev here : StoreState
   here = record { contents = t; journal = j }
 
@@ -52,7 +52,7 @@ module _ (t : Tables) (j : JournalState) (consistent : IsConsistent j t) (works 
   rests = (
     refl,
     λ files is.
-        let held = consistent works files is in
+        let held = current works files is in
         leaves_weaker (IsJust held.0) (OpensWith t) files (λ r e. (held.0, e, held.2)) held.1.leaves,
   )
 
@@ -71,26 +71,26 @@ module _ (t : Tables) (j : JournalState) (consistent : IsConsistent j t) (works 
 
   module _ (c : Timed) (reads : ReadsCommands) (may : MayCome c) (given : StoreAnswer) (after : Tables) (o : outcome_of t c ≡ Accepted given after) where
     -- the payloads before and after an append open with the contents before and after the command
-    either : (payloads : List (List ℕ)) → contents_of payloads ≡ Some t → (r : Result (List (List ℕ)) ℕ) → IsEither payloads (payloads ++ command_payload c ∷ []) r → OpensWithEither t after r
-    either payloads is r (inl e) = inl (payloads, e, is)
-    either payloads is r (inr e) = inr (payloads ++ command_payload c ∷ [], e, contents-more payloads c t after given reads may is o)
+    either : (payloads : List (List ℕ)) → contents_of payloads ≡ Some t → is_old payloads ≡ false → (r : Result (List (List ℕ)) ℕ) → IsEither payloads (payloads ++ command_payload c ∷ []) r → OpensWithEither t after r
+    either payloads is today r (inl e) = inl (payloads, e, is)
+    either payloads is today r (inr e) = inr (payloads ++ command_payload c ∷ [], e, contents-more payloads c t after given reads may today is o)
 
     risks : (new : JournalState) → Tells (Commits (command_payload c)) (told j) (told new) → Tells (SinceOpened (OpensWithEither t after)) (told j) (told new)
     risks new tells = tells_map_at (Commits (command_payload c)) (SinceOpened (OpensWithEither t after)) (told j) (told new)
         (λ f g is commits.
-        let held = consistent works f is in
-        since_opened_weaker (IsEither held.0 (held.0 ++ command_payload c ∷ [])) (OpensWithEither t after) f g (either held.0 held.2) (commits held.0 held.1))
+        let held = current works f is in
+        since_opened_weaker (IsEither held.0 (held.0 ++ command_payload c ∷ [])) (OpensWithEither t after) f g (either held.0 held.2 held.3) (commits held.0 held.1))
         tells
 
-    pub consistent-on : (new : JournalState) → Tells (Committed (command_payload c)) (told j) (told new) → IsConsistent new after
-    consistent-on new tells unbroken files is =
+    pub current-on : (new : JournalState) → Tells (Committed (command_payload c)) (told j) (told new) → IsCurrent new after
+    current-on new tells unbroken files is =
         let before = told_before (Committed (command_payload c)) (told j) (told new) files tells is in
-        let held = consistent works before.0 before.1 in
-        (held.0 ++ command_payload c ∷ [], before.2 held.0 held.1, contents-more held.0 c t after given reads may held.2 o)
+        let held = current works before.0 before.1 in
+        (held.0 ++ command_payload c ∷ [], before.2 held.0 held.1, contents-more held.0 c t after given reads may held.3 held.2 o, old-more held.0 c reads may held.3)
 
     leaves-after : (new : JournalState) → new.is_broken ≡ false → Tells (Committed (command_payload c)) (told j) (told new) → Leaves after (record { contents = after; journal = new })
     leaves-after new unbroken tells files is =
-        let held = consistent-on new tells unbroken files is in
+        let held = current-on new tells unbroken files is in
         leaves_weaker (IsJust held.0) (OpensWith after) files (λ r e. (held.0, e, held.2)) held.1.leaves
 
     abbrev Went : StoreAnswer → StoreState → Type 0
@@ -142,23 +142,23 @@ module _ (t : Tables) (j : JournalState) (consistent : IsConsistent j t) (works 
     moves-refused refusals.OutOfMemory new w = absurd w
 
     -- then the journal holds what it held, or a fault was met
-    pub consistent-refused : (refusal : StoreRefusal) (new : JournalState) → Written (command_payload c) (Some refusal) j new → IsConsistent new t
-    consistent-refused (refusals.CommandTooLong n) new w = subst (λ (k : JournalState). IsConsistent k t) (sym w.1) consistent
-    consistent-refused (refusals.Full len) new w = subst (λ (k : JournalState). IsConsistent k t) (sym w.1) consistent
-    consistent-refused refusals.DiskFault new w = λ same files tells. absurd (clash new.is_broken (ap (λ (k : JournalState). k.is_broken) w.1) same)
-    consistent-refused (refusals.OtherBoot greatest) new w = absurd w
-    consistent-refused (refusals.OldSeq floor) new w = absurd w
-    consistent-refused (refusals.NodesFull nodes) new w = absurd w
-    consistent-refused refusals.Spent new w = absurd w
-    consistent-refused (refusals.TooManyOps n) new w = absurd w
-    consistent-refused (refusals.KeyTooLong op n) new w = absurd w
-    consistent-refused (refusals.ValueTooLong op n) new w = absurd w
-    consistent-refused (refusals.OtherMoment m) new w = absurd w
-    consistent-refused refusals.Reopen new w = absurd w
-    consistent-refused refusals.OutOfMemory new w = absurd w
+    pub current-refused : (refusal : StoreRefusal) (new : JournalState) → Written (command_payload c) (Some refusal) j new → IsCurrent new t
+    current-refused (refusals.CommandTooLong n) new w = subst (λ (k : JournalState). IsCurrent k t) (sym w.1) current
+    current-refused (refusals.Full len) new w = subst (λ (k : JournalState). IsCurrent k t) (sym w.1) current
+    current-refused refusals.DiskFault new w = λ same files tells. absurd (clash new.is_broken (ap (λ (k : JournalState). k.is_broken) w.1) same)
+    current-refused (refusals.OtherBoot greatest) new w = absurd w
+    current-refused (refusals.OldSeq floor) new w = absurd w
+    current-refused (refusals.NodesFull nodes) new w = absurd w
+    current-refused refusals.Spent new w = absurd w
+    current-refused (refusals.TooManyOps n) new w = absurd w
+    current-refused (refusals.KeyTooLong op n) new w = absurd w
+    current-refused (refusals.ValueTooLong op n) new w = absurd w
+    current-refused (refusals.OtherMoment m) new w = absurd w
+    current-refused refusals.Reopen new w = absurd w
+    current-refused refusals.OutOfMemory new w = absurd w
 
     pub moves-written : (new : JournalState) → Written (command_payload c) None j new → Moves here c given (record { contents = after; journal = new })
     moves-written new w = moves-done new w.0 w.1 w.2 w.3
 
-    pub consistent-written : (new : JournalState) → Written (command_payload c) None j new → IsConsistent new after
-    consistent-written new w = consistent-on new w.3
+    pub current-written : (new : JournalState) → Written (command_payload c) None j new → IsCurrent new after
+    current-written new w = current-on new w.3

@@ -7,7 +7,7 @@ use Rattle.store_payloads.specs.Laws.{snapshot_payloads}
 use Rattle.tx_journal.specs.declared.error.JournalError.{JournalError}
 use Rattle.tx_journal.specs.declared.error.JournalError.TheVariants as errors
 use Rattle.tx_journal.specs.declared.format.Format.TheVariants.{Two}
-use Rattle.tx_journal.specs.Calls.{JournalState, told, next_number, start_refusal, is_alone, row_refusal, staged_payloads, OtherKeeps, OtherRises}
+use Rattle.tx_journal.specs.Calls.{JournalState, told, next_number, start_refusal, is_alone, row_refusal, staged_payloads, Kept, OtherKeeps, OtherRises}
 use Rattle.tx_journal.specs.Pair.{Files, Holds, SinceOpened}
 use Rattle.store_core.specs.declared.events.CompactEnd.{CompactEnd}
 use Rattle.store_core.specs.declared.events.CompactEnd.TheVariants.{Compacted, NotNeeded, Failed, OutOfMemory}
@@ -45,6 +45,7 @@ RisksNothing old new = Tells (SinceOpened (OpensWith old.contents)) (told old.jo
 pub record IsKept (old new : StoreState) : Type 0 where
   pub contents : new.contents ≡ old.contents
   pub journal : new.journal ≡ record old.journal { other = new.journal.other; staged = new.journal.staged }
+  pub holds : Tells Kept (told old.journal) (told new.journal)
   pub leaves : Leaves old.contents new
   pub risks : RisksNothing old new
 
@@ -119,6 +120,7 @@ pub record IsStaged (t : Tables) (rows : List (List ℕ)) (old new : JournalStat
   pub paired : is_alone new.other ≡ false
   pub count : OtherKeeps old.other new.other
   pub has : Tells (HasRows old.is_second_live rows) (told old) (told new)
+  pub holds : Tells Kept (told old) (told new)
   pub consistent : IsConsistent new t
   pub keeps : Keeps t old new
 
@@ -126,6 +128,7 @@ pub record IsStaged (t : Tables) (rows : List (List ℕ)) (old new : JournalStat
 pub record IsStopped (t : Tables) (old new : JournalState) : Type 0 where
   pub journal : new ≡ record old { other = new.other; staged = new.staged }
   pub paired : is_alone new.other ≡ false
+  pub holds : Tells Kept (told old) (told new)
   pub consistent : IsConsistent new t
   pub keeps : Keeps t old new
 

@@ -1,6 +1,7 @@
 pub mod Contents
 pub mod Store
-pub mod Opens
 pub mod Compacts
+pub mod Migrations
+pub mod Opens
 pub mod Events
 pub mod Runs

@@ -1,13 +1,18 @@
 -- Opening a store: what it contains, why it is refused, and what a crash leaves. Own.
-use Rattle.std.specs.Prelude.{◌≡◌, ◌⊎◌, ℕ, ◌+◌, Bool, true, false, List, [], ◌∷◌, length, Option, None, Some, Ok}
+use Rattle.std.specs.Prelude.{◌≡◌, ◌⊎◌, ℕ, ◌+◌, Bool, true, false, List, [], ◌∷◌, length, take, drop, Option, None, Some, Ok}
+use Rattle.disk_model.specs.Disk.{DiskState}
 use Rattle.store_tables.specs.Tables.{Tables, no_tables}
-use Rattle.store_payloads.specs.Payloads.{payload_reading}
+use Rattle.store_payloads.specs.FirstForm.{reading_in}
 use Rattle.store_payloads.specs.Folds.{Folded, folded, start}
 use Rattle.tx_journal.specs.declared.error.JournalError.{JournalError}
 use Rattle.tx_journal.specs.declared.error.JournalError.TheVariants.{DiskFault, Damaged, TooLong, Full, Reopen, NotStarted, OneDisk, Spent, OutOfMemory}
-use Rattle.tx_journal.specs.Pair.{Files, Holds, first_generation, read_payloads, LeavesOpened}
-use Rattle.tx_journal.specs.Calls.{JournalState, told, is_making, RefusesFiles}
-use Rattle.store_core.specs.Contents.{contents_of, OpensWith}
+use Rattle.tx_journal.specs.declared.format.Format.TheVariants.{One}
+use Rattle.tx_journal.specs.File.{name}
+use Rattle.tx_journal.specs.Pair.{Files, Holds, first_generation, read_payloads, LeavesOpened, SinceOpened}
+use Rattle.tx_journal.specs.Calls.{JournalState, told, next_number, is_making, FindsIn, RefusesFiles, KeepsFiles}
+use Rattle.store_core.specs.Contents.{contents_of, is_old, compacted_payloads, OpensWith}
+use Rattle.store_core.specs.Store.{StoreState}
+use Rattle.store_core.specs.Migrations.{migration_refusal}
 
 -- nothing if the first file is made, and otherwise what the payloads of the live one lead to
 abbrev pub FindsTables : Bool → Files → Tables → Type 0
@@ -24,27 +29,78 @@ fault_by None at later = Some at
 fault_by (Some f) at later = later f
 
 -- A payload is behind its gate and its length. The first number is the offset of the first payload.
-abbrev pub fault_from : ℕ → List (List ℕ) → Folded → Option ℕ
-fault_from at [] f = None
-fault_from at (p ∷ ps) f = fault_by (folded (payload_reading p) f) at (λ g. fault_from (at + 5 + length p) ps g)
+abbrev pub fault_from : Bool → ℕ → List (List ℕ) → Folded → Option ℕ
+fault_from is_first at [] f = None
+fault_from is_first at (p ∷ ps) f = fault_by (folded (reading_in is_first p) f) at (λ g. fault_from is_first (at + 5 + length p) ps g)
 
-abbrev pub fault_behind : Option ℕ → List (List ℕ) → Option ℕ
-fault_behind None payloads = fault_from 13 payloads (start false)
-fault_behind (Some number) [] = None
-fault_behind (Some number) (p ∷ ps) = fault_from (18 + length p) ps (start true)
+abbrev pub fault_behind : Bool → Option ℕ → List (List ℕ) → Option ℕ
+fault_behind is_first None payloads = fault_from is_first 13 payloads (start false)
+fault_behind is_first (Some n) [] = None
+fault_behind is_first (Some n) (p ∷ ps) = fault_from is_first (18 + length p) ps (start true)
 
 -- the first payload of a file is at 13, behind its name, gate and length; a Generation there isn't folded
 abbrev pub payloads_fault : List (List ℕ) → Option ℕ
-payloads_fault payloads = fault_behind (first_generation payloads) payloads
+payloads_fault payloads = fault_behind (is_old payloads) (first_generation payloads) payloads
 
--- the cause of a refused opening: that of the journal, or a payload that isn't read
+-- ---- an old file, which is compacted before the opening is done
+
+-- its payloads are read, but their compaction is refused for this
+abbrev pub RefusesMigration : Bool → JournalError → Files → Type 0
+RefusesMigration create e files =
+    (payloads : List (List ℕ)) × (t : Tables) × FindsIn (is_making create files.first files.second) files payloads × (contents_of payloads ≡ Some t) × (migration_refusal payloads t ≡ Some e)
+
+-- the live file is the one that the opening wrote, with a number one above that of the file that it read
+pub record IsMigrated (create : Bool) (before : Option Files) (s : StoreState) : Type 0 where
+  pub count : ℕ
+  pub generation : s.journal.generation ≡ Some count
+  pub above : (files : Files) → before ≡ Some files → (payloads : List (List ℕ)) → FindsIn (is_making create files.first files.second) files payloads → count ≡ next_number (first_generation payloads)
+  pub holds : (files : Files) → told s.journal ≡ Some files → Holds (compacted_payloads count 0 s.contents) files
+
+-- a file of the first format
+abbrev pub HasFirstName : Option DiskState → Type 0
+HasFirstName None = ⊥
+HasFirstName (Some d) = take 7 (drop 1 d.bytes) ≡ name One
+
+-- why an opening compacts: the payloads that it read are of the first form, or a file is of the first format
+abbrev pub WasOld : Bool → Files → Files → Type 0
+WasOld create old new =
+    ((payloads : List (List ℕ)) × FindsIn (is_making create old.first old.second) old payloads × (is_old payloads ≡ true))
+    ⊎ HasFirstName (Some new.first)
+    ⊎ HasFirstName new.second
+
+-- Until the files are opened, a crash leaves them as they were read; from then on, whatever it leaves opens with the
+-- same contents.
+abbrev pub Migrates : Bool → Tables → Files → Files → Type 0
+Migrates create t old new = FindsTables (is_making create old.first old.second) old t × (mid : Files) × KeepsFiles create old mid × SinceOpened (OpensWith t) mid new
+
+-- what a crash in an opening may leave: the files as they were read or made, or those of a compaction
+abbrev pub KeepsStore : Bool → Files → Files → Type 0
+KeepsStore create old new = KeepsFiles create old new ⊎ (WasOld create old new × (t : Tables) × Migrates create t old new)
+
+-- ---- refusals
+
+-- what an opening may be refused for
+abbrev pub IsStoreOpenError : JournalError → Type 0
+IsStoreOpenError DiskFault = Unit {0}
+IsStoreOpenError (Damaged offset) = Unit {0}
+IsStoreOpenError (TooLong n) = Unit {0}
+IsStoreOpenError (Full len) = Unit {0}
+IsStoreOpenError Reopen = ⊥
+IsStoreOpenError NotStarted = ⊥
+IsStoreOpenError OneDisk = ⊥
+IsStoreOpenError (Spent count) = ⊥
+IsStoreOpenError OutOfMemory = Unit {0}
+
+-- a payload that isn't read
+abbrev pub RefusesPayload : Bool → ℕ → Files → Type 0
+RefusesPayload create offset files = (is_making create files.first files.second ≡ false) × (payloads : List (List ℕ)) × (read_payloads files ≡ Ok payloads) × (payloads_fault payloads ≡ Some offset)
+
+-- The cause of a refused opening: that of the journal, a payload that isn't read, or that of the compaction.
 abbrev pub RefusesStore : Bool → JournalError → Files → Type 0
-RefusesStore create (Damaged offset) files =
-    RefusesFiles create (Damaged offset) files
-    ⊎ ((is_making create files.first files.second ≡ false) × (payloads : List (List ℕ)) × (read_payloads files ≡ Ok payloads) × (payloads_fault payloads ≡ Some offset))
+RefusesStore create (Damaged offset) files = RefusesFiles create (Damaged offset) files ⊎ RefusesPayload create offset files ⊎ RefusesMigration create (Damaged offset) files
 RefusesStore create DiskFault files = RefusesFiles create DiskFault files
-RefusesStore create (TooLong n) files = RefusesFiles create (TooLong n) files
-RefusesStore create (Full len) files = RefusesFiles create (Full len) files
+RefusesStore create (TooLong n) files = RefusesMigration create (TooLong n) files
+RefusesStore create (Full len) files = RefusesFiles create (Full len) files ⊎ RefusesMigration create (Full len) files
 RefusesStore create Reopen files = RefusesFiles create Reopen files
 RefusesStore create NotStarted files = RefusesFiles create NotStarted files
 RefusesStore create OneDisk files = RefusesFiles create OneDisk files
@@ -73,3 +129,7 @@ IsFoldFault NotStarted j = ⊥
 IsFoldFault OneDisk j = ⊥
 IsFoldFault (Spent count) j = ⊥
 IsFoldFault OutOfMemory j = Unit {0}
+
+-- the form of the payloads that it holds
+abbrev pub HasForm : Bool → JournalState → Type 0
+HasForm is_first j = (files : Files) → told j ≡ Some files → (payloads : List (List ℕ)) → Holds payloads files → is_old payloads ≡ is_first

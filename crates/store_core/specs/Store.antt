@@ -14,7 +14,7 @@ use Rattle.tx_journal.specs.Calls.{JournalState, told, is_alone, append_refusal,
 use Rattle.tx_journal.specs.Pair.{Files, Holds, LeavesOpened, SinceOpened}
 use Rattle.store_payloads.specs.Fits.{TablesFit}
 use Rattle.store_payloads.specs.Payloads.{command_payload}
-use Rattle.store_core.specs.Contents.{contents_of, OpensWith, OpensWithEither}
+use Rattle.store_core.specs.Contents.{contents_of, is_old, OpensWith, OpensWithEither}
 
 -- what a store contains, and its journal
 pub record StoreState : Type 0 where
@@ -25,9 +25,13 @@ pub record StoreState : Type 0 where
 abbrev pub IsConsistent : JournalState → Tables → Type 0
 IsConsistent j t = j.is_broken ≡ false → (files : Files) → told j ≡ Some files → (payloads : List (List ℕ)) × Holds payloads files × (contents_of payloads ≡ Some t)
 
+-- the same, and they aren't of the first form, so that an append goes on in theirs
+abbrev pub IsCurrent : JournalState → Tables → Type 0
+IsCurrent j t = j.is_broken ≡ false → (files : Files) → told j ≡ Some files → (payloads : List (List ℕ)) × Holds payloads files × (contents_of payloads ≡ Some t) × (is_old payloads ≡ false)
+
 -- what is true of every store; it has both of its files
 pub record IsWhole (j : JournalState) (t : Tables) : Type 0 where
-  pub consistent : IsConsistent j t
+  pub current : IsCurrent j t
   pub fits : TablesFit t
   pub paired : is_alone j.other ≡ false
 

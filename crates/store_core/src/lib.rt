@@ -5,10 +5,12 @@
 // `store_tables`, `frame_wire`, `tx_journal`, `state_machine`, `disk_model` and `actor_names`.
 #![tactic(auto)]
 
+mod compaction;
 mod ending;
 mod events;
 mod law;
 mod machine;
+mod migration;
 mod opening;
 mod staging;
 mod store;

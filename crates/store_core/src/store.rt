@@ -7,14 +7,15 @@ ghost use Rattle.store_tables.specs.Tables.{told_in};
 ghost use Rattle.store_tables.specs.Contents.{outcome_of};
 ghost use Rattle.store_payloads.specs.Laws.{MayCome};
 ghost use Rattle.tx_journal.specs.declared.format.Format.TheVariants.{Two};
-ghost use Rattle.tx_journal.specs.Journal.{IsOpenError, Rises};
-ghost use Rattle.tx_journal.specs.Calls.{told, tell_both, is_alone, first_side, second_side, IsOpened, IsNumbered, MakesFormat, KeepsFiles};
+ghost use Rattle.tx_journal.specs.Journal.{Rises};
+ghost use Rattle.tx_journal.specs.Calls.{told, tell_both, is_alone, first_side, second_side, IsOpened, IsNumbered};
 ghost use Rattle.tx_journal.specs.Pair.{Files};
-ghost use Rattle.store_core.specs.Opens.{OpensStore, RefusesStore};
-ghost use Rattle.store_core.specs.Store.{refusal_by, Written, Moves};
+ghost use Rattle.store_core.specs.Opens.{OpensStore, IsMigrated, IsStoreOpenError, RefusesStore, KeepsStore};
+ghost use Rattle.store_core.specs.Store.{refusal_by, IsCurrent, Written, Moves};
 
 use crate::ending::end;
-use crate::opening::read_tables;
+use crate::migration::{is_up_to_date, migrate};
+use crate::opening::{Found, read_tables};
 use disk_model::Disk;
 use frame_wire::{StoreAnswer, StoreCommand, StoreRefusal};
 use std::alloc::Global;
@@ -115,8 +116,11 @@ fn close_pair<D: Disk>(journal: Journal<D>) -> (D, D)
 
 impl<D: Disk> Store<D> {
     /// Opens a store of two files. It contains what the payloads of the live one lead to, or nothing if neither is made
-    /// and `create` is true. `Damaged` is answered also at the first payload that has no reading. A refused opening
-    /// hands both disks back.
+    /// and `create` is true. `Damaged` is answered also at the first payload that has no reading.
+    ///
+    /// A live file of the first format is compacted before it answers; what it contains is in the space `default`. If
+    /// that is refused, so is the opening, and `Damaged` at the live file's length stands for `Spent`. A refused opening
+    /// hands both disks back, and their live file has the contents that it had.
     pub fn open(
         alloc: Global,
         first: D,
@@ -125,19 +129,37 @@ impl<D: Disk> Store<D> {
     ) -> Result<Store<D>, (JournalError, D, D)>
         ensures opened { IfOk result (λ s. Tells (OpensStore create s.contents) (tell_both (D.told first) (D.told second)) (told s.journal)) }
         ensures state { IfOk result (λ s. IsOpened s.journal × (is_alone s.journal.other ≡ false)) }
-        ensures numbered { IfOk result (λ s. IsNumbered s.journal) }
-        ensures made { IfOk result (λ s. MakesFormat Two create (tell_both (D.told first) (D.told second)) s.journal) }
-        ensures refused { IfErr result (λ r. IsOpenError r.0 × ((files : Files) → tell_both (D.told first) (D.told second) ≡ Some files → RefusesStore create r.0 files)) }
-        ensures crash { IfOk result (λ s. Tells (KeepsFiles create) (tell_both (D.told first) (D.told second)) (told s.journal)) }
-        ensures crash_refused { IfErr result (λ r. Tells (KeepsFiles create) (tell_both (D.told first) (D.told second)) (tell_both (D.told r.1) (D.told r.2))) }
+        ensures current { IfOk result (λ s. IsCurrent s.journal s.contents) }
+        ensures format { IfOk result (λ s. s.journal.format ≡ Two) }
+        ensures numbered { IfOk result (λ s. IsNumbered s.journal ⊎ IsMigrated create (tell_both (D.told first) (D.told second)) s) }
+        ensures refused { IfErr result (λ r. IsStoreOpenError r.0 × ((files : Files) → tell_both (D.told first) (D.told second) ≡ Some files → RefusesStore create r.0 files)) }
+        ensures crash { IfOk result (λ s. Tells (KeepsStore create) (tell_both (D.told first) (D.told second)) (told s.journal)) }
+        ensures crash_refused { IfErr result (λ r. Tells (KeepsStore create) (tell_both (D.told first) (D.told second)) (tell_both (D.told r.1) (D.told r.2))) }
         ensures cause { IfErr result (λ r. r.0 ≡ JournalError.DiskFault → Rises (D.disk_faults first) (D.disk_faults r.1) ⊎ Rises (D.disk_faults second) (D.disk_faults r.2)) }
     {
         let mut journal = match Journal::open_pair(alloc, first, second, create) {
             Ok(journal) => journal,
             Err(refused) => return Err(refused),
         };
-        match read_tables(alloc, &mut journal) {
-            Ok(tables) => Ok(Store {
+        let Found {
+            mut tables,
+            is_first,
+        } = match read_tables(alloc, &mut journal) {
+            Ok(found) => found,
+            Err(error) => {
+                let (first, second) = close_pair(journal);
+                return Err((error, first, second));
+            }
+        };
+        if is_up_to_date(&journal, is_first) {
+            return Ok(Store {
+                journal,
+                tables,
+                alloc,
+            });
+        }
+        match migrate(alloc, &mut journal, &mut tables) {
+            Ok(()) => Ok(Store {
                 journal,
                 tables,
                 alloc,

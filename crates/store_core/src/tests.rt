@@ -19,6 +19,21 @@ const COMPACTED: &[u8] = b"\x01ACTJRN2\
 \x01\0\0\0\x11\0\0\0\0\0\0\0\0\x80\0\0\0\0\0\0\0\x01\
 \x01\0\0\0\x1b\0\0\0\0\0\0\0\0\x81\x07default\x01a\0\0\0\0\0\0\0\x01\0";
 
+// A file of the first format with a boot of a, which has no space.
+const OLD: &[u8] = b"\x01ACTJRN1\x01\0\0\0\x0b\0\0\0\0\0\0\0\0\x20\x01a\0";
+
+// A boot of blue:a at the moment 0.
+const BLUE: &[u8] = b"\0\0\0\0\0\0\0\0\x20\x04blue\x01a";
+
+// What the opening makes of that file, with that boot behind it.
+const MIGRATED: &[u8] = b"\x01ACTJRN2\
+\x01\0\0\0\x11\0\0\0\0\0\0\0\0\x80\0\0\0\0\0\0\0\x01\
+\x01\0\0\0\x1b\0\0\0\0\0\0\0\0\x81\x07default\x01a\0\0\0\0\0\0\0\x01\
+\x01\0\0\0\x10\0\0\0\0\0\0\0\0\x20\x04blue\x01a\0";
+
+// Choices of what a crash leaves of a disk: without changes, with all, with other bytes in their place.
+const CHOICES: &[u64] = &[0, 1, 258];
+
 fn refused() -> Fail {
     Fail::new("refused")
 }
@@ -149,5 +164,80 @@ fn is_compacted(alloc: Global) -> Result<bool, Fail> {
 #[test]
 fn compaction_writes_generation_and_rows(rt: HostRuntime) -> Result<(), Fail> {
     assert!(rt; is_compacted(rt.alloc())?);
+    Ok(())
+}
+
+// Whether a store whose first file is the old one has drawn the boot 1, and the second file is its live one then.
+fn is_migrated(alloc: Global) -> Result<bool, Fail> {
+    let first = MemDisk::new(alloc, OLD, &[])?;
+    let second = MemDisk::new(alloc, b"", &[])?;
+    let mut store = open(alloc, first, second, false)?;
+    let drawn = boot_of(answer(alloc, &mut store, BLUE)) == 2;
+    let (first, second) = disks(store)?;
+    Ok(drawn && first.bytes() == OLD && second.bytes() == MIGRATED)
+}
+
+#[test]
+fn old_format_is_migrated_on_open(rt: HostRuntime) -> Result<(), Fail> {
+    assert!(rt; is_migrated(rt.alloc())?);
+    Ok(())
+}
+
+// Whether a store of what a crash may leave of these disks draws the boot 2, for each choice of images.
+fn keep_boot(
+    alloc: Global,
+    first: &MemDisk,
+    second: &MemDisk,
+    choices: &[u64],
+) -> Result<bool, Fail> {
+    for choice in choices {
+        let mut store = open(alloc, first.image(*choice)?, second.image(*choice)?, false)?;
+        let drawn = boot_of(answer(alloc, &mut store, BLUE));
+        end(store);
+        if drawn != 2 {
+            return Ok(false);
+        }
+    }
+    Ok(true)
+}
+
+// Opens the old file beside an empty one, whose disks fail at the calls of these numbers: whether it is opened, if it
+// keeps its boot.
+fn stopped(
+    alloc: Global,
+    failing: &[u64],
+    other: &[u64],
+    choices: &[u64],
+) -> Result<Option<bool>, Fail> {
+    let first = MemDisk::new(alloc, OLD, failing)?;
+    let second = MemDisk::new(alloc, b"", other)?;
+    match Store::open(alloc, first, second, false) {
+        Ok(store) => {
+            let (first, second) = disks(store)?;
+            Ok(keep_boot(alloc, &first, &second, choices)?.then_some(true))
+        }
+        Err((_, first, second)) => {
+            Ok(keep_boot(alloc, &first, &second, choices)?.then_some(false))
+        }
+    }
+}
+
+#[test]
+fn stopped_migration_keeps_contents(rt: HostRuntime) -> Result<(), Fail> {
+    // The old file is only read, by 15 calls; the other disk has 12.
+    for stop in 1..17 {
+        let opened = stopped(rt.alloc(), &[stop], &[], &[1])?;
+        assert!(rt;
+            opened == Some(stop == 16),
+            "the first disk stopped at {stop}"
+        );
+    }
+    for stop in 1..14 {
+        let opened = stopped(rt.alloc(), &[], &[stop], CHOICES)?;
+        assert!(rt;
+            opened == Some(stop == 13),
+            "the second disk stopped at {stop}"
+        );
+    }
     Ok(())
 }

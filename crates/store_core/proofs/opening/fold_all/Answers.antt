@@ -14,13 +14,13 @@ loop-index-init g c = record {
   fits = c.requires.fits;
   faults = omega arith;
   read = λ files tells payloads holds.
-      first_read (is_some c.args.journal.now.generation) _ _ _ (c.first_place-at.ensures ∙ ap first_place (c.is_some.ensures ∙ ap is_some c.generation.ensures.number)) c.requires.start;
+      first_read c.args.is_first (is_some c.args.journal.now.generation) _ _ _ (c.first_place-at.ensures ∙ ap first_place (c.is_some.ensures ∙ ap is_some c.generation.ensures.number)) c.requires.start;
 }
 
 pub returns-in-Ok-None-clause-read : goal.returns-in-Ok-None-clause-read
 returns-in-Ok-None-clause-read g c =
     let so_far = c.loop-index.invariant in
-    all_folded c.args.journal.now c.loop-index.journal so_far.same c.requires.pair c.args.journal.now.generation
+    all_folded c.args.journal.now c.loop-index.journal so_far.same c.requires.pair c.args.is_first c.requires.form c.args.journal.now.generation
     (λ files tells payloads holds. sym c.generation.ensures.number ∙ c.generation.ensures.first c.requires.works c.requires.pair files tells payloads holds)
     Global c.loop-index.index c.loop-index.at c.loop-index.fold so_far.read
     (λ files tells payloads holds.
@@ -36,7 +36,7 @@ returns-in-Err-clause-cause g c =
 pub returns-then-not-taken-clause-fault : goal.returns-then-not-taken-clause-fault
 returns-then-not-taken-clause-fault g c =
     let so_far = c.loop-index.invariant in
-    fault_folded c.args.journal.now c.loop-index.journal so_far.same c.requires.pair c.args.journal.now.generation
+    fault_folded c.args.journal.now c.loop-index.journal so_far.same c.requires.pair c.args.is_first c.requires.form c.args.journal.now.generation
     (λ files tells payloads holds. sym c.generation.ensures.number ∙ c.generation.ensures.first c.requires.works c.requires.pair files tells payloads holds)
     Global c.loop-index.index c.loop-index.at c.loop-index.fold so_far.read
     c.in-Ok-Some.payload c.as_slice.result.now c.as_slice.ensures.value
@@ -54,7 +54,7 @@ loop-index-preserved g c =
       fits = c.in-Ok.ensures.fits c.if-not-taken.false so_far.fits;
       faults = omega (arith, so_far.faults, c.in-Ok-Some.ensures.cause);
       read =
-          more_folded c.args.journal.now c.loop-index.journal so_far.same c.requires.pair c.args.journal.now.generation
+          more_folded c.args.journal.now c.loop-index.journal so_far.same c.requires.pair c.args.is_first c.requires.form c.args.journal.now.generation
           (λ files tells payloads holds. sym c.generation.ensures.number ∙ c.generation.ensures.first c.requires.works c.requires.pair files tells payloads holds)
           Global c.loop-index.index c.loop-index.at c.loop-index.fold so_far.read
           c.in-Ok-Some.payload c.as_slice.result.now c.as_slice.ensures.value

@@ -12,5 +12,5 @@ invariant-loop-index g l = record {
   same : l.journal ≡ record l.fn.journal { live = record { told = l.fn.journal.live.told; faults = l.journal.live.faults } };
   fits : TablesFit l.fold.tables;
   faults : l.fn.journal.live.faults ≤ l.journal.live.faults;
-  read : (files : Files) → told l.fn.journal ≡ Some files → (payloads : List (List ℕ)) → Holds payloads files → IsRead (is_some l.fn.journal.generation) (without_generation payloads) l.index l.at l.fold;
+  read : (files : Files) → told l.fn.journal ≡ Some files → (payloads : List (List ℕ)) → Holds payloads files → IsRead l.is_first (is_some l.fn.journal.generation) (without_generation payloads) l.index l.at l.fold;
 }

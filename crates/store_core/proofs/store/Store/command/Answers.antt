@@ -18,7 +18,7 @@ accept-requires-clause-accepted g c =
 
 pub returns-in-Ok-Some-clause-moves : goal.returns-in-Ok-Some-clause-moves
 returns-in-Ok-Some-clause-moves g c =
-    rw (← c.self.view_is) (moves-told c.self.inside.tables.tables c.self.inside.journal c.self.invariant.consistent (sym c.is_broken.ensures ∙ c.if-is_broken.false) (record { now = c.args.now; command = c.args.command }) c.in-Ok-Some.answer
+    rw (← c.self.view_is) (moves-told c.self.inside.tables.tables c.self.inside.journal c.self.invariant.current (sym c.is_broken.ensures ∙ c.if-is_broken.false) (record { now = c.args.now; command = c.args.command }) c.in-Ok-Some.answer
     (sym c.in-Ok-Some.ensures.answer ∙ c.in-Ok-Some.field-0-is))
 
 pub returns-in-Ok-Some-clause-fits : goal.returns-in-Ok-Some-clause-fits
@@ -29,4 +29,4 @@ returns-in-Ok-Some-clause-fits g c =
 
 pub returns-in-Err-clause-moves : goal.returns-in-Err-clause-moves
 returns-in-Err-clause-moves g c =
-    rw (← c.self.view_is, c.out_of_memory.ensures.is) (moves-ran-out c.self.inside.tables.tables c.self.inside.journal c.self.invariant.consistent (sym c.is_broken.ensures ∙ c.if-is_broken.false) (record { now = c.args.now; command = c.args.command }) c.in-Err.ensures.memory)
+    rw (← c.self.view_is, c.out_of_memory.ensures.is) (moves-ran-out c.self.inside.tables.tables c.self.inside.journal c.self.invariant.current (sym c.is_broken.ensures ∙ c.if-is_broken.false) (record { now = c.args.now; command = c.args.command }) c.in-Err.ensures.memory)
