@@ -16,7 +16,7 @@ use Rattle.store_core.specs.Contents.{compacted_payloads, OpensWith}
 use Rattle.store_core.specs.Store.{StoreState}
 use Rattle.store_core.specs.Compacts.{Keeps, IsKept, IsCompacted, HasFaulted}
 use Rattle.store_core.specs.Migrations.{HasNumber, IsNamed, IsRefusedFor, Rewrites}
-use Rattle.store_core.specs.Opens.{OpensStore, RefusesMigration, IsMigrated, HasFirstName, WasOld, KeepsStore, IsStoreOpenError, RefusesStore, IsFolded, HasForm}
+use Rattle.store_core.specs.Opens.{OpensStore, RefusesMigration, HasFirstName, IsOfFirstFormat, FindsOld, IsMigrated, WasOld, KeepsStore, IsStoreOpenError, RefusesStore, IsFolded, HasForm}
 use Rattle.store_core.proofs.Claims.{at_told, opened_now}
 use Rattle.store_core.proofs.Opened.{opens-store, opened_tells}
 use Rattle.store_core.proofs.Openings.{rises_from, told_read, folded_told, form_told, number_read}
@@ -118,22 +118,32 @@ module _ (create : Bool) (before : Option Files) (t : Tables) (j k : JournalStat
 pub kept_keeps : (create : Bool) (before after : Option Files) → Tells (KeepsFiles create) before after → Tells (KeepsStore create) before after
 kept_keeps create before after tells = tells_map (KeepsFiles create) (KeepsStore create) before after (λ f h keeps. inl keeps) tells
 
--- ---- the number of the file that it wrote
+-- ---- the file that it wrote, and the one that it read
 
 finds_same : (making : Bool) (files : Files) (a b : List (List ℕ)) → FindsIn making files a → FindsIn making files b → a ≡ b
 finds_same true files a b one two = one ∙ sym two
 finds_same false files a b one two = let both : Ok a ≡ Ok b = sym one ∙ two in cc
 
-pub migrated_is : (create : Bool) (before : Option Files) (old new : StoreState) (rows : ℕ) → Tells (OpensFiles create) before (told old.journal) → HasNumber old.journal → IsCompacted 0 rows old new → IsMigrated create before new
-migrated_is create before old new rows opens has is = record {
-  count = next_number old.journal.generation;
-  generation = ap (λ (x : JournalState). x.generation) is.journal;
-  above = λ files same payloads finds.
-      let on = tells_on (OpensFiles create) before (told old.journal) files opens same in
-      ap next_number (has on.0 on.1 on.2.0 on.2.2)
-      ∙ ap (λ (ps : List (List ℕ)). next_number (first_generation ps)) (finds_same (is_making create files.first files.second) files on.2.0 payloads on.2.1 finds);
-  holds = λ files tells. subst (λ (u : Tables). Holds (compacted_payloads (next_number old.journal.generation) 0 u) files) (sym is.contents) (is.holds files tells);
-}
+-- the file that was live is the other one now
+old_other : (old new : StoreState) (rows : ℕ) → IsCompacted 0 rows old new → IsNamed old.journal → old.journal.is_broken ≡ false → old.journal.format ≡ One → IsOfFirstFormat new.journal.other
+old_other old new rows is named works one = subst IsOfFirstFormat (sym (ap (λ (x : JournalState). x.other) is.journal)) (λ d reports. named works d reports ∙ ap name one)
+
+module _ (create : Bool) (before : Option Files) (is_first : Bool) (old : StoreState) (opens : Tells (OpensFiles create) before (told old.journal)) (form : HasForm is_first old.journal) (works : old.journal.is_broken ≡ false) (named : IsNamed old.journal) where
+  why_old : (new : StoreState) (rows : ℕ) → IsCompacted 0 rows old new → (is_first ≡ true) ⊎ (old.journal.format ≡ One) → ((files : Files) → before ≡ Some files → FindsOld create files) ⊎ IsOfFirstFormat new.journal.other
+  why_old new rows is (inl first) = inl (λ files same. let on = tells_on (OpensFiles create) before (told old.journal) files opens same in (on.2.0, on.2.1, form on.0 on.1 on.2.0 on.2.2 ∙ first))
+  why_old new rows is (inr one) = inr (old_other old new rows is named works one)
+
+  pub migrated_is : (new : StoreState) (rows : ℕ) → HasNumber old.journal → (is_first ≡ true) ⊎ (old.journal.format ≡ One) → IsCompacted 0 rows old new → IsMigrated create before new
+  migrated_is new rows has aged is = record {
+    count = next_number old.journal.generation;
+    generation = ap (λ (x : JournalState). x.generation) is.journal;
+    above = λ files same payloads finds.
+        let on = tells_on (OpensFiles create) before (told old.journal) files opens same in
+        ap next_number (has on.0 on.1 on.2.0 on.2.2)
+        ∙ ap (λ (ps : List (List ℕ)). next_number (first_generation ps)) (finds_same (is_making create files.first files.second) files on.2.0 payloads on.2.1 finds);
+    holds = λ files tells. subst (λ (u : Tables). Holds (compacted_payloads (next_number old.journal.generation) 0 u) files) (sym is.contents) (is.holds files tells);
+    old = why_old new rows is aged;
+  }
 
 -- ---- why it is refused
 

@@ -1,6 +1,6 @@
 -- Opening a store: what it contains, why it is refused, and what a crash leaves. Own.
 use Rattle.std.specs.Prelude.{◌≡◌, ◌⊎◌, ℕ, ◌+◌, Bool, true, false, List, [], ◌∷◌, length, take, drop, Option, None, Some, Ok}
-use Rattle.disk_model.specs.Disk.{DiskState}
+use Rattle.disk_model.specs.Disk.{DiskState, Tells}
 use Rattle.store_tables.specs.Tables.{Tables, no_tables}
 use Rattle.store_payloads.specs.FirstForm.{reading_in}
 use Rattle.store_payloads.specs.Folds.{Folded, folded, start}
@@ -9,7 +9,7 @@ use Rattle.tx_journal.specs.declared.error.JournalError.TheVariants.{DiskFault, 
 use Rattle.tx_journal.specs.declared.format.Format.TheVariants.{One}
 use Rattle.tx_journal.specs.File.{name}
 use Rattle.tx_journal.specs.Pair.{Files, Holds, first_generation, read_payloads, LeavesOpened, SinceOpened}
-use Rattle.tx_journal.specs.Calls.{JournalState, told, next_number, is_making, FindsIn, RefusesFiles, KeepsFiles}
+use Rattle.tx_journal.specs.Calls.{Side, JournalState, told, next_number, is_making, FindsIn, IsNumbered, RefusesFiles, KeepsFiles}
 use Rattle.store_core.specs.Contents.{contents_of, is_old, compacted_payloads, OpensWith}
 use Rattle.store_core.specs.Store.{StoreState}
 use Rattle.store_core.specs.Migrations.{migration_refusal}
@@ -49,24 +49,37 @@ abbrev pub RefusesMigration : Bool → JournalError → Files → Type 0
 RefusesMigration create e files =
     (payloads : List (List ℕ)) × (t : Tables) × FindsIn (is_making create files.first files.second) files payloads × (contents_of payloads ≡ Some t) × (migration_refusal payloads t ≡ Some e)
 
--- the live file is the one that the opening wrote, with a number one above that of the file that it read
-pub record IsMigrated (create : Bool) (before : Option Files) (s : StoreState) : Type 0 where
-  pub count : ℕ
-  pub generation : s.journal.generation ≡ Some count
-  pub above : (files : Files) → before ≡ Some files → (payloads : List (List ℕ)) → FindsIn (is_making create files.first files.second) files payloads → count ≡ next_number (first_generation payloads)
-  pub holds : (files : Files) → told s.journal ≡ Some files → Holds (compacted_payloads count 0 s.contents) files
-
 -- a file of the first format
 abbrev pub HasFirstName : Option DiskState → Type 0
 HasFirstName None = ⊥
 HasFirstName (Some d) = take 7 (drop 1 d.bytes) ≡ name One
 
+-- the same of one of a journal's disks, if it tells what it holds
+abbrev pub IsOfFirstFormat : Option Side → Type 0
+IsOfFirstFormat None = ⊥
+IsOfFirstFormat (Some side) = (d : DiskState) → side.told ≡ Some d → HasFirstName (Some d)
+
+-- the payloads that an opening reads are of the first form
+abbrev pub FindsOld : Bool → Files → Type 0
+FindsOld create files = (payloads : List (List ℕ)) × FindsIn (is_making create files.first files.second) files payloads × (is_old payloads ≡ true)
+
+-- The files are as they were read, or the first one was made. The journal's number is the one in the live file.
+pub record IsUnchanged (create : Bool) (before : Option Files) (j : JournalState) : Type 0 where
+  pub number : IsNumbered j
+  pub files : Tells (KeepsFiles create) before (told j)
+
+-- The live file is the one that the opening wrote, with a number one above that of the file that it read. That one was
+-- old, by its payloads or by its format.
+pub record IsMigrated (create : Bool) (before : Option Files) (s : StoreState) : Type 0 where
+  pub count : ℕ
+  pub generation : s.journal.generation ≡ Some count
+  pub above : (files : Files) → before ≡ Some files → (payloads : List (List ℕ)) → FindsIn (is_making create files.first files.second) files payloads → count ≡ next_number (first_generation payloads)
+  pub holds : (files : Files) → told s.journal ≡ Some files → Holds (compacted_payloads count 0 s.contents) files
+  pub old : ((files : Files) → before ≡ Some files → FindsOld create files) ⊎ IsOfFirstFormat s.journal.other
+
 -- why an opening compacts: the payloads that it read are of the first form, or a file is of the first format
 abbrev pub WasOld : Bool → Files → Files → Type 0
-WasOld create old new =
-    ((payloads : List (List ℕ)) × FindsIn (is_making create old.first old.second) old payloads × (is_old payloads ≡ true))
-    ⊎ HasFirstName (Some new.first)
-    ⊎ HasFirstName new.second
+WasOld create old new = FindsOld create old ⊎ HasFirstName (Some new.first) ⊎ HasFirstName new.second
 
 -- Until the files are opened, a crash leaves them as they were read; from then on, whatever it leaves opens with the
 -- same contents.

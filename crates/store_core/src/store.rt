@@ -8,9 +8,9 @@ ghost use Rattle.store_tables.specs.Contents.{outcome_of};
 ghost use Rattle.store_payloads.specs.Laws.{MayCome};
 ghost use Rattle.tx_journal.specs.declared.format.Format.TheVariants.{Two};
 ghost use Rattle.tx_journal.specs.Journal.{Rises};
-ghost use Rattle.tx_journal.specs.Calls.{told, tell_both, is_alone, first_side, second_side, IsOpened, IsNumbered};
+ghost use Rattle.tx_journal.specs.Calls.{told, tell_both, is_alone, first_side, second_side, IsOpened};
 ghost use Rattle.tx_journal.specs.Pair.{Files};
-ghost use Rattle.store_core.specs.Opens.{OpensStore, IsMigrated, IsStoreOpenError, RefusesStore, KeepsStore};
+ghost use Rattle.store_core.specs.Opens.{OpensStore, IsUnchanged, IsMigrated, IsStoreOpenError, RefusesStore, KeepsStore};
 ghost use Rattle.store_core.specs.Store.{refusal_by, IsCurrent, Written, Moves};
 
 use crate::ending::end;
@@ -131,7 +131,7 @@ impl<D: Disk> Store<D> {
         ensures state { IfOk result (λ s. IsOpened s.journal × (is_alone s.journal.other ≡ false)) }
         ensures current { IfOk result (λ s. IsCurrent s.journal s.contents) }
         ensures format { IfOk result (λ s. s.journal.format ≡ Two) }
-        ensures numbered { IfOk result (λ s. IsNumbered s.journal ⊎ IsMigrated create (tell_both (D.told first) (D.told second)) s) }
+        ensures migrated { IfOk result (λ s. IsUnchanged create (tell_both (D.told first) (D.told second)) s.journal ⊎ IsMigrated create (tell_both (D.told first) (D.told second)) s) }
         ensures refused { IfErr result (λ r. IsStoreOpenError r.0 × ((files : Files) → tell_both (D.told first) (D.told second) ≡ Some files → RefusesStore create r.0 files)) }
         ensures crash { IfOk result (λ s. Tells (KeepsStore create) (tell_both (D.told first) (D.told second)) (told s.journal)) }
         ensures crash_refused { IfErr result (λ r. Tells (KeepsStore create) (tell_both (D.told first) (D.told second)) (tell_both (D.told r.1) (D.told r.2))) }

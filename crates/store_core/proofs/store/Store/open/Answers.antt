@@ -70,8 +70,12 @@ returns-then-is_up_to_date-clause-current g c =
 pub returns-then-is_up_to_date-clause-format : goal.returns-then-is_up_to_date-clause-format
 returns-then-is_up_to_date-clause-format g c = (c.is_up_to_date.ensures.today c.if-is_up_to_date.true).1
 
-pub returns-then-is_up_to_date-clause-numbered : goal.returns-then-is_up_to_date-clause-numbered
-returns-then-is_up_to_date-clause-numbered g c = inl (subst IsNumbered (sym c.read_tables.ensures.same) (λ works paired d tells. c.in-Ok.ensures.numbered c.in-Ok.ensures.state.0.0 paired d tells))
+pub returns-then-is_up_to_date-clause-migrated : goal.returns-then-is_up_to_date-clause-migrated
+returns-then-is_up_to_date-clause-migrated g c =
+    inl (record {
+      number = subst IsNumbered (sym c.read_tables.ensures.same) (λ works paired d tells. c.in-Ok.ensures.numbered c.in-Ok.ensures.state.0.0 paired d tells);
+      files = subst (Tells (KeepsFiles c.args.create) (tell_both (g.D.Disk.told c.args.first) (g.D.Disk.told c.args.second))) (sym (told_read c.in-Ok.journal c.read_tables.new.journal c.read_tables.ensures.same)) c.in-Ok.ensures.crash;
+    })
 
 pub returns-then-is_up_to_date-clause-crash : goal.returns-then-is_up_to_date-clause-crash
 returns-then-is_up_to_date-clause-crash g c =
@@ -107,12 +111,13 @@ returns-in-Ok-migrate-clause-state g c =
 pub returns-in-Ok-migrate-clause-format : goal.returns-in-Ok-migrate-clause-format
 returns-in-Ok-migrate-clause-format g c = ap (λ (k : JournalState). k.format) c.in-Ok-migrate.ensures.rewrites.1.journal
 
-pub returns-in-Ok-migrate-clause-numbered : goal.returns-in-Ok-migrate-clause-numbered
-returns-in-Ok-migrate-clause-numbered g c =
+pub returns-in-Ok-migrate-clause-migrated : goal.returns-in-Ok-migrate-clause-migrated
+returns-in-Ok-migrate-clause-migrated g c =
     let old : StoreState = record { contents = c.in-Ok-read_tables.found.tables.tables; journal = c.read_tables.new.journal } in
     let new : StoreState = record { contents = c.migrate.new.tables.tables; journal = c.migrate.new.journal } in
     let was = (was_opened c.args.create _ c.in-Ok-read_tables.found.tables.tables c.in-Ok-read_tables.found.is_first c.in-Ok.journal c.read_tables.new.journal c.read_tables.ensures.same c.in-Ok.ensures.opened c.in-Ok.ensures.crash c.in-Ok-read_tables.ensures.read c.in-Ok-read_tables.ensures.form c.in-Ok-read_tables.ensures.number) in
-    inr (migrated_is c.args.create _ old new c.in-Ok-migrate.ensures.rewrites.0 was.opens was.has c.in-Ok-migrate.ensures.rewrites.1)
+    inr
+    (migrated_is c.args.create _ c.in-Ok-read_tables.found.is_first old was.opens was.form c.in-Ok-read_tables.ensures.unbroken c.is_up_to_date.ensures.named new c.in-Ok-migrate.ensures.rewrites.0 was.has (c.is_up_to_date.ensures.old c.if-is_up_to_date.false) c.in-Ok-migrate.ensures.rewrites.1)
 
 pub returns-in-Ok-migrate-clause-crash : goal.returns-in-Ok-migrate-clause-crash
 returns-in-Ok-migrate-clause-crash g c =
