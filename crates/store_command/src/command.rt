@@ -23,7 +23,8 @@ pub enum StoreEnd {
     DiskFault,
     /// The port wasn't bound, or it failed.
     PortFault,
-    /// The files aren't a store's journal: the one that counts ceases to be one at this offset, or is too long.
+    /// The files aren't a store's journal: the one that counts ceases to be one at this offset, or is too long, or is of
+    /// the first format and can't be written anew.
     Damaged { offset: u64 },
     /// There was no memory to start.
     OutOfMemory,

@@ -4,7 +4,8 @@ ghost use Rattle.std.specs.Prelude.{◌≡◌, ◌≢◌};
 use crate::command::StoreEnd;
 use tx_journal::JournalError;
 
-/// How the command ends if the store isn't opened. A file that is too long to be opened is damaged at its length.
+/// How the command ends if the store isn't opened. A file that is too long to be opened is damaged at its length, and so
+/// is one of the first format for whose contents a new file has no room, at the length of that file or of the row.
 pub(crate) fn end_of(error: JournalError) -> StoreEnd
     ensures disk { result ≡ StoreEnd.DiskFault → error ≡ JournalError.DiskFault }
     ensures port { result ≢ StoreEnd.PortFault }
@@ -13,6 +14,7 @@ pub(crate) fn end_of(error: JournalError) -> StoreEnd
         JournalError::DiskFault => StoreEnd::DiskFault,
         JournalError::Damaged { offset } => StoreEnd::Damaged { offset },
         JournalError::Full { len } => StoreEnd::Damaged { offset: len },
+        JournalError::TooLong { n } => StoreEnd::Damaged { offset: n },
         _ => StoreEnd::OutOfMemory,
     }
 }
