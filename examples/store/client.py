@@ -144,7 +144,21 @@ def lost(port, file):
     return missing
 
 
+def write_old(path):
+    """Writes a store's file of the first format, in which no space stands: node `old` has booted and set a value."""
+    writer, moment = name("old"), bytes(8)
+    sets = writer + struct.pack(">QBQ", 1, 0, 1) + name("counter") + name("i") + struct.pack(">H", 1) + upsert("old", "kept")
+    with open(path, "wb") as file:
+        file.write(b"\x01ACTJRN1")
+        for payload in (moment + bytes([32]) + writer, moment + bytes([33]) + sets):
+            file.write(b"\x01" + blob(payload))
+        file.write(b"\x00")
+
+
 def main():
+    if sys.argv[1] == "old":
+        write_old(sys.argv[2])
+        return
     command, port = sys.argv[1], int(sys.argv[2])
     if command == "load":
         print("".join(key + os.linesep for key in load(port, int(sys.argv[3]))), end="")
