@@ -1,0 +1,54 @@
+// Bytes as the cases write them.
+use std::alloc::Global;
+
+/// The bytes that hexadecimal digits write; `None` if they write none, or memory runs out.
+pub(crate) fn bytes_of(alloc: Global, text: &str) -> Option<Vec<u8>> {
+    let mut bytes = Vec::new(alloc);
+    let mut rest = text;
+    for _ in 0..text.len() {
+        if rest.is_empty() {
+            break;
+        }
+        let (digits, more) = rest.split_at_checked(2)?;
+        bytes.push(u8::from_str_radix(digits, 16).ok()?).ok()?;
+        rest = more;
+    }
+    Some(bytes)
+}
+
+/// Appends a text.
+pub(crate) fn add(piece: &str, text: &mut String) -> Option<()> {
+    text.push_str(piece).ok()
+}
+
+fn add_byte(alloc: Global, byte: u8, text: &mut String) -> Option<()> {
+    add(format!(in alloc; "{byte:02x}").ok()?.as_str(), text)
+}
+
+/// Appends the digits of bytes.
+pub(crate) fn add_bytes(alloc: Global, bytes: &[u8], text: &mut String) -> Option<()> {
+    for byte in bytes {
+        add_byte(alloc, *byte, text)?;
+    }
+    Some(())
+}
+
+/// Appends the lines of a text, each with `|` at its end.
+pub(crate) fn add_lines(bytes: &[u8], text: &mut String) -> Option<()> {
+    for byte in bytes {
+        match *byte {
+            b'\r' => text.push('|').ok()?,
+            b'\n' => {}
+            byte => text.push(byte as char).ok()?,
+        }
+    }
+    Some(())
+}
+
+/// The text before the first such character, and the text behind it: nothing if there is none.
+pub(crate) fn cut(text: &str, at: char) -> (&str, &str) {
+    match text.split_once(at) {
+        Some(parts) => parts,
+        None => (text, ""),
+    }
+}
