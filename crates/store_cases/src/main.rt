@@ -14,6 +14,7 @@
 //     at MS BYTES        how a session of these bytes ends at this moment, which is below 2^32, and what it writes
 //     compact LEAST MS   how a compaction ends
 //     again              the store is closed and opened again
+//     image CHOICE       the store is opened on an image that a crash may leave of its disks now; the choice is a number
 //     first, second      the bytes of a file
 //
 // It has no contracts that another crate needs. Depends on store_serve, store_core, step_gate, tx_journal, disk_model and

@@ -2,7 +2,7 @@
 use crate::bytes::{add, add_bytes, bytes_of, cut};
 use crate::sessions::session;
 use crate::stores;
-use crate::stores::{Kept, Memory, reopen};
+use crate::stores::{Kept, Memory, crash, reopen};
 use std::alloc::Global;
 use std::sync::Wait;
 
@@ -37,6 +37,15 @@ fn again(alloc: Global, kept: &mut Kept, text: &mut String) -> Option<()> {
     }
 }
 
+// `image CHOICE`
+fn image(alloc: Global, kept: &mut Kept, rest: &str, text: &mut String) -> Option<()> {
+    if crash(alloc, kept, rest.parse::<u64>().ok()?) {
+        add("opened", text)
+    } else {
+        None
+    }
+}
+
 // `first`
 fn add_first(alloc: Global, kept: &Kept, text: &mut String) -> Option<()> {
     add_bytes(alloc, kept.as_ref()?.disk().bytes(), text)
@@ -60,6 +69,7 @@ fn step<R: Wait>(
         "at" => at(rt, alloc, kept, rest, text),
         "compact" => compact(alloc, kept, rest, text),
         "again" => again(alloc, kept, text),
+        "image" => image(alloc, kept, rest, text),
         "first" => add_first(alloc, kept, text),
         "second" => add_second(alloc, kept, text),
         _ => None,

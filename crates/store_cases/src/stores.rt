@@ -66,6 +66,46 @@ pub(crate) fn reopen(alloc: Global, kept: &mut Kept) -> bool {
     }
 }
 
+// A store over what a crash may leave of these disks.
+fn left(alloc: Global, first: &MemDisk, second: &MemDisk, choice: u64) -> Kept {
+    let one = first.image(choice).ok()?;
+    match second.image(choice) {
+        Ok(other) => open_both(alloc, one, other, false).ok(),
+        Err(_) => {
+            end(one);
+            None
+        }
+    }
+}
+
+// The store as it is opened after a crash.
+fn crashed(alloc: Global, store: Memory, choice: u64) -> Kept {
+    let (first, second) = store.close();
+    match second {
+        Some(second) => {
+            let kept = left(alloc, &first, &second, choice);
+            end(first);
+            end(second);
+            kept
+        }
+        None => {
+            end(first);
+            None
+        }
+    }
+}
+
+/// Opens one of the images that a crash may leave of the store's disks now; false if it isn't opened.
+pub(crate) fn crash(alloc: Global, kept: &mut Kept, choice: u64) -> bool {
+    match kept.take() {
+        None => false,
+        Some(store) => {
+            *kept = crashed(alloc, store, choice);
+            kept.is_some()
+        }
+    }
+}
+
 fn add_end(alloc: Global, end: CompactEnd, text: &mut String) -> Option<()> {
     let words = match end {
         CompactEnd::Compacted { rows } => format!(in alloc; "compacted {rows}"),
