@@ -104,7 +104,14 @@ impl Table {
             return None;
         }
         let kept: &Kept = &self.kept;
-        owner_host(kept.hosts.as_slice(), kept.rings.as_slice(), key, steps)
+        let place = key_hash(&key.id);
+        owner_host(
+            kept.hosts.as_slice(),
+            kept.rings.as_slice(),
+            key,
+            place,
+            steps,
+        )
     }
 
     /// The host that owns the actor, for callers that don't need the count: it is looked up with a fresh counter.
@@ -112,7 +119,16 @@ impl Table {
         ensures owner { option_copied result ≡ table_owner self.now key.now }
         ensures node { option_map node_of (option_copied result) ≡ given_owner self.now.space self.now.hosts key.now }
     {
-        fresh_owner::<Brand>(self, key, Blank::new(1))
+        self.owner_at(key, key_hash(&key.id))
+    }
+
+    /// The same, for callers that know the actor's place, which is the `key_hash` of its id; nothing is hashed.
+    pub fn owner_at(&self, key: &ActorKey, place: u64) -> Option<&HostInfo>
+        requires { place ≡ key_place key.now.id }
+        ensures owner { option_copied result ≡ table_owner self.now key.now }
+        ensures node { option_map node_of (option_copied result) ≡ given_owner self.now.space self.now.hosts key.now }
+    {
+        fresh_owner::<Brand>(self, key, place, Blank::new(1))
     }
 
     /// An equal table. It shares hosts and points with this one; their bytes aren't copied. It takes no memory, and
@@ -181,30 +197,44 @@ pub fn build_table(
     make_table(alloc, space, version, hosts)
 }
 
-// The host that owns the actor, looked up with a counter of the ledger that the blank stands for.
+// The host that owns the actor at this place, looked up with a counter of the ledger that the blank stands for.
 fn fresh_owner<'a, L: Ledger>(
     table: &'a Table,
     key: &ActorKey,
+    place: u64,
     blank: Blank,
 ) -> Option<&'a HostInfo>
+    requires placed { place ≡ key_place key.now.id }
     requires name { blank.name ≡ L.name }
     requires parts { blank.parts ≡ L.parts }
     requires some { 0 < blank.parts }
     ensures owner { option_copied result ≡ table_owner table.now key.now }
     ensures node { option_map node_of (option_copied result) ≡ given_owner table.now.space table.now.hosts key.now }
 {
+    if key.space != table.space {
+        return None;
+    }
+    let kept: &Kept = &table.kept;
     let mut steps = Steps::<L>::new(blank);
-    table.owner(key, &mut steps)
+    owner_host(
+        kept.hosts.as_slice(),
+        kept.rings.as_slice(),
+        key,
+        place,
+        &mut steps,
+    )
 }
 
-// The host that owns the actor among those of a table.
+// The host that owns the actor at this place among those of a table.
 fn owner_host<'a, L: Ledger>(
     hosts: &'a [HostInfo],
     rings: &[TypeRing],
     key: &ActorKey,
+    place: u64,
     steps: &mut Steps<L>,
 ) -> Option<&'a HostInfo>
-    requires { IsTableKept hosts.now rings.now }
+    requires kept { IsTableKept hosts.now rings.now }
+    requires placed { place ≡ key_place key.now.id }
     ensures owner { option_copied result ≡ option_and_then (host_of hosts.now) (owner_of hosts.now key.now) }
     ensures node { option_map node_of (option_copied result) ≡ owner_of hosts.now key.now }
     ensures point { IfSome result (λ h. (p : Point) × IsOwner (ring_points hosts.now key.now.kind) (key_place key.now.id) p × (p.node ≡ node_of h.now)) }
@@ -214,7 +244,7 @@ fn owner_host<'a, L: Ledger>(
     ensures probes { 2 ^ (steps.new - steps.old) ≤ 2 * length (ring_points hosts.now key.now.kind) + 2 }
 {
     let slots = ring_slots(rings, &key.kind);
-    match owner_slot(slots, key_hash(&key.id), steps) {
+    match owner_slot(slots, place, steps) {
         None => None,
         Some(slot) => Some(&hosts[slot.host]),
     }

@@ -12,7 +12,7 @@ owner_slot-requires g c =
     let hosts = c.args.hosts.now in
     let kind = c.args.key.now.kind in
     let slots = c.ring_slots-slots.result.now in
-    let ring = kept_ring hosts c.args.rings.now kind slots c.requires c.ring_slots-slots.ensures in
+    let ring = kept_ring hosts c.args.rings.now kind slots c.requires.kept c.ring_slots-slots.ensures in
     places_rise hosts slots ring.ordered
 
 pub offset_bounds-hosts-slot : goal.offset_bounds-hosts-slot
@@ -20,8 +20,8 @@ offset_bounds-hosts-slot g c =
     let hosts = c.args.hosts.now in
     let kind = c.args.key.now.kind in
     let slots = c.ring_slots-slots.result.now in
-    let ring = kept_ring hosts c.args.rings.now kind slots c.requires c.ring_slots-slots.ensures in
-    let number : c.in-Some.slot.host < length hosts = next_number hosts kind slots c.key_hash.result c.in-Some.slot ring c.in-Some.ensures.owner in
+    let ring = kept_ring hosts c.args.rings.now kind slots c.requires.kept c.ring_slots-slots.ensures in
+    let number : c.in-Some.slot.host < length hosts = next_number hosts kind slots c.args.place c.in-Some.slot ring c.in-Some.ensures.owner in
     search rules
 
 pub bounds-hosts-slot : goal.bounds-hosts-slot
@@ -29,16 +29,16 @@ bounds-hosts-slot g c =
     let hosts = c.args.hosts.now in
     let kind = c.args.key.now.kind in
     let slots = c.ring_slots-slots.result.now in
-    let ring = kept_ring hosts c.args.rings.now kind slots c.requires c.ring_slots-slots.ensures in
-    next_number hosts kind slots c.key_hash.result c.in-Some.slot ring c.in-Some.ensures.owner
+    let ring = kept_ring hosts c.args.rings.now kind slots c.requires.kept c.ring_slots-slots.ensures in
+    next_number hosts kind slots c.args.place c.in-Some.slot ring c.in-Some.ensures.owner
 
 pub returns-in-None-clause-owner : goal.returns-in-None-clause-owner
 returns-in-None-clause-owner g c =
     let hosts = c.args.hosts.now in
     let kind = c.args.key.now.kind in
     let slots = c.ring_slots-slots.result.now in
-    let ring = kept_ring hosts c.args.rings.now kind slots c.requires c.ring_slots-slots.ensures in
-    let none = none_point hosts kind slots c.key_hash.result (key_place c.args.key.now.id) ring c.key_hash.ensures c.in-None.ensures.owner in
+    let ring = kept_ring hosts c.args.rings.now kind slots c.requires.kept c.ring_slots-slots.ensures in
+    let none = none_point hosts kind slots c.args.place (key_place c.args.key.now.id) ring c.requires.placed c.in-None.ensures.owner in
     ap (λ o. option_and_then (host_of hosts) o) (no_owner_node hosts c.args.key.now none)
 
 pub returns-in-None-clause-node : goal.returns-in-None-clause-node
@@ -46,8 +46,8 @@ returns-in-None-clause-node g c =
     let hosts = c.args.hosts.now in
     let kind = c.args.key.now.kind in
     let slots = c.ring_slots-slots.result.now in
-    let ring = kept_ring hosts c.args.rings.now kind slots c.requires c.ring_slots-slots.ensures in
-    let none = none_point hosts kind slots c.key_hash.result (key_place c.args.key.now.id) ring c.key_hash.ensures c.in-None.ensures.owner in
+    let ring = kept_ring hosts c.args.rings.now kind slots c.requires.kept c.ring_slots-slots.ensures in
+    let none = none_point hosts kind slots c.args.place (key_place c.args.key.now.id) ring c.requires.placed c.in-None.ensures.owner in
     no_owner_node hosts c.args.key.now none
 
 pub returns-in-None-clause-none : goal.returns-in-None-clause-none
@@ -55,8 +55,8 @@ returns-in-None-clause-none g c =
     let hosts = c.args.hosts.now in
     let kind = c.args.key.now.kind in
     let slots = c.ring_slots-slots.result.now in
-    let ring = kept_ring hosts c.args.rings.now kind slots c.requires c.ring_slots-slots.ensures in
-    let none = none_point hosts kind slots c.key_hash.result (key_place c.args.key.now.id) ring c.key_hash.ensures c.in-None.ensures.owner in
+    let ring = kept_ring hosts c.args.rings.now kind slots c.requires.kept c.ring_slots-slots.ensures in
+    let none = none_point hosts kind slots c.args.place (key_place c.args.key.now.id) ring c.requires.placed c.in-None.ensures.owner in
     (λ _. none_owns hosts kind (key_place c.args.key.now.id) none, λ _. refl)
 
 pub returns-in-None-clause-probes : goal.returns-in-None-clause-probes
@@ -64,7 +64,7 @@ returns-in-None-clause-probes g c =
     let hosts = c.args.hosts.now in
     let kind = c.args.key.now.kind in
     let slots = c.ring_slots-slots.result.now in
-    let ring = kept_ring hosts c.args.rings.now kind slots c.requires c.ring_slots-slots.ensures in
+    let ring = kept_ring hosts c.args.rings.now kind slots c.requires.kept c.ring_slots-slots.ensures in
     let n : length slots ≡ length (ring_points hosts kind) = ring_length hosts kind slots ring in
     rw (sym n) c.owner_slot.ensures.probes
 
@@ -73,20 +73,20 @@ returns-in-Some-clause-owner g c =
     let hosts = c.args.hosts.now in
     let kind = c.args.key.now.kind in
     let slots = c.ring_slots-slots.result.now in
-    let ring = kept_ring hosts c.args.rings.now kind slots c.requires c.ring_slots-slots.ensures in
-    let owns = some_point hosts kind slots c.key_hash.result (key_place c.args.key.now.id) c.in-Some.slot ring c.key_hash.ensures c.in-Some.ensures.owner in
-    let number : c.in-Some.slot.host < length hosts = next_number hosts kind slots c.key_hash.result c.in-Some.slot ring c.in-Some.ensures.owner in
+    let ring = kept_ring hosts c.args.rings.now kind slots c.requires.kept c.ring_slots-slots.ensures in
+    let owns = some_point hosts kind slots c.args.place (key_place c.args.key.now.id) c.in-Some.slot ring c.requires.placed c.in-Some.ensures.owner in
+    let number : c.in-Some.slot.host < length hosts = next_number hosts kind slots c.args.place c.in-Some.slot ring c.in-Some.ensures.owner in
     let found = found_host hosts c.in-Some.slot.host c.index-hosts-slot.result number c.index-hosts-slot.is in
-    owner_is hosts c.args.key.now c.in-Some.slot c.index-hosts-slot.result c.requires.ordered found owns
+    owner_is hosts c.args.key.now c.in-Some.slot c.index-hosts-slot.result c.requires.kept.ordered found owns
 
 pub returns-in-Some-clause-node : goal.returns-in-Some-clause-node
 returns-in-Some-clause-node g c =
     let hosts = c.args.hosts.now in
     let kind = c.args.key.now.kind in
     let slots = c.ring_slots-slots.result.now in
-    let ring = kept_ring hosts c.args.rings.now kind slots c.requires c.ring_slots-slots.ensures in
-    let owns = some_point hosts kind slots c.key_hash.result (key_place c.args.key.now.id) c.in-Some.slot ring c.key_hash.ensures c.in-Some.ensures.owner in
-    let number : c.in-Some.slot.host < length hosts = next_number hosts kind slots c.key_hash.result c.in-Some.slot ring c.in-Some.ensures.owner in
+    let ring = kept_ring hosts c.args.rings.now kind slots c.requires.kept c.ring_slots-slots.ensures in
+    let owns = some_point hosts kind slots c.args.place (key_place c.args.key.now.id) c.in-Some.slot ring c.requires.placed c.in-Some.ensures.owner in
+    let number : c.in-Some.slot.host < length hosts = next_number hosts kind slots c.args.place c.in-Some.slot ring c.in-Some.ensures.owner in
     let found = found_host hosts c.in-Some.slot.host c.index-hosts-slot.result number c.index-hosts-slot.is in
     owner_node_is hosts c.args.key.now c.in-Some.slot c.index-hosts-slot.result found owns
 
@@ -95,9 +95,9 @@ returns-in-Some-clause-point g c =
     let hosts = c.args.hosts.now in
     let kind = c.args.key.now.kind in
     let slots = c.ring_slots-slots.result.now in
-    let ring = kept_ring hosts c.args.rings.now kind slots c.requires c.ring_slots-slots.ensures in
-    let owns = some_point hosts kind slots c.key_hash.result (key_place c.args.key.now.id) c.in-Some.slot ring c.key_hash.ensures c.in-Some.ensures.owner in
-    let number : c.in-Some.slot.host < length hosts = next_number hosts kind slots c.key_hash.result c.in-Some.slot ring c.in-Some.ensures.owner in
+    let ring = kept_ring hosts c.args.rings.now kind slots c.requires.kept c.ring_slots-slots.ensures in
+    let owns = some_point hosts kind slots c.args.place (key_place c.args.key.now.id) c.in-Some.slot ring c.requires.placed c.in-Some.ensures.owner in
+    let number : c.in-Some.slot.host < length hosts = next_number hosts kind slots c.args.place c.in-Some.slot ring c.in-Some.ensures.owner in
     let found = found_host hosts c.in-Some.slot.host c.index-hosts-slot.result number c.index-hosts-slot.is in
     owner_point_is hosts kind (key_place c.args.key.now.id) c.in-Some.slot c.index-hosts-slot.result found owns
 
@@ -106,8 +106,8 @@ returns-in-Some-clause-among g c =
     let hosts = c.args.hosts.now in
     let kind = c.args.key.now.kind in
     let slots = c.ring_slots-slots.result.now in
-    let ring = kept_ring hosts c.args.rings.now kind slots c.requires c.ring_slots-slots.ensures in
-    let number : c.in-Some.slot.host < length hosts = next_number hosts kind slots c.key_hash.result c.in-Some.slot ring c.in-Some.ensures.owner in
+    let ring = kept_ring hosts c.args.rings.now kind slots c.requires.kept c.ring_slots-slots.ensures in
+    let number : c.in-Some.slot.host < length hosts = next_number hosts kind slots c.args.place c.in-Some.slot ring c.in-Some.ensures.owner in
     (c.in-Some.slot.host, number, sym c.index-hosts-slot.is)
 
 pub returns-in-Some-clause-none : goal.returns-in-Some-clause-none
@@ -115,8 +115,8 @@ returns-in-Some-clause-none g c =
     let hosts = c.args.hosts.now in
     let kind = c.args.key.now.kind in
     let slots = c.ring_slots-slots.result.now in
-    let ring = kept_ring hosts c.args.rings.now kind slots c.requires c.ring_slots-slots.ensures in
-    let owns = some_point hosts kind slots c.key_hash.result (key_place c.args.key.now.id) c.in-Some.slot ring c.key_hash.ensures c.in-Some.ensures.owner in
+    let ring = kept_ring hosts c.args.rings.now kind slots c.requires.kept c.ring_slots-slots.ensures in
+    let owns = some_point hosts kind slots c.args.place (key_place c.args.key.now.id) c.in-Some.slot ring c.requires.placed c.in-Some.ensures.owner in
     (λ e. search, some_owns hosts kind (key_place c.args.key.now.id) (slot_point hosts c.in-Some.slot) owns)
 
 pub returns-in-Some-clause-probes : goal.returns-in-Some-clause-probes
@@ -124,6 +124,6 @@ returns-in-Some-clause-probes g c =
     let hosts = c.args.hosts.now in
     let kind = c.args.key.now.kind in
     let slots = c.ring_slots-slots.result.now in
-    let ring = kept_ring hosts c.args.rings.now kind slots c.requires c.ring_slots-slots.ensures in
+    let ring = kept_ring hosts c.args.rings.now kind slots c.requires.kept c.ring_slots-slots.ensures in
     let n : length slots ≡ length (ring_points hosts kind) = ring_length hosts kind slots ring in
     rw (sym n) c.owner_slot.ensures.probes
