@@ -1,5 +1,5 @@
 -- A pass over the cells.
-use Rattle.std.proofs.Common.{◌≡◌, ◌⊎◌, ℕ, ◌+◌, ◌≤◌, Bool, not, ◌&&◌, ◌||◌, List, [], ◌∷◌, ◌++◌, length, drop, map, Option, Some, None, refl, sym, ap, subst, ◌∙◌, inl, inr, arith}
+use Rattle.std.proofs.Common.{◌≡◌, ◌⊎◌, ℕ, ◌+◌, ◌-◌, ◌^◌, ◌≤◌, min, Bool, not, ◌&&◌, ◌||◌, List, [], ◌∷◌, ◌++◌, length, drop, map, Option, Some, None, refl, sym, ap, subst, ◌∙◌, inl, inr, arith}
 use Rattle.std.specs.Prelude.{◌==◌, option_map, if◌then◌else◌}
 use Rattle.std.specs.List.{between}
 use Rattle.std.proofs.lemmas.List.{drop_at, append-nil, append_assoc}
@@ -12,7 +12,7 @@ use Rattle.turn_core.specs.Cell.{has_turn, turn_calls, first_unmoved, unmoved, i
 use Rattle.turn_core.specs.CellSound.{In}
 use Rattle.part_cells.specs.declared.actor_cell.ActorCell.{ActorCell}
 use Rattle.part_cells.specs.Cells.{calls_in, total}
-use Rattle.part_cells.specs.Slots.{is_among, with_found, cells_in, AreSlotsKept, IsVisited, each_list, list_at, number_at, first_where, open_calls, late_calls, next_calls, opened_calls}
+use Rattle.part_cells.specs.Slots.{is_among, with_found, cells_in, AreSlotsKept, IsVisited, each_list, list_at, number_at, first_where, least_of, lesser_at, open_calls, late_calls, next_calls, opened_calls}
 use Rattle.part_cells.specs.Order.{AreInOrder}
 use Rattle.part_cells.proofs.Elements.{In-back, In-either}
 use Rattle.part_cells.proofs.Placed.{front_apart, behind_apart, same_cells}
@@ -45,6 +45,24 @@ each_list-found g (Some c) cs = refl
 pub total-found : (h : ActorCell → ℕ) (o : Option ActorCell) (cs : List ActorCell) → total h (with_found o cs) ≡ number_at h o + total h cs
 total-found h None cs = omega arith
 total-found h (Some c) cs = refl
+
+pub least-found : (f : ActorCell → ℕ) (o : Option ActorCell) (cs : List ActorCell) (n : ℕ) → min (lesser_at f o n) (least_of f cs) ≡ min n (least_of f (with_found o cs))
+least-found f None cs n = refl
+least-found f (Some c) cs n = omega arith
+
+pub lesser_le : (f : ActorCell → ℕ) (o : Option ActorCell) (n : ℕ) → lesser_at f o n ≤ n
+lesser_le f None n = omega arith
+lesser_le f (Some c) n = omega arith
+
+pub least-most : (f : ActorCell → ℕ) (cs : List ActorCell) → least_of f cs ≤ 2 ^ 64 - 1
+least-most f [] = omega arith
+least-most f (c ∷ cs) = let m = least-most f cs in omega arith
+
+-- a cell's number is no less than the least
+pub least_le : (f : ActorCell → ℕ) (cs : List ActorCell) (c : ActorCell) → In c cs → least_of f cs ≤ f c
+least_le f [] c i = absurd i
+least_le f (d ∷ cs) c (inl e) = let q = ap f e in omega arith
+least_le f (d ∷ cs) c (inr i) = let m = least_le f cs c i in omega arith
 
 -- a cell lists no more calls than it has
 pub list_short : (g : ActorCell → List ℕ) → ((c : ActorCell) → length (g c) ≤ calls_in c) → (o : Option ActorCell) → length (list_at g o) ≤ number_at calls_in o

@@ -1,5 +1,5 @@
 -- Cells in slots: places name the slot of each actor's cell, and an index the slot of each call's cell. Own.
-use Rattle.std.specs.Prelude.{◌≡◌, ℕ, Bool, true, false, not, ◌&&◌, ◌||◌, ◌==◌, max, if◌then◌else◌, List, [], ◌∷◌, ◌++◌, length, Option, None, Some, is_some, option_map, slice_index_or}
+use Rattle.std.specs.Prelude.{◌≡◌, ℕ, Bool, true, false, not, ◌&&◌, ◌||◌, ◌==◌, ◌-◌, ◌^◌, min, max, if◌then◌else◌, List, [], ◌∷◌, ◌++◌, length, Option, None, Some, is_some, option_map, slice_index_or}
 use Rattle.std.specs.declared.result.Result.{Result}
 use Rattle.std.specs.declared.result.Result.TheVariants.{Ok, Err}
 use Rattle.actor_names.specs.declared.actor_key.ActorKey.{ActorKey}
@@ -103,6 +103,16 @@ closed_cell c may_begin = record c { inner = begun_next c.inner (next_call may_b
 abbrev pub first_where : (ActorCell → Bool) → List ActorCell → Option ActorCell
 first_where test [] = None
 first_where test (c ∷ cs) = if test c then Some c else first_where test cs
+
+-- the least of the numbers of the cells, or 2^64 - 1 if there is no cell
+abbrev pub least_of : (ActorCell → ℕ) → List ActorCell → ℕ
+least_of f [] = 2 ^ 64 - 1
+least_of f (c ∷ cs) = min (f c) (least_of f cs)
+
+-- the lesser of a number and that of the cell of a slot, if there is one
+abbrev pub lesser_at : (ActorCell → ℕ) → Option ActorCell → ℕ → ℕ
+lesser_at f None n = n
+lesser_at f (Some c) n = min n (f c)
 
 -- one for a cell for which the test holds
 abbrev pub one_where : (ActorCell → Bool) → ActorCell → ℕ

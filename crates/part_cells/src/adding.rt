@@ -1,17 +1,27 @@
 // A new cell.
 ghost use Rattle.std.specs.Prelude.{◌≡◌, ℕ, ◌<◌, ◌^◌, ◌==◌, None, OnOk, OnErr};
+ghost use Rattle.place_table.specs.Hosts.{key_place};
 ghost use Rattle.turn_core.specs.Cell.{is_in_cell};
 ghost use Rattle.part_cells.specs.Cells.{cell_at, cell_of_call, keep_cell, calls_in, total_calls};
 ghost use Rattle.part_cells.specs.Slots.{IsSettled};
 
 use crate::actor_cell::ActorCell;
 use crate::cells::Cells;
+use crate::hashed_cell::HashedCell;
 use actor_names::OutOfMemory;
 use std::alloc::Global;
 
 impl Cells {
-    /// Adds a cell of a new key with its first call. If memory runs out, nothing changes.
-    pub fn add(&mut self, alloc: Global, cell: ActorCell, call: u64) -> Result<(), OutOfMemory>
+    /// Adds a cell of a new key with its first call. `hash` is the `key_hash` of the actor's id. If memory runs out,
+    /// nothing changes.
+    pub fn add(
+        &mut self,
+        alloc: Global,
+        cell: ActorCell,
+        hash: u64,
+        call: u64,
+    ) -> Result<(), OutOfMemory>
+        requires hashed { hash ≡ key_place cell.key.id }
         requires absent { cell_at self.old.cells cell.key ≡ None }
         requires fresh { cell_of_call self.old.cells call ≡ None }
         requires first { (n : ℕ) → is_in_cell n cell.inner ≡ (n == call) }
@@ -27,7 +37,7 @@ impl Cells {
         self.calls.add(call, slot)?;
         match self.places.insert(key, slot) {
             Ok(_) => {
-                let _slot = self.slots.insert_reserved(cell);
+                let _slot = self.slots.insert_reserved(HashedCell { cell, hash });
                 self.count += 1;
                 Ok(())
             }

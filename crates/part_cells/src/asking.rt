@@ -35,19 +35,19 @@ impl Cells {
         requires few { total_calls self.old.cells < 2 ^ 62 }
         ensures { IfSome (cell_of_slot self.old slot) (λ c. AsksAt result self.old.cells self.new.cells c (admit_call c.inner call (option_copied chain.entry) (may_begin && not c.closing))) }
     {
-        let Some(cell) = self.slots.get_mut(slot) else {
+        let Some(hashed) = self.slots.get_mut(slot) else {
             return Err(CellError::OutOfMemory);
         };
-        let begins = begins_in(cell, may_begin);
-        if let Err(refusal) = cell.inner.admission(chain, begins) {
+        let begins = begins_in(&hashed.cell, may_begin);
+        if let Err(refusal) = hashed.cell.inner.admission(chain, begins) {
             return Err(refusal);
         }
         let Ok(()) = self.calls.add(call, slot) else {
             return Err(CellError::OutOfMemory);
         };
-        match cell.inner.ask(alloc, call, chain, begins) {
+        match hashed.cell.inner.ask(alloc, call, chain, begins) {
             Ok(Asked::Begun) => {
-                cell.active = true;
+                hashed.cell.active = true;
                 self.count += 1;
                 Ok(Asked::Begun)
             }

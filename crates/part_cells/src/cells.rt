@@ -1,10 +1,12 @@
 // Cells in slots: found by key through a map in order of key, and by call through an index.
 ghost use Rattle.std.specs.Prelude.{◌≡◌, None, Some, [], length, MatchOption};
+ghost use Rattle.place_table.specs.Hosts.{key_place};
 ghost use Rattle.part_cells.specs.Cells.{cell_at, cell_of_call, total_calls};
 ghost use Rattle.part_cells.specs.Slots.{IsFoundAt};
 
 use crate::actor_cell::ActorCell;
 use crate::call_slots::CallSlots;
+use crate::hashed_cell::HashedCell;
 use actor_names::ActorKey;
 use slab::Slab;
 use std::alloc::Global;
@@ -15,7 +17,7 @@ use std::marker::Model;
 /// index has each call that is open or waits and no other, and their number is kept.
 #[derive(Drop)]
 pub struct Cells {
-    pub(crate) slots: Slab<ActorCell>,
+    pub(crate) slots: Slab<HashedCell>,
     pub(crate) places: BTreeMap<ActorKey, usize>,
     pub(crate) calls: CallSlots,
     pub(crate) count: usize,
@@ -59,29 +61,29 @@ impl Cells {
         self.places.len()
     }
 
-    /// The actor's cell, with its slot.
-    pub fn find(&self, key: &ActorKey) -> Option<(usize, &ActorCell)>
-        ensures { MatchOption result (cell_at self.now.cells key.now ≡ None) (λ f. (cell_at self.now.cells key.now ≡ Some f.1.now) × IsFoundAt self.now f.0 f.1.now) }
+    /// The actor's cell, with its slot and the `key_hash` of the actor's id.
+    pub fn find(&self, key: &ActorKey) -> Option<(usize, &ActorCell, u64)>
+        ensures { MatchOption result (cell_at self.now.cells key.now ≡ None) (λ f. (cell_at self.now.cells key.now ≡ Some f.1.now) × IsFoundAt self.now f.0 f.1.now × (f.2 ≡ key_place f.1.now.key.id)) }
     {
         let Some(slot) = self.places.get(key) else {
             return None;
         };
-        let Some(cell) = self.slots.get(*slot) else {
+        let Some(hashed) = self.slots.get(*slot) else {
             return None;
         };
-        Some((*slot, cell))
+        Some((*slot, &hashed.cell, hashed.hash))
     }
 
-    /// The cell that has this call, open or in its queue, with its slot.
-    pub fn find_call(&self, call: u64) -> Option<(usize, &ActorCell)>
-        ensures { MatchOption result (cell_of_call self.now.cells call ≡ None) (λ f. (cell_of_call self.now.cells call ≡ Some f.1.now) × IsFoundAt self.now f.0 f.1.now) }
+    /// The cell that has this call, open or in its queue, with its slot and the `key_hash` of its actor's id.
+    pub fn find_call(&self, call: u64) -> Option<(usize, &ActorCell, u64)>
+        ensures { MatchOption result (cell_of_call self.now.cells call ≡ None) (λ f. (cell_of_call self.now.cells call ≡ Some f.1.now) × IsFoundAt self.now f.0 f.1.now × (f.2 ≡ key_place f.1.now.key.id)) }
     {
         let Some(slot) = self.calls.slot(call) else {
             return None;
         };
-        let Some(cell) = self.slots.get(slot) else {
+        let Some(hashed) = self.slots.get(slot) else {
             return None;
         };
-        Some((slot, cell))
+        Some((slot, &hashed.cell, hashed.hash))
     }
 }

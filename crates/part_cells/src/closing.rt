@@ -14,10 +14,10 @@ impl Cells {
         requires { IfSome (cell_of_slot self.old slot) (λ c. c.inner.turns ≡ []) }
         ensures { IfSome (cell_of_slot self.old slot) (λ c. self.new.cells ≡ keep_cell self.old.cells (record c { closing = true })) }
     {
-        let Some(cell) = self.slots.get_mut(slot) else {
+        let Some(hashed) = self.slots.get_mut(slot) else {
             return;
         };
-        cell.closing = true;
+        hashed.cell.closing = true;
     }
 
     /// The deactivation of the actor with this slot is over. If `may_begin` is true, its next call begins and makes it
@@ -26,16 +26,16 @@ impl Cells {
         requires { IfSome (cell_of_slot self.old slot) (λ c. c.closing ≡ true) }
         ensures { IfSome (cell_of_slot self.old slot) (λ c. (result ≡ option_map call_of (next_call may_begin c.inner)) × (self.new.cells ≡ keep_cell self.old.cells (closed_cell c may_begin))) }
     {
-        let Some(cell) = self.slots.get_mut(slot) else {
+        let Some(hashed) = self.slots.get_mut(slot) else {
             return None;
         };
-        if cell.inner.waiting() == 0 {
+        if hashed.cell.inner.waiting() == 0 {
             drop_at(&mut self.slots, &mut self.places, slot);
             return None;
         }
-        let next = begin_if(&mut cell.inner, may_begin);
-        cell.active = next.is_some();
-        cell.closing = false;
+        let next = begin_if(&mut hashed.cell.inner, may_begin);
+        hashed.cell.active = next.is_some();
+        hashed.cell.closing = false;
         next
     }
 }

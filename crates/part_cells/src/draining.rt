@@ -4,9 +4,9 @@ ghost use Rattle.slab.specs.Slab.{get};
 ghost use Rattle.part_cells.specs.Cells.{calls_in, total, total_calls};
 ghost use Rattle.part_cells.specs.Slots.{slot_of, cells_in, AreSlotsKept, IsVisited, each_list, number_at, late_cell, late_calls, late_number};
 
-use crate::actor_cell::ActorCell;
 use crate::call_slots::CallSlots;
 use crate::cells::Cells;
+use crate::hashed_cell::HashedCell;
 use crate::passes::CellTest;
 use actor_names::ActorKey;
 use slab::Slab;
@@ -15,7 +15,7 @@ use std::collections::BTreeMap;
 /// The open turns of one slot's cell end if the test holds for it: their calls leave the index and are put at the end
 /// of the list. Returns how many they are.
 fn drain_at<T: CellTest>(
-    slots: &mut Slab<ActorCell>,
+    slots: &mut Slab<HashedCell>,
     calls: &mut CallSlots,
     count: &mut usize,
     _places: &BTreeMap<ActorKey, usize>,
@@ -31,17 +31,17 @@ fn drain_at<T: CellTest>(
     ensures few { result ≤ 1024 }
     ensures room { vec_capacity ended.old ≤ vec_capacity ended.new }
 {
-    let Some(cell) = slots.get_mut(slot) else {
+    let Some(hashed) = slots.get_mut(slot) else {
         return 0;
     };
-    if !late.holds(cell) {
+    if !late.holds(&hashed.cell, hashed.hash) {
         return 0;
     }
     let from = ended.len();
-    let over = cell.inner.turns();
-    cell.inner.list_turns(ended);
-    cell.last = cell.last.max(now);
-    let _ended = cell.inner.end_all();
+    let over = hashed.cell.inner.turns();
+    hashed.cell.inner.list_turns(ended);
+    hashed.cell.last = hashed.cell.last.max(now);
+    let _ended = hashed.cell.inner.end_all();
     *count -= over as usize;
     calls.forget(&ended.as_slice()[from..]);
     over
@@ -49,7 +49,7 @@ fn drain_at<T: CellTest>(
 
 /// The open turns of every cell for which the test holds end, one cell after another.
 fn drain_all<T: CellTest>(
-    slots: &mut Slab<ActorCell>,
+    slots: &mut Slab<HashedCell>,
     calls: &mut CallSlots,
     count: &mut usize,
     places: &BTreeMap<ActorKey, usize>,

@@ -12,12 +12,12 @@ impl Cells {
     pub fn end(&mut self, slot: usize, call: u64, may_begin: bool, now: u64) -> CellEnd
         ensures { IfSome (cell_of_slot self.old slot) (λ c. (result ≡ (cell_end c.inner call may_begin).answer) × EndsAt result self.old.cells self.new.cells (ended_cell c call may_begin now)) }
     {
-        let Some(cell) = self.slots.get_mut(slot) else {
+        let Some(hashed) = self.slots.get_mut(slot) else {
             return CellEnd::AlreadyEnded;
         };
-        match cell.inner.end(call, may_begin) {
+        match hashed.cell.inner.end(call, may_begin) {
             CellEnd::Ended { next } => {
-                cell.last = cell.last.max(now);
+                hashed.cell.last = hashed.cell.last.max(now);
                 self.calls.remove(call);
                 self.count -= 1;
                 CellEnd::Ended { next }

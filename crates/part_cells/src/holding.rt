@@ -12,20 +12,20 @@ impl Cells {
         requires { IfSome (cell_of_slot self.old slot) (λ c. c.inner.holds < 2 ^ 62) }
         ensures { IfSome (cell_of_slot self.old slot) (λ c. self.new.cells ≡ keep_cell self.old.cells (record c { inner = with_hold c.inner })) }
     {
-        let Some(cell) = self.slots.get_mut(slot) else {
+        let Some(hashed) = self.slots.get_mut(slot) else {
             return;
         };
-        cell.inner.hold();
+        hashed.cell.inner.hold();
     }
 
     /// One hold less of the actor with this slot, if it has one, at this moment.
     pub fn release(&mut self, slot: usize, now: u64)
         ensures { IfSome (cell_of_slot self.old slot) (λ c. self.new.cells ≡ keep_cell self.old.cells (record c { inner = without_hold c.inner; last = max c.last now })) }
     {
-        let Some(cell) = self.slots.get_mut(slot) else {
+        let Some(hashed) = self.slots.get_mut(slot) else {
             return;
         };
-        let _released = cell.inner.release();
-        cell.last = cell.last.max(now);
+        let _released = hashed.cell.inner.release();
+        hashed.cell.last = hashed.cell.last.max(now);
     }
 }

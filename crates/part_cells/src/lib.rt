@@ -2,7 +2,7 @@
 //
 // Promise: `Cells` is seen as the list of its cells in order of key, and each of its changes is a change of that list,
 // as defined in `specs/Cells` and `specs/Slots`. The index has one entry for each call that is open or waits, and no
-// other. Depends on `turn_core`, `actor_names` and `slab`.
+// other. Depends on `turn_core`, `place_table`, `actor_names` and `slab`.
 #![tactic(auto)]
 
 mod actor_cell;
@@ -14,6 +14,7 @@ mod closing;
 mod draining;
 mod dropping;
 mod ending;
+mod hashed_cell;
 mod holding;
 mod opening;
 mod passes;
@@ -22,7 +23,7 @@ mod stopping;
 
 pub use actor_cell::ActorCell;
 pub use cells::Cells;
-pub use passes::CellTest;
+pub use passes::{CellNumber, CellTest};
 
 #[cfg(test)]
 mod tests;

@@ -1,6 +1,7 @@
 // The opening of a part: the next calls of some cells begin, and the waiting calls of all others are moved.
 ghost use Rattle.std.specs.Prelude.{◌≡◌, ◌+◌, ◌≤◌, [], ◌∷◌, ◌++◌, length, map, option_map, vec_len, vec_capacity};
 ghost use Rattle.slab.specs.Slab.{get};
+ghost use Rattle.place_table.specs.Hosts.{key_place};
 ghost use Rattle.turn_core.specs.Cell.{call_of, next_call, begun_next};
 ghost use Rattle.part_cells.specs.Cells.{calls_in, total, total_calls};
 ghost use Rattle.part_cells.specs.Slots.{slot_of, cells_in, AreSlotsKept, IsVisited, each_list, number_at, opened_cell, opened_calls, opened_moved};
@@ -8,6 +9,7 @@ ghost use Rattle.part_cells.specs.Slots.{slot_of, cells_in, AreSlotsKept, IsVisi
 use crate::actor_cell::ActorCell;
 use crate::call_slots::CallSlots;
 use crate::cells::Cells;
+use crate::hashed_cell::HashedCell;
 use crate::passes::CellTest;
 use actor_names::ActorKey;
 use slab::Slab;
@@ -39,7 +41,8 @@ fn list_call(calls: &mut Vec<u64>, call: u64)
 }
 
 /// What the opening does to one cell; returns how many calls it moves. The test is asked only if a call waits.
-fn open_cell<T: CellTest>(own: &T, cell: &mut ActorCell, begun: &mut Vec<u64>) -> u32
+fn open_cell<T: CellTest>(own: &T, cell: &mut ActorCell, hash: u64, begun: &mut Vec<u64>) -> u32
+    requires hashed { hash ≡ key_place cell.old.key.id }
     requires room { vec_len begun.old + calls_in cell.old ≤ vec_capacity begun.old }
     ensures cell { cell.new ≡ opened_cell (T.holds own.now) cell.old }
     ensures begun { begun.new.items ≡ begun.old.items ++ opened_calls (T.holds own.now) cell.old }
@@ -50,7 +53,7 @@ fn open_cell<T: CellTest>(own: &T, cell: &mut ActorCell, begun: &mut Vec<u64>) -
     if cell.inner.waiting() == 0 {
         return 0;
     }
-    if !own.holds(cell) {
+    if !own.holds(cell, hash) {
         return cell.inner.move_waiting();
     }
     match begin_if(&mut cell.inner, !cell.closing) {
@@ -65,7 +68,7 @@ fn open_cell<T: CellTest>(own: &T, cell: &mut ActorCell, begun: &mut Vec<u64>) -
 
 /// What the opening does to the cell in one slot.
 fn open_at<T: CellTest>(
-    slots: &mut Slab<ActorCell>,
+    slots: &mut Slab<HashedCell>,
     _calls: &CallSlots,
     _count: &usize,
     _places: &BTreeMap<ActorKey, usize>,
@@ -80,15 +83,15 @@ fn open_at<T: CellTest>(
     ensures few { result ≤ 1024 }
     ensures room { vec_capacity begun.old ≤ vec_capacity begun.new }
 {
-    let Some(cell) = slots.get_mut(slot) else {
+    let Some(hashed) = slots.get_mut(slot) else {
         return 0;
     };
-    open_cell(own, cell, begun)
+    open_cell(own, &mut hashed.cell, hashed.hash, begun)
 }
 
 /// What the opening does to every cell, one after another.
 fn open_all<T: CellTest>(
-    slots: &mut Slab<ActorCell>,
+    slots: &mut Slab<HashedCell>,
     calls: &CallSlots,
     count: &usize,
     places: &BTreeMap<ActorKey, usize>,

@@ -3,29 +3,32 @@ ghost use Rattle.std.specs.Prelude.{◌≡◌, ◌<◌, ◌≤◌, ◌^◌, Bool
 ghost use Rattle.std.specs.Option.{option_copied};
 ghost use Rattle.slab.specs.Slab.{get};
 ghost use Rattle.part_cells.specs.Cells.{total};
-ghost use Rattle.part_cells.specs.Slots.{cells_in, with_found, first_where, one_where, number_at, IsFoundAt};
+ghost use Rattle.part_cells.specs.Slots.{cells_in, with_found, first_where, one_where, number_at, least_of, lesser_at, IsFoundAt};
 
 use crate::actor_cell::ActorCell;
 use crate::cells::Cells;
+use crate::hashed_cell::HashedCell;
 use actor_names::ActorKey;
 use slab::Slab;
 use std::collections::BTreeMap;
 
 /// A question about one cell.
 pub trait CellTest {
+    ghost use Rattle.place_table.specs.Hosts.{key_place};
     ghost use Rattle.part_cells.specs.declared.actor_cell.ActorCell.{ActorCell};
 
     /// Whether the answer is yes.
     ghost holds: { Self → ActorCell → Bool };
 
-    /// The same.
-    fn holds(&self, cell: &ActorCell) -> bool
+    /// The same; `hash` is the `key_hash` of its actor's id.
+    fn holds(&self, cell: &ActorCell, hash: u64) -> bool
+        requires { hash ≡ key_place cell.now.key.id }
         ensures { result ≡ holds self.now cell.now };
 }
 
 /// The cell in the slot, if the test holds for it.
 fn held_at<'a, T: CellTest>(
-    slots: &'a Slab<ActorCell>,
+    slots: &'a Slab<HashedCell>,
     slot: usize,
     test: &T,
 ) -> Option<&'a ActorCell>
@@ -34,13 +37,19 @@ fn held_at<'a, T: CellTest>(
 {
     match slots.get(slot) {
         None => None,
-        Some(cell) => { if test.holds(cell) { Some(cell) } else { None } }
+        Some(hashed) => {
+            if test.holds(&hashed.cell, hashed.hash) {
+                Some(&hashed.cell)
+            } else {
+                None
+            }
+        }
     }
 }
 
 /// The first cell for which the test holds, with its slot.
 fn first_in<'a, T: CellTest>(
-    slots: &'a Slab<ActorCell>,
+    slots: &'a Slab<HashedCell>,
     places: &BTreeMap<ActorKey, usize>,
     test: &T,
 ) -> Option<(usize, &'a ActorCell)>
@@ -55,19 +64,25 @@ fn first_in<'a, T: CellTest>(
 }
 
 /// One if there is a cell in the slot and the test holds for it, else zero.
-fn count_at<T: CellTest>(slots: &Slab<ActorCell>, slot: usize, test: &T) -> usize
+fn count_at<T: CellTest>(slots: &Slab<HashedCell>, slot: usize, test: &T) -> usize
     ensures count { result ≡ number_at (one_where (T.holds test.now)) (get slots.now slot) }
     ensures few { result ≤ 1 }
 {
     match slots.get(slot) {
         None => 0,
-        Some(cell) => { if test.holds(cell) { 1 } else { 0 } }
+        Some(hashed) => {
+            if test.holds(&hashed.cell, hashed.hash) {
+                1
+            } else {
+                0
+            }
+        }
     }
 }
 
 /// For how many cells the test holds.
 fn count_in<T: CellTest>(
-    slots: &Slab<ActorCell>,
+    slots: &Slab<HashedCell>,
     places: &BTreeMap<ActorKey, usize>,
     test: &T,
 ) -> usize
@@ -79,6 +94,44 @@ fn count_in<T: CellTest>(
         count += count_at(slots, *slot, test);
     }
     count
+}
+
+/// A number that each cell has.
+pub trait CellNumber {
+    ghost use Rattle.std.specs.Prelude.{ℕ};
+    ghost use Rattle.part_cells.specs.declared.actor_cell.ActorCell.{ActorCell};
+
+    /// The number.
+    ghost number: { Self → ActorCell → ℕ };
+
+    /// The same.
+    fn number(&self, cell: &ActorCell) -> u64
+        ensures { result ≡ number self.now cell.now };
+}
+
+/// The lesser of a number and that of the cell in the slot, if there is one.
+fn least_at<N: CellNumber>(slots: &Slab<HashedCell>, slot: usize, number: &N, least: u64) -> u64
+    ensures { result ≡ lesser_at (N.number number.now) (get slots.now slot) least }
+{
+    match slots.get(slot) {
+        None => least,
+        Some(hashed) => least.min(number.number(&hashed.cell)),
+    }
+}
+
+/// The least of the numbers of the cells, or `u64::MAX` if there is no cell.
+fn least_in<N: CellNumber>(
+    slots: &Slab<HashedCell>,
+    places: &BTreeMap<ActorKey, usize>,
+    number: &N,
+) -> u64
+    ensures { result ≡ least_of (N.number number.now) (cells_in (get slots.now) places.now.entries) }
+{
+    let mut least = u64::MAX;
+    for (_, slot) in places {
+        least = least_at(slots, *slot, number, least);
+    }
+    least
 }
 
 impl Cells {
@@ -95,5 +148,12 @@ impl Cells {
         ensures { result ≡ total (one_where (T.holds test.now)) self.now.cells }
     {
         count_in(&self.slots, &self.places, test)
+    }
+
+    /// The least of the numbers of the cells, or `u64::MAX` if there is no cell; takes no memory.
+    pub fn least<N: CellNumber>(&self, number: &N) -> u64
+        ensures { result ≡ least_of (N.number number.now) self.now.cells }
+    {
+        least_in(&self.slots, &self.places, number)
     }
 }

@@ -22,15 +22,15 @@ impl Cells {
         requires { IfSome (cell_of_slot self.old slot) (λ c. (cell_poll c.inner call).answer ≡ CellPoll.Moved) }
         ensures { IfSome (cell_of_slot self.old slot) (λ c. self.new.cells ≡ keep_cell self.old.cells (record c { inner = (cell_poll c.inner call).cell })) }
     {
-        let Some(cell) = self.slots.get_mut(slot) else {
+        let Some(hashed) = self.slots.get_mut(slot) else {
             return;
         };
         self.calls.remove(call);
         self.count -= 1;
-        if is_last(cell) {
+        if is_last(&hashed.cell) {
             drop_at(&mut self.slots, &mut self.places, slot);
             return;
         }
-        let _moved = cell.inner.poll(call);
+        let _moved = hashed.cell.inner.poll(call);
     }
 }

@@ -4,27 +4,27 @@ ghost use Rattle.slab.specs.Slab.{get};
 ghost use Rattle.part_cells.specs.Cells.{calls_in, total_calls};
 ghost use Rattle.part_cells.specs.Slots.{cells_in, each_list, list_at, number_at, open_calls};
 
-use crate::actor_cell::ActorCell;
 use crate::cells::Cells;
+use crate::hashed_cell::HashedCell;
 use actor_names::ActorKey;
 use slab::Slab;
 use std::alloc::Global;
 use std::collections::BTreeMap;
 
 /// Appends the calls of the open turns of one slot's cell to the list.
-fn list_slot(slots: &Slab<ActorCell>, slot: usize, calls: &mut Vec<u64>)
+fn list_slot(slots: &Slab<HashedCell>, slot: usize, calls: &mut Vec<u64>)
     requires { vec_len calls.old + number_at calls_in (get slots.now slot) ≤ vec_capacity calls.old }
     ensures calls { calls.new.items ≡ calls.old.items ++ list_at open_calls (get slots.now slot) }
     ensures room { vec_capacity calls.old ≤ vec_capacity calls.new }
 {
-    let Some(cell) = slots.get(slot) else {
+    let Some(hashed) = slots.get(slot) else {
         return;
     };
-    cell.inner.list_turns(calls);
+    hashed.cell.inner.list_turns(calls);
 }
 
 /// Appends the calls of all open turns to the list, cell by cell.
-fn list_all(slots: &Slab<ActorCell>, places: &BTreeMap<ActorKey, usize>, calls: &mut Vec<u64>)
+fn list_all(slots: &Slab<HashedCell>, places: &BTreeMap<ActorKey, usize>, calls: &mut Vec<u64>)
     requires { vec_len calls.old + total_calls (cells_in (get slots.now) places.now.entries) ≤ vec_capacity calls.old }
     ensures { calls.new.items ≡ calls.old.items ++ each_list open_calls (cells_in (get slots.now) places.now.entries) }
 {

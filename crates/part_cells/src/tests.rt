@@ -2,6 +2,7 @@
 // enough memory.
 use super::*;
 use actor_names::{ActorKey, read_key};
+use place_table::key_hash;
 use std::alloc::Global;
 use std::test::Fail;
 use turn_core::{Asked, Cell, CellEnd};
@@ -17,7 +18,7 @@ impl CellTest for IsBefore {
 
     ghost holds = { λ t c. nat_lt c.last t.moment };
 
-    fn holds(&self, cell: &ActorCell) -> bool {
+    fn holds(&self, cell: &ActorCell, _hash: u64) -> bool {
         cell.last < self.moment
     }
 }
@@ -39,6 +40,7 @@ fn add(alloc: Global, cells: &mut Cells, number: u64, call: u64) -> Result<(), F
     if let Some(_) = cells.find_call(call) {
         return Err(Fail::from("a cell with this call"));
     }
+    let hash = key_hash(&key.id);
     let mut inner = Cell::new(alloc, 0)?;
     let _begun = inner.ask(alloc, call, None, true)?;
     let cell = ActorCell {
@@ -48,7 +50,7 @@ fn add(alloc: Global, cells: &mut Cells, number: u64, call: u64) -> Result<(), F
         closing: false,
         last: number,
     };
-    cells.add(alloc, cell, call)?;
+    cells.add(alloc, cell, hash, call)?;
     Ok(())
 }
 
@@ -60,7 +62,7 @@ fn ask(alloc: Global, cells: &mut Cells, number: u64, call: u64) -> Result<u64, 
     if let Some(_) = cells.find_call(call) {
         return Err(Fail::from("a cell with this call"));
     }
-    let (slot, cell) = cells.find(&numbered_key(alloc, number)?).ok_or("no cell")?;
+    let (slot, cell, _) = cells.find(&numbered_key(alloc, number)?).ok_or("no cell")?;
     if cell.inner.depth() > 0 {
         return Err(Fail::from("a cell with chains"));
     }
@@ -93,13 +95,13 @@ fn cells_come_and_go(rt: HostRuntime) -> Result<(), Fail> {
     }
     assert_eq!(rt; (cells.len(), cells.count()), (30, 60));
 
-    let (slot, _) = cells.find_call(6).ok_or("no call")?;
+    let (slot, _, _) = cells.find_call(6).ok_or("no call")?;
     let CellEnd::Ended { next } = cells.end(slot, 6, true, 77) else {
         return Err(Fail::from("no end"));
     };
     assert_eq!(rt; next, Some(106));
     assert!(rt; cells.find_call(6).is_none());
-    let (_, found) = cells.find_call(106).ok_or("no call")?;
+    let (_, found, _) = cells.find_call(106).ok_or("no call")?;
     assert_eq!(rt; found.last, 77);
 
     let (_, first) = cells.first(&IsBefore { moment: 3 }).ok_or("no cell")?;

@@ -1,7 +1,7 @@
 -- Foreign actors stay counted through the steps of a part; and a tick ends nothing in a drained part.
 use Rattle.std.proofs.Common.{◌≡◌, ℕ, Bool, true, false, not, ◌&&◌, ◌+◌, ◌-◌, ◌≤◌, List, [], ◌∷◌, ◌++◌, length, Option, refl, sym, ap, ◌∙◌, inl, inr, eq-eqb, arith}
-use Rattle.std.specs.Prelude.{◌==◌, if◌then◌else◌}
-use Rattle.std.proofs.lemmas.Bool.{and_parts, and_from, cond_both, cond-true, cond-false, not-true, true≢false, false≢true}
+use Rattle.std.specs.Prelude.{nat_lt, ◌==◌, if◌then◌else◌}
+use Rattle.std.proofs.lemmas.Bool.{and_parts, and_from, cases_Bool, cond_both, cond-true, cond-false, lt-ltb, not-true, true≢false, false≢true}
 use Rattle.actor_names.specs.declared.actor_key.ActorKey.{ActorKey}
 use Rattle.place_table.specs.declared.host.HostInfo.{HostInfo}
 use Rattle.place_table.specs.Hosts.{PlacementTable}
@@ -14,7 +14,7 @@ use Rattle.part_core.specs.declared.event.PartReply.TheVariants as replies
 use Rattle.part_core.specs.declared.standing.Standing.{Standing}
 use Rattle.part_cells.specs.declared.actor_cell.ActorCell.{ActorCell}
 use Rattle.part_cells.specs.Cells.{cell_at}
-use Rattle.part_core.specs.Actors.{ActorsState, no_actors, state_of, view_of, total_foreign, is_closed, IsStandingKept}
+use Rattle.part_core.specs.Actors.{ActorsState, no_actors, state_of, view_of, total_foreign, is_closed, gives_some, IsStandingKept}
 use Rattle.part_core.specs.Part
 use Rattle.part_core.specs.Part.{PartState, PartStep, CellStep, is_own, is_foreign, is_overdue, is_updated, is_drained, tick_cell, each_cell, refused, receipt_of, ring_owner}
 use Rattle.part_core.specs.Sound.{IsActorSound, IsPartSound}
@@ -106,3 +106,22 @@ module _ (s : Standing) (a b : ActorsState) (k : IsStandingKept s a) where
 
       pub kept_less : IsStandingKept (record s { foreign = s.foreign - 1 }) b
       kept_less = record { shallow = k.shallow; seen_fits = k.seen_fits; opened_fits = k.opened_fits; counted = λ u. (let l = one_left in omega arith) }
+
+    -- the actor wasn't one that an updated part gives up
+    pub kept_given : (is_closed reply && (gives_some s && is_foreign ring_owner (state_of s a) key)) ≡ false → IsStandingKept s b
+    kept_given e = kept_closed (λ u. elim (cases_Bool (is_closed reply && is_foreign ring_owner (state_of s a) key)) [
+      | inl t ↦ (
+          let foreign = is_foreign ring_owner (state_of s a) key in
+          let h = and_parts (is_closed reply) foreign t in
+          let n = counts_one h.0 (and_from (is_updated s.stage) foreign u h.1) in
+          let gives = and_from (is_updated s.stage) (nat_lt 0 s.foreign) u (lt-ltb 0 s.foreign (omega arith)) in
+          absurd (true≢false (sym (and_from (is_closed reply) (gives_some s && foreign) h.0 (and_from (gives_some s) foreign gives h.1)) ∙ e))
+          )
+      | inr f ↦ f
+    ])
+
+-- an actor that is given up is that of an updated part
+pub given_up : (s : Standing) (foreign : Bool) → (gives_some s && foreign) ≡ true → (is_updated s.stage && foreign) ≡ true
+given_up s foreign e =
+    let h = and_parts (gives_some s) foreign e in
+    and_from (is_updated s.stage) foreign (and_parts (is_updated s.stage) (nat_lt 0 s.foreign) h.0).0 h.1

@@ -1,7 +1,7 @@
 -- A pass over the cells is a step of each of them.
 use Rattle.std.proofs.Common.{◌≡◌, ℕ, ◌+◌, ◌≤◌, Bool, true, false, not, ◌&&◌, List, [], ◌∷◌, ◌++◌, map, length, Option, None, Some, is_some, refl, sym, ap, ◌∙◌, subst, arith, length-append}
-use Rattle.std.specs.Prelude.{◌==◌, if◌then◌else◌}
-use Rattle.std.proofs.lemmas.Bool.{cond_both, cond-true, cond-false, and_parts}
+use Rattle.std.specs.Prelude.{if◌then◌else◌}
+use Rattle.std.proofs.lemmas.Bool.{cond_both, cond-true, cond-false}
 use Rattle.actor_names.specs.declared.actor_key.ActorKey.{ActorKey}
 use Rattle.turn_core.specs.declared.cell.Turn.{Turn}
 use Rattle.turn_core.specs.declared.cell.Waiter.{Waiter}
@@ -9,9 +9,9 @@ use Rattle.turn_core.specs.Cell.{is_free, next_call, turn_calls}
 use Rattle.turn_core.proofs.Leaves.{begins_keeps, moved_keeps}
 use Rattle.part_cells.specs.declared.actor_cell.ActorCell.{ActorCell}
 use Rattle.part_cells.specs.Cells.{calls_in, total, total_calls}
-use Rattle.part_cells.specs.Slots.{each_list, open_calls, first_where, late_cell, late_calls, late_number, next_calls, begun_cell, opened_cell, opened_calls, opened_moved}
+use Rattle.part_cells.specs.Slots.{each_list, open_calls, late_cell, late_calls, late_number, next_calls, begun_cell, opened_cell, opened_calls, opened_moved}
 use Rattle.part_core.specs.Marks.{marks_of_next, marks_of_ends, marks_of_inactive, marks_of_stop, begun_calls, ended_calls}
-use Rattle.part_core.specs.Part.{PartState, CellStep, each_cell, is_own, is_foreign, is_overdue, open_cell, tick_cell, begin_in, move_in, may_close, first_to_close, ring_owner}
+use Rattle.part_core.specs.Part.{PartState, CellStep, each_cell, is_own, is_foreign, is_overdue, open_cell, tick_cell, begin_in, move_in, ring_owner}
 use Rattle.part_core.specs.Actors.{IsNumbered, AreActorsKept}
 use Rattle.part_core.proofs.Numbers.{numbered_next, next_in_line, numbered_moved, numbered_stopped}
 use Rattle.part_core.proofs.AskedGives.{begun-marks_of_begin}
@@ -166,27 +166,6 @@ ticking_keeps drawn now p =
       calls = λ c. cond_both (not (is_free c.inner) && (is_foreign ring_owner p c.key && is_overdue ring_owner p now c)) _ _ (λ (s : CellStep). calls_in s.cell ≤ calls_in c)
           (λ _. omega arith) (λ _. omega arith);
     }
-
--- ---- reading passes
-
-pub close-first : (p : PartState) (now : ℕ) (cs : List ActorCell) → first_where (λ c. may_close ring_owner p now c) cs ≡ first_to_close ring_owner p now cs
-close-first p now [] = refl
-close-first p now (c ∷ cs) = ap (λ r. if may_close ring_owner p now c then Some c else r) (close-first p now cs)
-
--- the cell that may be closed is free
-pub may-first : (p : PartState) (now : ℕ) (cs : List ActorCell) (c : ActorCell) → first_where (λ d. may_close ring_owner p now d) cs ≡ Some c → is_free c.inner ≡ true
-may-first p now [] c e = absurd (cc)
-may-first p now (d ∷ cs) c e =
-    let more = may-first p now cs c in
-    cond_both (may_close ring_owner p now d) (Some d) (first_where (λ z. may_close ring_owner p now z) cs) (λ r. r ≡ Some c → is_free c.inner ≡ true)
-    (λ t q. (
-    let same : d ≡ c = cc in
-    let h = and_parts (d.active && not d.closing) _ t in
-    let f = and_parts (is_free d.inner && (d.inner.holds == 0)) _ h.1 in
-    let g = and_parts (is_free d.inner) (d.inner.holds == 0) f.0 in
-    ap (λ (z : ActorCell). is_free z.inner) (sym same) ∙ g.0
-    ))
-    (λ _ q. more q) e
 
 -- ---- a stop
 

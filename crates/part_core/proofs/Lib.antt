@@ -30,4 +30,6 @@ pub mod PartBegins
 mod LawRows
 mod Foreigns
 mod Drained
+mod Quiets
+mod Closings
 mod StepLaws

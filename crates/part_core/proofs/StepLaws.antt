@@ -1,23 +1,28 @@
 -- What each step of a part keeps and reports, by what it gives.
-use Rattle.std.proofs.Common.{ap}
+use Rattle.std.proofs.Common.{◌≡◌, ℕ, ◌≤◌, ◌&&◌, true, ap, arith}
+use Rattle.std.proofs.lemmas.Bool.{and_parts, cond_both, false≢true}
 use Rattle.part_core.specs.declared.event.PartEvent.{PartEvent}
 use Rattle.part_core.specs.declared.event.PartEvent.TheVariants as events
 use Rattle.part_core.specs.declared.event.PartReply.{PartReply}
 use Rattle.part_core.specs.declared.event.PartReply.TheVariants as replies
 use Rattle.part_core.specs.Part.{PartState, part_step, ring_owner}
+use Rattle.part_core.specs.Quiet.{IsQuietUntil, lowered, quiet_after, quiet_next, is_early, gives_none}
 use Rattle.part_core.specs.Rooms.{PartView, Gives, GivesEnded, GivesInMemory, GivesStep, IsInRange}
 use Rattle.part_core.specs.Sound.{IsPartSound, AreVersionsWithin, OwnsWhenOpen, TellsState}
 use Rattle.part_core.proofs.PartTables.{part_stepped}
 use Rattle.part_core.proofs.PartTells.{part_honest}
 use Rattle.part_core.proofs.PartLaws.{moves_within, moves_own}
+use Rattle.part_core.proofs.Quiets.{stays_quiet, lowered_less}
+use Rattle.part_core.proofs.Closings.{quiet_then}
 
--- The part is sound, a receipt in the reply is that of the new state, an event in range leaves versions in range, and
--- in an open part active actors stay own.
+-- The part is sound, a receipt in the reply is that of the new state, an event in range leaves versions in range, in an
+-- open part active actors stay own, and no actor may be idle before a moment that the event leaves.
 pub record IsGoodStep (old : PartState) (event : PartEvent) (reply : PartReply) (new : PartState) : Type 0 where
   pub sound : IsPartSound ring_owner new
   pub tells : TellsState ring_owner reply new
   pub within : IsInRange event → AreVersionsWithin old → AreVersionsWithin new
   pub owns : OwnsWhenOpen ring_owner old → OwnsWhenOpen ring_owner new
+  pub quiet : (q r : ℕ) → IsQuietUntil old q → r ≤ lowered old.kinds event q → IsQuietUntil new r
 
 good : (old : PartState) (event : PartEvent) → IsPartSound ring_owner old → IsGoodStep old event (part_step ring_owner old event).reply (part_step ring_owner old event).part
 good old event s =
@@ -28,6 +33,7 @@ good old event s =
       tells = h.tells;
       within = moves_within ring_owner old event (part_step ring_owner old event).part t.moves;
       owns = moves_own ring_owner old event (part_step ring_owner old event).part t t.moves;
+      quiet = λ q r h l. stays_quiet ring_owner old q r h (let m = lowered_less old.kinds event q in omega arith) event l;
     }
 
 module _ (reply : PartReply) (old : PartState) (new : PartView) (s : IsPartSound ring_owner old) where
@@ -38,7 +44,7 @@ module _ (reply : PartReply) (old : PartState) (new : PartView) (s : IsPartSound
   by_ended event g = rw (g.0, ap (λ (v : PartView). v.state) g.1) (good old event s)
 
 in_memory : (reply : PartReply) (old : PartState) (new : PartView) → IsPartSound ring_owner old → (event : PartEvent) → GivesInMemory (part_step ring_owner old event) reply old new → IsGoodStep old event reply new.state
-in_memory replies.OutOfMemory old new s event g = rw (ap (λ (v : PartView). v.state) g.0) (record { sound = s; tells = tt; within = λ r w. w; owns = λ o. o })
+in_memory replies.OutOfMemory old new s event g = rw (ap (λ (v : PartView). v.state) g.0) (record { sound = s; tells = tt; within = λ r w. w; owns = λ o. o; quiet = λ q r h l c i t. (let m = lowered_less old.kinds event q in let k = h c i t in omega arith) })
 in_memory reply old new s event g = by_gives reply old new s event g
 
 pub step_good : (reply : PartReply) (old : PartState) (new : PartView) → IsPartSound ring_owner old → (event : PartEvent) → GivesStep event reply old new → IsGoodStep old event reply new.state
@@ -56,3 +62,16 @@ step_good reply old new s (events.Tick now) g = by_ended reply old new s (events
 step_good reply old new s (events.TakeClosing now) g = in_memory reply old new s (events.TakeClosing now) g
 step_good reply old new s (events.Closed key) g = by_gives reply old new s (events.Closed key) g
 step_good reply old new s events.StopPart g = by_ended reply old new s events.StopPart g
+
+-- ---- until when no actor may be idle
+
+-- an event that asks too early leaves the moment
+early_left : (old : PartState) (event : PartEvent) (q : ℕ) → is_early event q ≡ true → q ≤ lowered old.kinds event q
+early_left old (events.TakeClosing now) q t = omega arith
+early_left old _ q t = absurd (false≢true t)
+
+pub quiet_stays : (old : PartState) (event : PartEvent) (reply : PartReply) (new : PartState) (q : ℕ) → IsQuietUntil old q → IsGoodStep old event reply new → IsQuietUntil new (quiet_next old event reply new q)
+quiet_stays old event reply new q quiet g =
+    cond_both (is_early event q && gives_none old) q (quiet_after new reply (lowered old.kinds event q)) (λ (r : ℕ). IsQuietUntil new r)
+    (λ t. g.quiet q q quiet (early_left old event q (and_parts (is_early event q) (gives_none old) t).0))
+    (λ _. quiet_then new reply (lowered old.kinds event q) (g.quiet q (lowered old.kinds event q) quiet (omega arith)))

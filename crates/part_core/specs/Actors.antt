@@ -1,6 +1,6 @@
 -- The actors of a part without its stage and table: the numbers drawn, the cells, and the calls of the last step.
 -- Own.
-use Rattle.std.specs.Prelude.{◌≡◌, ◌≤◌, ◌^◌, ℕ, Bool, true, false, not, ◌&&◌, if◌then◌else◌, List, [], ◌∷◌, length, Option, None, Some}
+use Rattle.std.specs.Prelude.{◌≡◌, ◌≤◌, ◌^◌, ℕ, Bool, true, false, not, ◌&&◌, ◌||◌, nat_lt, if◌then◌else◌, List, [], ◌∷◌, length, Option, None, Some}
 use Rattle.std.specs.declared.result.Result.{Result}
 use Rattle.std.specs.declared.result.Result.TheVariants.{Ok, Err}
 use Rattle.actor_names.specs.declared.actor_key.ActorKey.{ActorKey}
@@ -19,7 +19,8 @@ use Rattle.part_cells.specs.Cells.{total, total_calls}
 use Rattle.part_core.specs.declared.standing.Standing.{Standing}
 use Rattle.part_core.specs.declared.event.PartReply.{PartReply}
 use Rattle.part_core.specs.declared.event.PartReply.TheVariants as replies
-use Rattle.part_core.specs.Part.{PartState, PartStep, ask_cell, ask_owned, ask_here, refused, is_open, is_updated, is_foreign, is_owned_by, ring_owner}
+use Rattle.part_core.specs.Part.{PartState, PartStep, ask_cell, ask_owned, ask_here, refused, is_open, is_updated, is_foreign, is_owned_by, is_idle, ring_owner}
+use Rattle.part_core.specs.Quiet.{is_resting}
 use Rattle.part_core.specs.Rooms.{PartView}
 use Rattle.part_core.specs.Settings.{AreShallow}
 
@@ -61,6 +62,14 @@ total_foreign owner p = total (foreign_in owner p)
 -- an updated part keeps their number
 abbrev pub IsForeignCounted : Standing → List ActorCell → Type 0
 IsForeignCounted s cells = is_updated s.stage ≡ true → s.foreign ≡ total_foreign ring_owner (state_of s no_actors) cells
+
+-- whether an updated part has active actors to give up to other owners
+abbrev pub gives_some : Standing → Bool
+gives_some s = is_updated s.stage && nat_lt 0 s.foreign
+
+-- whether an actor may be taken for deactivation, if a part with such actors is asked or not
+abbrev pub may_close_if : Bool → PartState → ℕ → ActorCell → Bool
+may_close_if gives p now c = is_resting c && ((gives && is_foreign ring_owner p c.key) || is_idle ring_owner p now c)
 
 -- Depths are in range, versions at most 2^62, and foreign actors are counted.
 pub record IsStandingKept (s : Standing) (a : ActorsState) : Type 0 where

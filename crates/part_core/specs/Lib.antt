@@ -5,6 +5,7 @@ pub mod Part
 pub mod Sound
 pub mod Rooms
 pub mod Actors
+pub mod Quiet
 pub mod PartMoves
 pub mod Activity
 pub mod PartRuns

@@ -1,6 +1,7 @@
 // A call that is asked of an actor: whether it may enter, and the cell's answer as the part's reply.
 ghost use Rattle.std.specs.Prelude.{◌≡◌, true, ◌<◌, ◌≤◌, ◌++◌, ◌+◌, IsSome, length, vec_len, vec_capacity};
 ghost use Rattle.std.specs.Option.{option_copied};
+ghost use Rattle.place_table.specs.Hosts.{key_place};
 ghost use Rattle.part_core.specs.Part.{is_owned_by, ring_owner};
 ghost use Rattle.part_core.specs.Actors.{Enters, EntersOwned, IsOwnIfActive, is_begun, reply_by, begun_by, refusal_by, begun_next_in};
 
@@ -16,15 +17,21 @@ use turn_core::{Asked, CellError};
 
 /// Whether a new chain may begin in the cell of an open part, which refuses actors that its table gives to nobody or to
 /// another member. An active actor belongs to the part's member, so its owner isn't looked up.
-fn enter_owned(alloc: Global, standing: &Standing, cell: &ActorCell) -> Result<bool, PartReply>
-    requires { cell.now.active ≡ true → is_owned_by standing.now.member (ring_owner standing.now.table cell.now.key) ≡ true }
+fn enter_owned(
+    alloc: Global,
+    standing: &Standing,
+    cell: &ActorCell,
+    hash: u64,
+) -> Result<bool, PartReply>
+    requires hashed { hash ≡ key_place cell.now.key.id }
+    requires owned { cell.now.active ≡ true → is_owned_by standing.now.member (ring_owner standing.now.table cell.now.key) ≡ true }
     ensures { EntersOwned standing.now cell.now result }
 {
     if cell.active {
         return Ok(true);
     }
     let version = standing.table.version();
-    match owner_host(&standing.table, &cell.key) {
+    match owner_host(&standing.table, &cell.key, hash) {
         None => Err(PartReply::NoHost { version }),
         Some(host) => {
             if host.member == standing.member {
@@ -44,8 +51,10 @@ pub(crate) fn enter(
     alloc: Global,
     standing: &Standing,
     cell: &ActorCell,
+    hash: u64,
     chain: Option<&ChainId>,
 ) -> Result<bool, PartReply>
+    requires hashed { hash ≡ key_place cell.now.key.id }
     requires chained { 0 < cell.now.inner.depth → IsSome chain }
     requires owned { IsOwnIfActive standing.now cell.now }
     ensures { Enters standing.now cell.now (option_copied chain.entry) result }
@@ -54,7 +63,7 @@ pub(crate) fn enter(
         return Ok(false);
     }
     match standing.stage {
-        Stage::Open => enter_owned(alloc, standing, cell),
+        Stage::Open => enter_owned(alloc, standing, cell, hash),
         _ => Ok(false),
     }
 }

@@ -1,5 +1,6 @@
 // Calls of a part's actors: asked, polled and ended.
 ghost use Rattle.std.specs.Prelude.{◌≡◌, ◌<◌, ◌≤◌, ◌^◌, [], None, false, length, IsSome};
+ghost use Rattle.place_table.specs.Hosts.{key_place};
 ghost use Rattle.part_cells.specs.Cells.{cell_at};
 ghost use Rattle.part_core.specs.Actors.{state_of, view_of, IsFirstCell, HasRunOut};
 ghost use Rattle.part_core.specs.Part.{is_stopped, ask_part, ask_found, ask_cell, poll_part, end_part, ring_owner};
@@ -16,6 +17,7 @@ use crate::settings::depth_of;
 use crate::standing::Standing;
 use actor_names::{ActorKey, ChainId};
 use part_cells::ActorCell;
+use place_table::key_hash;
 use turn_core::{Cell, CellEnd, CellPoll};
 
 impl Actors {
@@ -24,6 +26,7 @@ impl Actors {
         &mut self,
         standing: &Standing,
         mut cell: ActorCell,
+        hash: u64,
         chain: Option<ChainId>,
         may_begin: bool,
     ) -> PartReply
@@ -33,6 +36,7 @@ impl Actors {
         requires few { length self.old.cells < 65536 }
         requires absent { cell_at self.old.cells cell.key ≡ None }
         requires first { IsFirstCell cell }
+        requires hashed { hash ≡ key_place cell.key.id }
         requires chained { 0 < cell.inner.depth → IsSome chain }
         ensures { GivesInMemory (ask_cell false (state_of standing.now self.old) cell chain may_begin) result (state_of standing.now self.old) (view_of standing.now self.new) }
     {
@@ -44,7 +48,7 @@ impl Actors {
             return PartReply::OutOfMemory;
         };
         cell.active = has_begun(&asked);
-        let Ok(()) = self.cells.add(self.alloc, cell, call) else {
+        let Ok(()) = self.cells.add(self.alloc, cell, hash, call) else {
             return PartReply::OutOfMemory;
         };
         self.drawn = call;
@@ -64,17 +68,18 @@ impl Actors {
         let Ok(inner) = Cell::new(self.alloc, depth) else {
             return PartReply::OutOfMemory;
         };
+        let hash = key_hash(&key.id);
         let cell = first_cell(key, inner);
         let Ok(chain) = call_chain(self.alloc, standing, self.drawn, depth, chain) else {
             return PartReply::OutOfMemory;
         };
-        match enter(self.alloc, standing, &cell, chain.as_ref()) {
+        match enter(self.alloc, standing, &cell, hash, chain.as_ref()) {
             Err(refusal) => refusal,
             Ok(may_begin) => {
                 if self.cells.len() >= MOST_CELLS {
                     return PartReply::PartFull;
                 }
-                self.add_first(standing, cell, chain, may_begin)
+                self.add_first(standing, cell, hash, chain, may_begin)
             }
         }
     }
@@ -102,14 +107,14 @@ impl Actors {
                 seen: standing.seen,
             };
         }
-        let Some((slot, cell)) = self.cells.find(&key) else {
+        let Some((slot, cell, hash)) = self.cells.find(&key) else {
             return self.ask_first(standing, key, chain);
         };
         let depth = cell.inner.depth();
         let Ok(chain) = call_chain(self.alloc, standing, self.drawn, depth, chain) else {
             return PartReply::OutOfMemory;
         };
-        let may_begin = match enter(self.alloc, standing, cell, chain.as_ref()) {
+        let may_begin = match enter(self.alloc, standing, cell, hash, chain.as_ref()) {
             Err(refusal) => return refusal,
             Ok(may_begin) => may_begin,
         };
@@ -136,7 +141,7 @@ impl Actors {
         ensures memory { RunsOutFor hands_out (poll_part ring_owner (state_of standing.now self.old) call) result }
     {
         self.recent.clear();
-        let Some((slot, cell)) = self.cells.find_call(call) else {
+        let Some((slot, cell, hash)) = self.cells.find_call(call) else {
             return PartReply::AlreadyEnded;
         };
         match cell.inner.look(call) {
@@ -146,7 +151,7 @@ impl Actors {
             },
             CellPoll::Waits { place } => PartReply::Waits { call, place },
             CellPoll::Gone => PartReply::AlreadyEnded,
-            CellPoll::Moved => match moved_reply(self.alloc, &standing.table, &cell.key) {
+            CellPoll::Moved => match moved_reply(self.alloc, &standing.table, &cell.key, hash) {
                 Err(_) => PartReply::OutOfMemory,
                 Ok(reply) => {
                     self.cells.take_moved(slot, call);
@@ -162,10 +167,10 @@ impl Actors {
         ensures { Gives (end_part ring_owner (state_of standing.now self.old) call now) result (view_of standing.now self.new) }
     {
         self.recent.clear();
-        let Some((slot, cell)) = self.cells.find_call(call) else {
+        let Some((slot, cell, hash)) = self.cells.find_call(call) else {
             return PartReply::AlreadyEnded;
         };
-        let may_begin = may_hand_over(standing, cell);
+        let may_begin = may_hand_over(standing, cell, hash);
         match self.cells.end(slot, call, may_begin, now) {
             CellEnd::Ended { next } => {
                 note_next(&mut self.recent, next);

@@ -2,6 +2,7 @@
 ghost use Rattle.std.specs.Prelude.{◌≡◌, ◌&&◌, not};
 ghost use Rattle.part_core.specs.Actors.{state_of, view_of};
 ghost use Rattle.part_core.specs.Part.{hold_part, release_part, ring_owner};
+ghost use Rattle.part_core.specs.Quiet.{is_resting};
 ghost use Rattle.part_core.specs.Rooms.{Gives};
 
 use crate::actors::{Actors, MOST_DRAWN};
@@ -17,13 +18,20 @@ pub(crate) fn is_awake(cell: &ActorCell) -> bool
     cell.active && !cell.closing
 }
 
+/// Whether the actor is active and not closing, and has no open turn and no hold.
+pub(crate) fn is_resting(cell: &ActorCell) -> bool
+    ensures { result ≡ is_resting cell.now }
+{
+    is_awake(cell) && cell.inner.turns() == 0 && cell.inner.holds() == 0
+}
+
 impl Actors {
     /// Adds one hold of the actor, and draws a number for it.
     pub(crate) fn hold(&mut self, standing: &Standing, key: &ActorKey) -> PartReply
         ensures { Gives (hold_part ring_owner (state_of standing.now self.old) key.now) result (view_of standing.now self.new) }
     {
         self.recent.clear();
-        let Some((slot, cell)) = self.cells.find(key) else {
+        let Some((slot, cell, _)) = self.cells.find(key) else {
             return PartReply::NotActive;
         };
         if !is_awake(cell) {
@@ -42,7 +50,7 @@ impl Actors {
         ensures { Gives (release_part ring_owner (state_of standing.now self.old) key.now now) result (view_of standing.now self.new) }
     {
         self.recent.clear();
-        let Some((slot, cell)) = self.cells.find(key) else {
+        let Some((slot, cell, _)) = self.cells.find(key) else {
             return PartReply::NotHeld;
         };
         if cell.inner.holds() == 0 {

@@ -17,6 +17,7 @@ mod opening;
 mod owners;
 mod part;
 mod receipt;
+mod resting;
 mod settings;
 mod shard;
 mod stage;

@@ -18,8 +18,8 @@ struct IsOwn<'a> {
 impl<'a> CellTest for IsOwn<'a> {
     ghost holds = { λ t c. is_own ring_owner (state_of t.standing.now no_actors) c.key };
 
-    fn holds(&self, cell: &ActorCell) -> bool {
-        is_own(&self.standing.table, &self.standing.member, &cell.key)
+    fn holds(&self, cell: &ActorCell, hash: u64) -> bool {
+        is_own(self.standing, &cell.key, hash)
     }
 }
 

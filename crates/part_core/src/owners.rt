@@ -1,6 +1,7 @@
 // Which actors belong to this member.
 ghost use Rattle.std.specs.Prelude.{◌≡◌, ◌<◌, ◌&&◌, not, length, IfOk, IfErr, IsSome};
 ghost use Rattle.std.specs.Option.{option_copied};
+ghost use Rattle.place_table.specs.Hosts.{key_place};
 ghost use Rattle.part_core.specs.Actors.{no_actors, state_of, total_foreign, IsOwnIfActive};
 ghost use Rattle.part_core.specs.Part.{ring_owner, is_owned_by, is_open, is_foreign, owner_reply};
 
@@ -8,26 +9,28 @@ use crate::actors::Actors;
 use crate::event::PartReply;
 use crate::stage::Stage;
 use crate::standing::Standing;
-use actor_names::{ActorKey, Member, OutOfMemory};
+use actor_names::{ActorKey, OutOfMemory};
 use part_cells::{ActorCell, CellTest};
 use place_table::{HostInfo, Table};
 use std::alloc::Global;
 
-/// The host that owns the actor.
+/// The host that owns the actor, whose id has this `key_hash`.
 #[tactic(auto, unfolding(crate::specs::Part::ring_owner))]
-pub(crate) fn owner_host<'a>(table: &'a Table, key: &ActorKey) -> Option<&'a HostInfo>
+pub(crate) fn owner_host<'a>(table: &'a Table, key: &ActorKey, hash: u64) -> Option<&'a HostInfo>
+    requires { hash ≡ key_place key.now.id }
     ensures { option_copied result ≡ ring_owner table.now key.now }
 {
-    table.owner_uncounted(key)
+    table.owner_at(key, hash)
 }
 
-/// Whether the table gives the actor to the member.
-pub(crate) fn is_own(table: &Table, member: &Member, key: &ActorKey) -> bool
-    ensures { result ≡ is_owned_by member.now (ring_owner table.now key.now) }
+/// Whether the installed table gives the actor to this member.
+pub(crate) fn is_own(standing: &Standing, key: &ActorKey, hash: u64) -> bool
+    requires { hash ≡ key_place key.now.id }
+    ensures { result ≡ is_owned_by standing.now.member (ring_owner standing.now.table key.now) }
 {
-    match owner_host(table, key) {
+    match owner_host(&standing.table, key, hash) {
         None => false,
-        Some(host) => host.member == *member,
+        Some(host) => host.member == standing.member,
     }
 }
 
@@ -40,8 +43,8 @@ struct IsForeign<'a> {
 impl<'a> CellTest for IsForeign<'a> {
     ghost holds = { λ t c. c.active && is_foreign ring_owner (state_of t.standing.now no_actors) c.key };
 
-    fn holds(&self, cell: &ActorCell) -> bool {
-        cell.active && !is_own(&self.standing.table, &self.standing.member, &cell.key)
+    fn holds(&self, cell: &ActorCell, hash: u64) -> bool {
+        cell.active && !is_own(self.standing, &cell.key, hash)
     }
 }
 
@@ -59,12 +62,14 @@ pub(crate) fn moved_reply(
     alloc: Global,
     table: &Table,
     key: &ActorKey,
+    hash: u64,
 ) -> Result<PartReply, OutOfMemory>
+    requires { hash ≡ key_place key.now.id }
     ensures reply { IfOk result (λ reply. reply ≡ owner_reply table.now.version (ring_owner table.now key.now)) }
     ensures owned { IfErr result (λ _. IsSome (ring_owner table.now key.now)) }
 {
     let version = table.version();
-    match owner_host(table, key) {
+    match owner_host(table, key, hash) {
         None => Ok(PartReply::NoHost { version }),
         Some(host) => {
             let owner = host.copy(alloc)?;
@@ -75,24 +80,26 @@ pub(crate) fn moved_reply(
 
 /// Whether the part is open and the table gives the cell's actor to its member. An active actor of an open part belongs
 /// to its member, so its owner isn't looked up.
-pub(crate) fn is_served(standing: &Standing, cell: &ActorCell) -> bool
-    requires { IsOwnIfActive standing.now cell.now }
+pub(crate) fn is_served(standing: &Standing, cell: &ActorCell, hash: u64) -> bool
+    requires owned { IsOwnIfActive standing.now cell.now }
+    requires hashed { hash ≡ key_place cell.now.key.id }
     ensures { result ≡ (is_open standing.now.stage && is_owned_by standing.now.member (ring_owner standing.now.table cell.now.key)) }
 {
     match standing.stage {
-        Stage::Open => cell.active || is_own(&standing.table, &standing.member, &cell.key),
+        Stage::Open => cell.active || is_own(standing, &cell.key, hash),
         _ => false,
     }
 }
 
 /// Whether a new chain may begin in the cell when its turns are over. The answer counts only if a call waits; if none
 /// does, the owner isn't looked up.
-pub(crate) fn may_hand_over(standing: &Standing, cell: &ActorCell) -> bool
-    requires { IsOwnIfActive standing.now cell.now }
+pub(crate) fn may_hand_over(standing: &Standing, cell: &ActorCell, hash: u64) -> bool
+    requires owned { IsOwnIfActive standing.now cell.now }
+    requires hashed { hash ≡ key_place cell.now.key.id }
     ensures { 0 < length cell.now.inner.line → result ≡ ((is_open standing.now.stage && is_owned_by standing.now.member (ring_owner standing.now.table cell.now.key)) && not cell.now.closing) }
 {
     if cell.inner.waiting() == 0 || cell.closing {
         return false;
     }
-    is_served(standing, cell)
+    is_served(standing, cell, hash)
 }

@@ -20,10 +20,13 @@ use std::marker::Model;
 #[derive(Drop)]
 pub struct Part {
     shard: Shard,
+    /// A moment before which no actor may be idle.
+    quiet: u64,
 }
 
 impl Model for Part {
     ghost use Rattle.part_core.specs.Part.{ring_owner};
+    ghost use Rattle.part_core.specs.Quiet.{IsQuietUntil};
     ghost use Rattle.part_core.specs.Rooms.{PartView};
     ghost use Rattle.part_core.specs.Sound.{IsPartSound, AreVersionsWithin, OwnsWhenOpen};
 
@@ -31,7 +34,7 @@ impl Model for Part {
 
     ghost view = { λ a. a.shard };
 
-    ghost invariant = { λ a. IsPartSound ring_owner a.shard.state × AreVersionsWithin a.shard.state × OwnsWhenOpen ring_owner a.shard.state };
+    ghost invariant = { λ a. IsPartSound ring_owner a.shard.state × AreVersionsWithin a.shard.state × OwnsWhenOpen ring_owner a.shard.state × IsQuietUntil a.shard.state a.quiet };
 }
 
 impl Part {
@@ -63,6 +66,7 @@ impl Part {
                 let actors = Actors::new(alloc);
                 Ok(Part {
                     shard: Shard { standing, actors },
+                    quiet: 0,
                 })
             }
         }
@@ -81,7 +85,7 @@ impl Part {
         ensures owns { OwnsWhenOpen ring_owner self.new.state }
         ensures tells { IfSome (receipt_in result) (λ r. r ≡ receipt_of ring_owner self.new.state) }
     {
-        self.shard.step(event)
+        self.shard.step_until(event, &mut self.quiet)
     }
 
     /// The calls whose turns the last step began or, for Tick and StopPart, ended: actors in order of key (space, type,

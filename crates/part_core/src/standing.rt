@@ -1,11 +1,11 @@
 // What a part is apart from its actors.
 ghost use Rattle.std.specs.Prelude.{◌≡◌, ◌≤◌, ◌^◌, true};
-ghost use Rattle.part_core.specs.Actors.{ActorsState, IsForeignCounted, state_of, total_foreign};
+ghost use Rattle.part_core.specs.Actors.{ActorsState, IsForeignCounted, gives_some, state_of, total_foreign};
 ghost use Rattle.part_core.specs.Part.{PartState, is_updated, seen_stage, receipt_of, ring_owner};
 
 use crate::receipt::{Receipt, SeenStage};
 use crate::settings::TypeList;
-use crate::stage::Stage;
+use crate::stage::{Stage, is_updated};
 use actor_names::Member;
 use place_table::Table;
 
@@ -25,6 +25,13 @@ pub(crate) struct Standing {
     pub(crate) since: u64,
     /// How many active actors belong to another owner, while the part is updated.
     pub(crate) foreign: usize,
+}
+
+/// Whether the part is updated and has active actors to give up to other owners.
+pub(crate) fn gives_some(standing: &Standing) -> bool
+    ensures { result ≡ gives_some standing.now }
+{
+    is_updated(&standing.stage) && standing.foreign > 0
 }
 
 /// The stage as a receipt gives it.

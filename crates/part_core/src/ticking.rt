@@ -31,11 +31,11 @@ impl<'a> CellTest for IsLate<'a> {
     ghost holds = { λ t c. not (is_free c.inner) && (is_foreign ring_owner (state_of t.standing.now no_actors) c.key && is_overdue ring_owner (state_of t.standing.now no_actors) t.now c) };
 
     // The owner is looked up only if the cell has an open turn and its drain time has passed.
-    fn holds(&self, cell: &ActorCell) -> bool {
+    fn holds(&self, cell: &ActorCell, hash: u64) -> bool {
         if cell.inner.turns() == 0 || !is_overdue(self.standing, self.now, cell) {
             return false;
         }
-        !is_own(&self.standing.table, &self.standing.member, &cell.key)
+        !is_own(self.standing, &cell.key, hash)
     }
 }
 

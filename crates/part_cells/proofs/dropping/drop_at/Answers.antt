@@ -13,5 +13,5 @@ returns-in_default-clause-places c =
 
 pub returns-clause-places : goal.returns-clause-places
 returns-clause-places c =
-    let e : get c.args.slots.now c.args.slot ≡ Some c.in-Some.cell.now = sym c.get.ensures ∙ ap option_copied c.in-Some.is in
+    let e : get c.args.slots.now c.args.slot ≡ Some c.hashed.inside.cell = sym c.get.ensures ∙ ap option_copied c.in-Some.is ∙ ap (λ z. Some z) (sym c.hashed.view_is) in
     rw e c.remove-place.ensures.entries

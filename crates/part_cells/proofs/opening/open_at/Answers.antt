@@ -10,7 +10,7 @@ use Rattle.part_cells.proofs.opening.open_at.Goals as goal
 
 pub open_cell-requires : goal.open_cell-requires
 open_cell-requires g c =
-    let e : get c.args.slots.now c.args.slot ≡ Some c.in-Some.cell.now = sym c.get_mut.ensures.value ∙ ap (λ o. option_copied_mut o) c.in-Some.is in
+    let e : get c.args.slots.now c.args.slot ≡ Some c.hashed.inside.cell = sym c.get_mut.ensures.value ∙ ap (λ o. option_copied_mut o) c.in-Some.is ∙ ap (λ z. Some z) (sym c.hashed.view_is) in
     let n = ap (number_at calls_in) e in
     let r = c.requires.room in
     omega arith
@@ -18,9 +18,9 @@ open_cell-requires g c =
 pub returns-clause-visited : goal.returns-clause-visited
 returns-clause-visited g c =
     let own = g.T.CellTest.holds c.args.own.now in
-    let cell = c.in-Some.cell.now in
+    let cell = c.hashed.inside.cell in
     let S = c.args.slots.now in
-    let e : get S c.args.slot ≡ Some cell = sym c.get_mut.ensures.value ∙ ap (λ o. option_copied_mut o) c.in-Some.is in
+    let e : get S c.args.slot ≡ Some cell = sym c.get_mut.ensures.value ∙ ap (λ o. option_copied_mut o) c.in-Some.is ∙ ap (λ z. Some z) (sym c.hashed.view_is) in
     let w = written S c.args._places.now.entries (slot_of c.args._calls.now) c.args._count.now c.requires.kept c.args.slot cell e (opened_cell own cell) (opened-key own cell) in
     rw c.open_cell.ensures.cell (
     record {
@@ -34,8 +34,8 @@ returns-clause-visited g c =
 pub returns-clause-kept : goal.returns-clause-kept
 returns-clause-kept g c =
     let own = g.T.CellTest.holds c.args.own.now in
-    let cell = c.in-Some.cell.now in
+    let cell = c.hashed.inside.cell in
     let S = c.args.slots.now in
-    let e : get S c.args.slot ≡ Some cell = sym c.get_mut.ensures.value ∙ ap (λ o. option_copied_mut o) c.in-Some.is in
+    let e : get S c.args.slot ≡ Some cell = sym c.get_mut.ensures.value ∙ ap (λ o. option_copied_mut o) c.in-Some.is ∙ ap (λ z. Some z) (sym c.hashed.view_is) in
     let k = c.requires.kept in
     rw c.open_cell.ensures.cell (write_with_calls S c.args._places.now.entries (slot_of c.args._calls.now) c.args._count.now k c.args.slot cell e (opened_cell own cell) (opened-key own cell) (opened_settled own cell (k.settled c.args.slot cell e)) (opened_keeps own cell))

@@ -11,18 +11,18 @@ closing_settled c s free = record { kept = s.kept; awake = λ _. free }
 
 pub invariant_of-self-2 : goal.invariant_of-self-2
 invariant_of-self-2 c =
-    let cell = c.in-Some.cell.now in
+    let cell = c.hashed.inside.cell in
     let x : ActorCell = record cell { closing = true } in
-    let e : get c.self.inside.slots c.args.slot ≡ Some cell = sym c.get_mut.ensures.value ∙ ap (λ o. option_copied_mut o) c.in-Some.is in
+    let e : get c.self.inside.slots c.args.slot ≡ Some cell = sym c.get_mut.ensures.value ∙ ap (λ o. option_copied_mut o) c.in-Some.is ∙ ap (λ z. Some z) (sym c.hashed.view_is) in
     let k = c.self.invariant in
     let free = rw e at (rw (← c.self.view_is) at c.requires) in
     write_with_calls c.self.inside.slots c.self.inside.places.entries (slot_of c.self.inside.calls) c.self.inside.count k c.args.slot cell e x refl (closing_settled cell (k.settled c.args.slot cell e) free) (record { times = λ n. refl; as_many = refl })
 
 pub returns : goal.returns
 returns c =
-    let cell = c.in-Some.cell.now in
+    let cell = c.hashed.inside.cell in
     let x : ActorCell = record cell { closing = true } in
-    let e : get c.self.inside.slots c.args.slot ≡ Some cell = sym c.get_mut.ensures.value ∙ ap (λ o. option_copied_mut o) c.in-Some.is in
+    let e : get c.self.inside.slots c.args.slot ≡ Some cell = sym c.get_mut.ensures.value ∙ ap (λ o. option_copied_mut o) c.in-Some.is ∙ ap (λ z. Some z) (sym c.hashed.view_is) in
     let k = c.self.invariant in
     let free = rw e at (rw (← c.self.view_is) at c.requires) in
     rw (← c.self.view_is, e) (write_keeps c.self.inside.slots c.self.inside.places.entries (slot_of c.self.inside.calls) c.self.inside.count k c.args.slot cell e x refl (closing_settled cell (k.settled c.args.slot cell e) free))

@@ -10,6 +10,7 @@ use Rattle.turn_core.specs.declared.cell.Waiter.{Waiter}
 use Rattle.turn_core.specs.Cell.{next_call, call_of}
 use Rattle.turn_core.proofs.CellSteps.{nil_of_length}
 use Rattle.turn_core.proofs.Leaves.{begins_keeps}
+use Rattle.part_cells.specs.declared.actor_cell.ActorCell.{ActorCell}
 use Rattle.part_cells.specs.Cells.{is_kept, put_cell, drop_cell}
 use Rattle.part_cells.specs.Slots.{slot_of, cells_in, AreSlotsKept, closed_cell}
 use Rattle.part_cells.proofs.Keeping.{kept_dropped, dropped, empty_has}
@@ -28,13 +29,13 @@ invariant_of-self-then-waiting-eq0 c =
     let look = slot_of c.self.inside.calls in
     let n = c.self.inside.count in
     let k = c.self.invariant in
-    let cell = c.in-Some.cell.now in
+    let cell = c.in-Some.hashed.now in
     let e : get S c.args.slot ≡ Some cell = sym c.get_mut.ensures.value ∙ ap (λ o. option_copied_mut o) c.in-Some.is in
     let closing = rw e at (rw (← c.self.view_is) at c.requires) in
     let w = written S ps look n k c.args.slot cell e cell refl in
     let u = c.drop_at.ensures.slots in
     let places : c.drop_at.new.places.entries ≡ remove_entry (is_at (key_cmp cell.key)) ps = rw w.changed at c.drop_at.ensures.places in
-    let none : cell.inner.line ≡ [] = nil_of_length cell.inner.line (let a = c.waiting.ensures.count in omega arith) in
+    let none : cell.inner.line ≡ [] = nil_of_length cell.inner.line (let a = c.waiting.ensures.count ∙ ap (λ (z : ActorCell). length z.inner.line) c.hashed.view_is in omega arith) in
     let free = closing_free cell (k.settled c.args.slot cell e) closing in
     let a = ap (λ ts. length ts) free in
     let b = ap (λ ws. length ws) none in
@@ -50,7 +51,7 @@ returns-then-waiting-eq0 c =
     let look = slot_of c.self.inside.calls in
     let n = c.self.inside.count in
     let k = c.self.invariant in
-    let cell = c.in-Some.cell.now in
+    let cell = c.in-Some.hashed.now in
     let x = closed_cell cell c.args.may_begin in
     let e : get S c.args.slot ≡ Some cell = sym c.get_mut.ensures.value ∙ ap (λ o. option_copied_mut o) c.in-Some.is in
     let closing = rw e at (rw (← c.self.view_is) at c.requires) in
@@ -58,7 +59,7 @@ returns-then-waiting-eq0 c =
     let w = written S ps look n k c.args.slot cell e cell refl in
     let u = c.drop_at.ensures.slots in
     let places : c.drop_at.new.places.entries ≡ remove_entry (is_at (key_cmp cell.key)) ps = rw w.changed at c.drop_at.ensures.places in
-    let none : cell.inner.line ≡ [] = nil_of_length cell.inner.line (let a = c.waiting.ensures.count in omega arith) in
+    let none : cell.inner.line ≡ [] = nil_of_length cell.inner.line (let a = c.waiting.ensures.count ∙ ap (λ (z : ActorCell). length z.inner.line) c.hashed.view_is in omega arith) in
     rw (← c.self.view_is, e) (
       sym (ap (option_map call_of) (closed_none cell c.args.may_begin s closing none)),
       ap (cells_in (get c.drop_at.new.slots)) places
@@ -69,12 +70,12 @@ returns-then-waiting-eq0 c =
 pub invariant_of-self-2 : goal.invariant_of-self-2
 invariant_of-self-2 c =
     let k = c.self.invariant in
-    let cell = c.in-Some.cell.now in
+    let cell = c.hashed.inside.cell in
     let next = next_call c.args.may_begin cell.inner in
     let x = closed_cell cell c.args.may_begin in
-    let e : get c.self.inside.slots c.args.slot ≡ Some cell = sym c.get_mut.ensures.value ∙ ap (λ o. option_copied_mut o) c.in-Some.is in
+    let e : get c.self.inside.slots c.args.slot ≡ Some cell = sym c.get_mut.ensures.value ∙ ap (λ o. option_copied_mut o) c.in-Some.is ∙ ap (λ z. Some z) (sym c.hashed.view_is) in
     let closing = rw e at (rw (← c.self.view_is) at c.requires) in
-    let active : c.is_some-cell.result ≡ is_some next = c.is_some-cell.ensures ∙ ap (λ (z : Option ℕ). is_some z) c.begin_if-next.ensures.answer ∙ some_call next in
+    let active : c.is_some-hashed-inside.result ≡ is_some next = c.is_some-hashed-inside.ensures ∙ ap (λ (z : Option ℕ). is_some z) c.begin_if-next.ensures.answer ∙ some_call next in
     let some : 0 < length cell.inner.line = (let a = c.waiting.ensures.count in omega arith) in
     rw (c.begin_if-next.ensures.cell, active) (write_with_calls c.self.inside.slots c.self.inside.places.entries (slot_of c.self.inside.calls) c.self.inside.count k c.args.slot cell e x refl
     (closed_settled cell c.args.may_begin (k.settled c.args.slot cell e) closing some) (begins_keeps c.args.may_begin cell.inner))
@@ -82,12 +83,12 @@ invariant_of-self-2 c =
 pub returns : goal.returns
 returns c =
     let k = c.self.invariant in
-    let cell = c.in-Some.cell.now in
+    let cell = c.hashed.inside.cell in
     let next = next_call c.args.may_begin cell.inner in
     let x = closed_cell cell c.args.may_begin in
-    let e : get c.self.inside.slots c.args.slot ≡ Some cell = sym c.get_mut.ensures.value ∙ ap (λ o. option_copied_mut o) c.in-Some.is in
+    let e : get c.self.inside.slots c.args.slot ≡ Some cell = sym c.get_mut.ensures.value ∙ ap (λ o. option_copied_mut o) c.in-Some.is ∙ ap (λ z. Some z) (sym c.hashed.view_is) in
     let closing = rw e at (rw (← c.self.view_is) at c.requires) in
-    let active : c.is_some-cell.result ≡ is_some next = c.is_some-cell.ensures ∙ ap (λ (z : Option ℕ). is_some z) c.begin_if-next.ensures.answer ∙ some_call next in
+    let active : c.is_some-hashed-inside.result ≡ is_some next = c.is_some-hashed-inside.ensures ∙ ap (λ (z : Option ℕ). is_some z) c.begin_if-next.ensures.answer ∙ some_call next in
     let some : 0 < length cell.inner.line = (let a = c.waiting.ensures.count in omega arith) in
     rw (← c.self.view_is, e, c.begin_if-next.ensures.cell, active) (
       c.begin_if-next.ensures.answer,

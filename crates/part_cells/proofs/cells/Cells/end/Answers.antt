@@ -11,17 +11,17 @@ use Rattle.part_cells.proofs.cells.Cells.end.Goals as goal
 
 pub overflow_sub-self : goal.overflow_sub-self
 overflow_sub-self c =
-    let cell = c.in-Some.cell.now in
-    let e : get c.self.inside.slots c.args.slot ≡ Some cell = sym c.get_mut.ensures.value ∙ ap (λ o. option_copied_mut o) c.in-Some.is in
+    let cell = c.hashed.inside.cell in
+    let e : get c.self.inside.slots c.args.slot ≡ Some cell = sym c.get_mut.ensures.value ∙ ap (λ o. option_copied_mut o) c.in-Some.is ∙ ap (λ z. Some z) (sym c.hashed.view_is) in
     let w = within c.self.inside.slots c.self.inside.places.entries (slot_of c.self.inside.calls) c.self.inside.count c.self.invariant c.args.slot cell e in
     let l = (ended_leaves cell.inner c.args.call c.args.may_begin c.in-Ended.next (sym c.end.ensures.answer ∙ c.in-Ended.is)).fewer in
     omega arith
 
 pub invariant_of-self-in-Ended : goal.invariant_of-self-in-Ended
 invariant_of-self-in-Ended c =
-    let cell = c.in-Some.cell.now in
-    let x : ActorCell = record cell { inner = (cell_end cell.inner c.args.call c.args.may_begin).cell; last = c.max-cell.result } in
-    let e : get c.self.inside.slots c.args.slot ≡ Some cell = sym c.get_mut.ensures.value ∙ ap (λ o. option_copied_mut o) c.in-Some.is in
+    let cell = c.hashed.inside.cell in
+    let x : ActorCell = record cell { inner = (cell_end cell.inner c.args.call c.args.may_begin).cell; last = c.max-hashed-inside.result } in
+    let e : get c.self.inside.slots c.args.slot ≡ Some cell = sym c.get_mut.ensures.value ∙ ap (λ o. option_copied_mut o) c.in-Some.is ∙ ap (λ z. Some z) (sym c.hashed.view_is) in
     let k = c.self.invariant in
     let w = within c.self.inside.slots c.self.inside.places.entries (slot_of c.self.inside.calls) c.self.inside.count k c.args.slot cell e in
     let answer = sym c.end.ensures.answer ∙ c.in-Ended.is in
@@ -32,38 +32,38 @@ invariant_of-self-in-Ended c =
 
 pub invariant_of-self-in-AlreadyEnded : goal.invariant_of-self-in-AlreadyEnded
 invariant_of-self-in-AlreadyEnded c =
-    let cell = c.in-Some.cell.now in
+    let cell = c.hashed.inside.cell in
     let x : ActorCell = record cell { inner = c.end.new.self } in
-    let e : get c.self.inside.slots c.args.slot ≡ Some cell = sym c.get_mut.ensures.value ∙ ap (λ o. option_copied_mut o) c.in-Some.is in
+    let e : get c.self.inside.slots c.args.slot ≡ Some cell = sym c.get_mut.ensures.value ∙ ap (λ o. option_copied_mut o) c.in-Some.is ∙ ap (λ z. Some z) (sym c.hashed.view_is) in
     let k = c.self.invariant in
     let same = c.end.ensures.cell ∙ end_not cell.inner c.args.call c.args.may_begin (λ next q. gone_not next (sym c.in-AlreadyEnded.is ∙ c.end.ensures.answer ∙ q)) in
     rw same (write_still c.self.inside.slots c.self.inside.places.entries (slot_of c.self.inside.calls) c.self.inside.count k c.args.slot cell e cell refl (k.settled c.args.slot cell e) (λ m. refl) refl)
 
 pub invariant_of-self-in-StillWaiting : goal.invariant_of-self-in-StillWaiting
 invariant_of-self-in-StillWaiting c =
-    let cell = c.in-Some.cell.now in
-    let e : get c.self.inside.slots c.args.slot ≡ Some cell = sym c.get_mut.ensures.value ∙ ap (λ o. option_copied_mut o) c.in-Some.is in
+    let cell = c.hashed.inside.cell in
+    let e : get c.self.inside.slots c.args.slot ≡ Some cell = sym c.get_mut.ensures.value ∙ ap (λ o. option_copied_mut o) c.in-Some.is ∙ ap (λ z. Some z) (sym c.hashed.view_is) in
     let k = c.self.invariant in
     let same = c.end.ensures.cell ∙ end_not cell.inner c.args.call c.args.may_begin (λ next q. waits_not next (sym c.in-StillWaiting.is ∙ c.end.ensures.answer ∙ q)) in
     rw same (write_still c.self.inside.slots c.self.inside.places.entries (slot_of c.self.inside.calls) c.self.inside.count k c.args.slot cell e cell refl (k.settled c.args.slot cell e) (λ m. refl) refl)
 
 pub returns-in-Ended : goal.returns-in-Ended
 returns-in-Ended c =
-    let cell = c.in-Some.cell.now in
-    let x : ActorCell = record cell { inner = (cell_end cell.inner c.args.call c.args.may_begin).cell; last = c.max-cell.result } in
-    let e : get c.self.inside.slots c.args.slot ≡ Some cell = sym c.get_mut.ensures.value ∙ ap (λ o. option_copied_mut o) c.in-Some.is in
+    let cell = c.hashed.inside.cell in
+    let x : ActorCell = record cell { inner = (cell_end cell.inner c.args.call c.args.may_begin).cell; last = c.max-hashed-inside.result } in
+    let e : get c.self.inside.slots c.args.slot ≡ Some cell = sym c.get_mut.ensures.value ∙ ap (λ o. option_copied_mut o) c.in-Some.is ∙ ap (λ z. Some z) (sym c.hashed.view_is) in
     let k = c.self.invariant in
     let answer = sym c.end.ensures.answer ∙ c.in-Ended.is in
     let s : IsSettled x = awake_settled x (turn_awake cell c.args.call (k.settled c.args.slot cell e) (ended_open cell.inner c.args.call c.args.may_begin c.in-Ended.next answer)) in
-    rw (← c.self.view_is, e, c.end.ensures.cell, ← c.max-cell.ensures) (
+    rw (← c.self.view_is, e, c.end.ensures.cell, ← c.max-hashed-inside.ensures) (
       sym answer,
       write_keeps c.self.inside.slots c.self.inside.places.entries (slot_of c.self.inside.calls) c.self.inside.count k c.args.slot cell e x refl s,
     )
 
 pub returns-in-AlreadyEnded : goal.returns-in-AlreadyEnded
 returns-in-AlreadyEnded c =
-    let cell = c.in-Some.cell.now in
-    let e : get c.self.inside.slots c.args.slot ≡ Some cell = sym c.get_mut.ensures.value ∙ ap (λ o. option_copied_mut o) c.in-Some.is in
+    let cell = c.hashed.inside.cell in
+    let e : get c.self.inside.slots c.args.slot ≡ Some cell = sym c.get_mut.ensures.value ∙ ap (λ o. option_copied_mut o) c.in-Some.is ∙ ap (λ z. Some z) (sym c.hashed.view_is) in
     let same = c.end.ensures.cell ∙ end_not cell.inner c.args.call c.args.may_begin (λ next q. gone_not next (sym c.in-AlreadyEnded.is ∙ c.end.ensures.answer ∙ q)) in
     rw (← c.self.view_is, e, same) (
       sym c.in-AlreadyEnded.is ∙ c.end.ensures.answer,
@@ -72,8 +72,8 @@ returns-in-AlreadyEnded c =
 
 pub returns-in-StillWaiting : goal.returns-in-StillWaiting
 returns-in-StillWaiting c =
-    let cell = c.in-Some.cell.now in
-    let e : get c.self.inside.slots c.args.slot ≡ Some cell = sym c.get_mut.ensures.value ∙ ap (λ o. option_copied_mut o) c.in-Some.is in
+    let cell = c.hashed.inside.cell in
+    let e : get c.self.inside.slots c.args.slot ≡ Some cell = sym c.get_mut.ensures.value ∙ ap (λ o. option_copied_mut o) c.in-Some.is ∙ ap (λ z. Some z) (sym c.hashed.view_is) in
     let same = c.end.ensures.cell ∙ end_not cell.inner c.args.call c.args.may_begin (λ next q. waits_not next (sym c.in-StillWaiting.is ∙ c.end.ensures.answer ∙ q)) in
     rw (← c.self.view_is, e, same) (
       sym c.in-StillWaiting.is ∙ c.end.ensures.answer,

@@ -14,8 +14,9 @@ returns-in_default-get c =
 
 pub returns : goal.returns
 returns c =
-    let e : get c.self.inside.slots c.in-Some.slot.now ≡ Some c.in-Some-get.cell.now = sym c.get-2.ensures ∙ ap option_copied c.in-Some-get.is in
+    let e : get c.self.inside.slots c.in-Some.slot.now ≡ Some c.hashed.inside.cell = sym c.get-2.ensures ∙ ap option_copied c.in-Some-get.is ∙ ap (λ z. Some z) (sym c.hashed.view_is) in
     rw (← c.self.view_is) (
       find_by (get c.self.inside.slots) c.self.inside.places.entries (slot_of c.self.inside.calls) c.self.inside.count c.self.invariant c.args.key.now (Some c.in-Some.slot.now) (sym c.get.ensures.value ∙ ap option_copied c.in-Some.is) ∙ e,
-      found_at (get c.self.inside.slots) c.self.inside.places.entries (slot_of c.self.inside.calls) c.self.inside.count c.self.invariant c.self.inside.slots.slots c.in-Some.slot.now c.in-Some-get.cell.now refl e,
+      found_at (get c.self.inside.slots) c.self.inside.places.entries (slot_of c.self.inside.calls) c.self.inside.count c.self.invariant c.self.inside.slots.slots c.in-Some.slot.now c.hashed.inside.cell refl e,
+      c.hashed.invariant,
     )

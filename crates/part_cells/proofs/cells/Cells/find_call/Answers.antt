@@ -14,8 +14,9 @@ returns-in_default-get c =
 
 pub returns : goal.returns
 returns c =
-    let e : get c.self.inside.slots c.in-Some.slot ≡ Some c.in-Some-get.cell.now = sym c.get.ensures ∙ ap option_copied c.in-Some-get.is in
+    let e : get c.self.inside.slots c.in-Some.slot ≡ Some c.hashed.inside.cell = sym c.get.ensures ∙ ap option_copied c.in-Some-get.is ∙ ap (λ z. Some z) (sym c.hashed.view_is) in
     rw (← c.self.view_is) (
       find_call_by (get c.self.inside.slots) c.self.inside.places.entries (slot_of c.self.inside.calls) c.self.inside.count c.self.invariant c.args.call (Some c.in-Some.slot) (sym c.in-Some.is ∙ c.slot.ensures) ∙ e,
-      found_at (get c.self.inside.slots) c.self.inside.places.entries (slot_of c.self.inside.calls) c.self.inside.count c.self.invariant c.self.inside.slots.slots c.in-Some.slot c.in-Some-get.cell.now refl e,
+      found_at (get c.self.inside.slots) c.self.inside.places.entries (slot_of c.self.inside.calls) c.self.inside.count c.self.invariant c.self.inside.slots.slots c.in-Some.slot c.hashed.inside.cell refl e,
+      c.hashed.invariant,
     )

@@ -16,21 +16,21 @@ held_keeps c = record { times = λ n. refl; as_many = refl }
 
 pub hold-requires : goal.hold-requires
 hold-requires c =
-    let e : get c.self.inside.slots c.args.slot ≡ Some c.in-Some.cell.now = sym c.get_mut.ensures.value ∙ ap (λ o. option_copied_mut o) c.in-Some.is in
+    let e : get c.self.inside.slots c.args.slot ≡ Some c.hashed.inside.cell = sym c.get_mut.ensures.value ∙ ap (λ o. option_copied_mut o) c.in-Some.is ∙ ap (λ z. Some z) (sym c.hashed.view_is) in
     rw e at (rw (← c.self.view_is) at c.requires)
 
 pub invariant_of-self-2 : goal.invariant_of-self-2
 invariant_of-self-2 c =
-    let cell = c.in-Some.cell.now in
+    let cell = c.hashed.inside.cell in
     let x : ActorCell = record cell { inner = with_hold cell.inner } in
-    let e : get c.self.inside.slots c.args.slot ≡ Some cell = sym c.get_mut.ensures.value ∙ ap (λ o. option_copied_mut o) c.in-Some.is in
+    let e : get c.self.inside.slots c.args.slot ≡ Some cell = sym c.get_mut.ensures.value ∙ ap (λ o. option_copied_mut o) c.in-Some.is ∙ ap (λ z. Some z) (sym c.hashed.view_is) in
     let k = c.self.invariant in
     rw c.hold.ensures (write_with_calls c.self.inside.slots c.self.inside.places.entries (slot_of c.self.inside.calls) c.self.inside.count k c.args.slot cell e x refl (held_settled cell (k.settled c.args.slot cell e)) (held_keeps cell))
 
 pub returns : goal.returns
 returns c =
-    let cell = c.in-Some.cell.now in
+    let cell = c.hashed.inside.cell in
     let x : ActorCell = record cell { inner = with_hold cell.inner } in
-    let e : get c.self.inside.slots c.args.slot ≡ Some cell = sym c.get_mut.ensures.value ∙ ap (λ o. option_copied_mut o) c.in-Some.is in
+    let e : get c.self.inside.slots c.args.slot ≡ Some cell = sym c.get_mut.ensures.value ∙ ap (λ o. option_copied_mut o) c.in-Some.is ∙ ap (λ z. Some z) (sym c.hashed.view_is) in
     let k = c.self.invariant in
     rw (← c.self.view_is, e, c.hold.ensures) (write_keeps c.self.inside.slots c.self.inside.places.entries (slot_of c.self.inside.calls) c.self.inside.count k c.args.slot cell e x refl (held_settled cell (k.settled c.args.slot cell e)))

@@ -16,16 +16,16 @@ released_keeps c = record { times = λ n. refl; as_many = refl }
 
 pub invariant_of-self-2 : goal.invariant_of-self-2
 invariant_of-self-2 c =
-    let cell = c.in-Some.cell.now in
-    let x : ActorCell = record cell { inner = without_hold cell.inner; last = c.max-cell.result } in
-    let e : get c.self.inside.slots c.args.slot ≡ Some cell = sym c.get_mut.ensures.value ∙ ap (λ o. option_copied_mut o) c.in-Some.is in
+    let cell = c.hashed.inside.cell in
+    let x : ActorCell = record cell { inner = without_hold cell.inner; last = c.max-hashed-inside.result } in
+    let e : get c.self.inside.slots c.args.slot ≡ Some cell = sym c.get_mut.ensures.value ∙ ap (λ o. option_copied_mut o) c.in-Some.is ∙ ap (λ z. Some z) (sym c.hashed.view_is) in
     let k = c.self.invariant in
-    rw c.release-released.ensures.cell (write_with_calls c.self.inside.slots c.self.inside.places.entries (slot_of c.self.inside.calls) c.self.inside.count k c.args.slot cell e x refl (released_settled cell c.max-cell.result (k.settled c.args.slot cell e)) (released_keeps cell))
+    rw c.release-released.ensures.cell (write_with_calls c.self.inside.slots c.self.inside.places.entries (slot_of c.self.inside.calls) c.self.inside.count k c.args.slot cell e x refl (released_settled cell c.max-hashed-inside.result (k.settled c.args.slot cell e)) (released_keeps cell))
 
 pub returns : goal.returns
 returns c =
-    let cell = c.in-Some.cell.now in
+    let cell = c.hashed.inside.cell in
     let x : ActorCell = record cell { inner = without_hold cell.inner; last = max cell.last c.args.now } in
-    let e : get c.self.inside.slots c.args.slot ≡ Some cell = sym c.get_mut.ensures.value ∙ ap (λ o. option_copied_mut o) c.in-Some.is in
+    let e : get c.self.inside.slots c.args.slot ≡ Some cell = sym c.get_mut.ensures.value ∙ ap (λ o. option_copied_mut o) c.in-Some.is ∙ ap (λ z. Some z) (sym c.hashed.view_is) in
     let k = c.self.invariant in
-    rw (← c.self.view_is, e, c.release-released.ensures.cell, c.max-cell.ensures) (write_keeps c.self.inside.slots c.self.inside.places.entries (slot_of c.self.inside.calls) c.self.inside.count k c.args.slot cell e x refl (released_settled cell (max cell.last c.args.now) (k.settled c.args.slot cell e)))
+    rw (← c.self.view_is, e, c.release-released.ensures.cell, c.max-hashed-inside.ensures) (write_keeps c.self.inside.slots c.self.inside.places.entries (slot_of c.self.inside.calls) c.self.inside.count k c.args.slot cell e x refl (released_settled cell (max cell.last c.args.now) (k.settled c.args.slot cell e)))

@@ -23,7 +23,7 @@ stays false n e = inr (leb-false n 1 e)
 
 pub overflow_sub-self : goal.overflow_sub-self
 overflow_sub-self c =
-    let cell = c.in-Some.cell.now in
+    let cell = c.in-Some.hashed.now in
     let e : get c.self.inside.slots c.args.slot ≡ Some cell = sym c.get_mut.ensures.value ∙ ap (λ o. option_copied_mut o) c.in-Some.is in
     let moved = rw e at (rw (← c.self.view_is) at c.requires) in
     let w = within c.self.inside.slots c.self.inside.places.entries (slot_of c.self.inside.calls) c.self.inside.count c.self.invariant c.args.slot cell e in
@@ -37,11 +37,11 @@ invariant_of-self-then-is_last c =
     let look = slot_of c.self.inside.calls in
     let n = c.self.inside.count in
     let k = c.self.invariant in
-    let cell = c.in-Some.cell.now in
+    let cell = c.in-Some.hashed.now in
     let e : get S c.args.slot ≡ Some cell = sym c.get_mut.ensures.value ∙ ap (λ o. option_copied_mut o) c.in-Some.is in
     let moved = rw e at (rw (← c.self.view_is) at c.requires) in
     let s = k.settled c.args.slot cell e in
-    let h = and_parts (not cell.active) (nat_le (length cell.inner.line) 1) (sym c.is_last.ensures ∙ c.if-is_last.true) in
+    let h = and_parts (not cell.active) (nat_le (length cell.inner.line) 1) (sym (c.is_last.ensures ∙ ap (λ (z : ActorCell). not z.active && nat_le (length z.inner.line) 1) c.hashed.view_is) ∙ c.if-is_last.true) in
     let idle = not_both cell.active h.0 in
     let last = leb-true (length cell.inner.line) 1 h.1 in
     let w = written S ps look n k c.args.slot cell e cell refl in
@@ -61,12 +61,12 @@ returns-then-is_last c =
     let look = slot_of c.self.inside.calls in
     let n = c.self.inside.count in
     let k = c.self.invariant in
-    let cell = c.in-Some.cell.now in
+    let cell = c.in-Some.hashed.now in
     let x : ActorCell = record cell { inner = (cell_poll cell.inner c.args.call).cell } in
     let e : get S c.args.slot ≡ Some cell = sym c.get_mut.ensures.value ∙ ap (λ o. option_copied_mut o) c.in-Some.is in
     let moved = rw e at (rw (← c.self.view_is) at c.requires) in
     let s = k.settled c.args.slot cell e in
-    let h = and_parts (not cell.active) (nat_le (length cell.inner.line) 1) (sym c.is_last.ensures ∙ c.if-is_last.true) in
+    let h = and_parts (not cell.active) (nat_le (length cell.inner.line) 1) (sym (c.is_last.ensures ∙ ap (λ (z : ActorCell). not z.active && nat_le (length z.inner.line) 1) c.hashed.view_is) ∙ c.if-is_last.true) in
     let idle = not_both cell.active h.0 in
     let last = leb-true (length cell.inner.line) 1 h.1 in
     let w = written S ps look n k c.args.slot cell e cell refl in
@@ -79,9 +79,9 @@ returns-then-is_last c =
 pub invariant_of-self-2 : goal.invariant_of-self-2
 invariant_of-self-2 c =
     let k = c.self.invariant in
-    let cell = c.in-Some.cell.now in
+    let cell = c.hashed.inside.cell in
     let x : ActorCell = record cell { inner = (cell_poll cell.inner c.args.call).cell } in
-    let e : get c.self.inside.slots c.args.slot ≡ Some cell = sym c.get_mut.ensures.value ∙ ap (λ o. option_copied_mut o) c.in-Some.is in
+    let e : get c.self.inside.slots c.args.slot ≡ Some cell = sym c.get_mut.ensures.value ∙ ap (λ o. option_copied_mut o) c.in-Some.is ∙ ap (λ z. Some z) (sym c.hashed.view_is) in
     let moved = rw e at (rw (← c.self.view_is) at c.requires) in
     let s : IsSettled x = polled_settled cell c.args.call (k.settled c.args.slot cell e) moved (stays cell.active (length cell.inner.line) (sym c.is_last.ensures ∙ c.if-is_last.false)) in
     let l = polled_leaves cell.inner c.args.call moved in
@@ -92,9 +92,9 @@ invariant_of-self-2 c =
 pub returns : goal.returns
 returns c =
     let k = c.self.invariant in
-    let cell = c.in-Some.cell.now in
+    let cell = c.hashed.inside.cell in
     let x : ActorCell = record cell { inner = (cell_poll cell.inner c.args.call).cell } in
-    let e : get c.self.inside.slots c.args.slot ≡ Some cell = sym c.get_mut.ensures.value ∙ ap (λ o. option_copied_mut o) c.in-Some.is in
+    let e : get c.self.inside.slots c.args.slot ≡ Some cell = sym c.get_mut.ensures.value ∙ ap (λ o. option_copied_mut o) c.in-Some.is ∙ ap (λ z. Some z) (sym c.hashed.view_is) in
     let moved = rw e at (rw (← c.self.view_is) at c.requires) in
     let s : IsSettled x = polled_settled cell c.args.call (k.settled c.args.slot cell e) moved (stays cell.active (length cell.inner.line) (sym c.is_last.ensures ∙ c.if-is_last.false)) in
     rw (← c.self.view_is, e, c.poll-moved.ensures.cell) (write_keeps c.self.inside.slots c.self.inside.places.entries (slot_of c.self.inside.calls) c.self.inside.count k c.args.slot cell e x refl s)

@@ -60,8 +60,8 @@ returns c =
     (ap (λ m. next_call m cell.inner) c.is_served-may_begin.ensures) answer h
     (c.note_next.ensures.items ∙ ap (λ (l : List ℕ). l ++ begun_next_in c.closed-next.result) c.clear.ensures.items))
 
-pub is_served-may_begin-requires : goal.is_served-may_begin-requires
-is_served-may_begin-requires c =
+pub is_served-may_begin-requires-clause-owned : goal.is_served-may_begin-requires-clause-owned
+is_served-may_begin-requires-clause-owned c =
     let s = c.args.standing.now in
     let old : ActorsState = record { drawn = c.self.inside.drawn; cells = c.self.inside.cells.cells; recent = c.self.inside.recent.items } in
     let cell = c.in-Some.cell.now in

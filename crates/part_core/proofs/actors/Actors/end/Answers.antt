@@ -99,8 +99,8 @@ returns-in-StillWaiting c =
     (λ i. record { drawn = old.drawn; cells = sym h i; recent = sym c.clear.ensures.items i })
     (end_waiting s old c.args.call c.args.now cell b c.in-Some.ensures.0 rule (sym c.in-StillWaiting.is ∙ answer)))
 
-pub may_hand_over-may_begin-requires : goal.may_hand_over-may_begin-requires
-may_hand_over-may_begin-requires c =
+pub may_hand_over-may_begin-requires-clause-owned : goal.may_hand_over-may_begin-requires-clause-owned
+may_hand_over-may_begin-requires-clause-owned c =
     let s = c.args.standing.now in
     let old : ActorsState = record { drawn = c.self.inside.drawn; cells = c.self.inside.cells.cells; recent = c.self.inside.recent.items } in
     let cell = c.in-Some.cell.now in

@@ -7,7 +7,7 @@ use Rattle.part_core.specs.Part.{take_closing, ring_owner}
 use Rattle.part_core.specs.Rooms.{GivesInMemory}
 use Rattle.part_core.specs.Actors.{ActorsState, no_actors, state_of, view_of}
 use Rattle.part_core.proofs.Kept.{found_numbered, kept_within}
-use Rattle.part_core.proofs.EachKept.{close-first, may-first}
+use Rattle.part_core.proofs.Closings.{closes_counted, taken_free}
 use Rattle.part_core.proofs.HoldGives.{close_none, close_gives}
 use Rattle.part_core.proofs.Wants.{closing_hands}
 use Rattle.part_core.proofs.actors.Actors.take_closing.Goals as goal
@@ -18,19 +18,21 @@ returns-in_default-clause-gives c =
     let old : ActorsState = record { drawn = c.self.inside.drawn; cells = c.self.inside.cells.cells; recent = c.self.inside.recent.items } in
     rw (← c.self.view_is) (subst (λ (v : ActorsState). GivesInMemory (take_closing ring_owner (state_of s old) c.args.now) replies.NoneClosing (state_of s old) (view_of s v))
     (λ i. record { drawn = old.drawn; cells = old.cells; recent = sym c.clear.ensures.items i })
-    (close_none s old c.args.now (sym (close-first (state_of s no_actors) c.args.now old.cells) ∙ c.in_default.ensures)))
+    (close_none s old c.args.now (sym (closes_counted s old.cells c.args.now c.gives_some-gives.result (rw (← c.self.view_is) at c.requires.counted) c.gives_some-gives.ensures) ∙ c.in_default.ensures)))
 
 pub returns-in_default-copy-clause-memory : goal.returns-in_default-copy-clause-memory
 returns-in_default-copy-clause-memory c =
     let s = c.args.standing.now in
     let old : ActorsState = record { drawn = c.self.inside.drawn; cells = c.self.inside.cells.cells; recent = c.self.inside.recent.items } in
-    rw (← c.self.view_is) (λ _. closing_hands (state_of s old) c.args.now c.in-Some.cell.now (sym (close-first (state_of s no_actors) c.args.now old.cells) ∙ c.in-Some.ensures.0))
+    rw (← c.self.view_is) (λ _. closing_hands (state_of s old) c.args.now c.in-Some.cell.now (sym (closes_counted s old.cells c.args.now c.gives_some-gives.result (rw (← c.self.view_is) at c.requires.counted) c.gives_some-gives.ensures) ∙ c.in-Some.ensures.0))
 
 pub close-requires : goal.close-requires
 close-requires c =
     let f = c.in-Some.ensures.1 in
-    let p = state_of c.args.standing.now no_actors in
-    rw f.at (free_turns c.in-Some.cell.now.inner (may-first p c.args.now c.self.inside.cells.cells c.in-Some.cell.now c.in-Some.ensures.0))
+    let s = c.args.standing.now in
+    let cells = c.self.inside.cells.cells in
+    let first = sym (closes_counted s cells c.args.now c.gives_some-gives.result (rw (← c.self.view_is) at c.requires.counted) c.gives_some-gives.ensures) ∙ c.in-Some.ensures.0 in
+    rw f.at (free_turns c.in-Some.cell.now.inner (taken_free (state_of s no_actors) c.args.now cells c.in-Some.cell.now first))
 
 pub invariant_of-self-2 : goal.invariant_of-self-2
 invariant_of-self-2 c =
@@ -53,4 +55,4 @@ returns-clause-gives c =
     let h : c.close.new.self.cells ≡ keep_cell c.self.inside.cells.cells x = rw f.at at c.close.ensures in
     rw (← c.self.view_is) (subst (λ (v : ActorsState). GivesInMemory (take_closing ring_owner (state_of s old) c.args.now) (replies.Close c.in-Ok.key) (state_of s old) (view_of s v))
     (λ i. record { drawn = old.drawn; cells = c.close.new.self.cells; recent = sym c.clear.ensures.items i })
-    (close_gives s old c.args.now cell c.in-Ok.key c.close.new.self.cells (sym (close-first (state_of s no_actors) c.args.now old.cells) ∙ c.in-Some.ensures.0) c.in-Ok.ensures h))
+    (close_gives s old c.args.now cell c.in-Ok.key c.close.new.self.cells (sym (closes_counted s old.cells c.args.now c.gives_some-gives.result (rw (← c.self.view_is) at c.requires.counted) c.gives_some-gives.ensures) ∙ c.in-Some.ensures.0) c.in-Ok.ensures h))

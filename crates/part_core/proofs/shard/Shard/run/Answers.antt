@@ -78,3 +78,6 @@ invariant_of-self-in-TakeClosing c =
     let p = state_of s.inside.standing s.inside.actors in
     let h = rw (← s.view_is) at c.requires.sound in
     kept_in_memory s.inside.standing s.inside.actors c.take_closing.new.self s.invariant (take_closing ring_owner p c.in-TakeClosing.now) (λ _. takes_steady ring_owner p h c.in-TakeClosing.now (first_to_close ring_owner p c.in-TakeClosing.now p.cells) refl) c.take_closing.result c.take_closing.ensures.gives
+
+pub take_closing-requires-clause-counted : goal.take_closing-requires-clause-counted
+take_closing-requires-clause-counted c = c.self-in-TakeClosing.invariant.counted
