@@ -3,8 +3,8 @@ use Rattle.std.proofs.Common.{◌≡◌, ◌⊎◌, inl, inr, Bool, true, false,
 use Rattle.std.specs.declared.cmp.Ordering.{Ordering}
 use Rattle.std.specs.declared.cmp.Ordering.TheVariants.{Less, Equal, Greater}
 use Rattle.std.specs.Ordering.{is_eq, is_gt}
-use Rattle.search_tree.specs.Cuts.{AreBehind, IsCut}
-use Rattle.search_tree.specs.Lists.{found, first_behind, without, with_changed, put_by, with_put}
+use Rattle.lists_and_limits.specs.Cuts.{AreBehind, IsCut}
+use Rattle.lists_and_limits.specs.Lists.{found, first_behind, without, with_changed, put_by, with_put}
 
 pub less-greater : {o : Ordering} → o ≡ Less → o ≡ Greater → ⊥
 less-greater l g = cc

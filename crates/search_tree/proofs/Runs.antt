@@ -6,8 +6,8 @@ use Rattle.std.specs.declared.cmp.Ordering.{Ordering}
 use Rattle.std.specs.declared.cmp.Ordering.TheVariants.{Less, Equal, Greater}
 use Rattle.std.specs.Ordering.{is_eq}
 use Rattle.search_tree.specs.declared.tree.Node.{Node}
-use Rattle.search_tree.specs.Cuts.{AreBehind, NoneBefore, IsCut, IsRun}
-use Rattle.search_tree.specs.Lists.{found, count_at, without, without_all}
+use Rattle.lists_and_limits.specs.Cuts.{AreBehind, NoneBefore, IsCut, IsRun}
+use Rattle.lists_and_limits.specs.Lists.{found, count_at, without, without_all}
 use Rattle.search_tree.specs.Trees.{element_in, IsWithoutOne}
 use Rattle.search_tree.proofs.Cuts.{less-greater, equal-greater, behind_front, behind_middle, found_here, without_here}
 

@@ -1,5 +1,1 @@
-pub mod Cuts
-pub mod Lists
-pub mod Orders
 pub mod Trees
-pub mod Walks

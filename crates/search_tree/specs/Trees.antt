@@ -6,7 +6,7 @@ use Rattle.std.specs.declared.cmp.Ordering.TheVariants.{Equal}
 use Rattle.search_tree.specs.declared.tree.Node.{Node}
 use Rattle.search_tree.specs.declared.tree.Root.{Root}
 use Rattle.search_tree.specs.declared.tree.Root.TheVariants.{Empty, Full}
-use Rattle.search_tree.specs.Lists.{count_at}
+use Rattle.lists_and_limits.specs.Lists.{count_at}
 
 module _ {E S : Type 0} where
   -- the element of a node and those below it, from left to right

@@ -1,7 +1,7 @@
 // Changes of a tree. An element is taken out in its node and put back in it, so no change takes memory.
 ghost use Rattle.std.specs.Prelude.{◌≡◌, ◌++◌, is_some};
-ghost use Rattle.search_tree.specs.Cuts.{IsCut, IsRun};
-ghost use Rattle.search_tree.specs.Lists.{found, without, without_all, with_changed, with_put};
+ghost use Rattle.lists_and_limits.specs.Cuts.{IsCut, IsRun};
+ghost use Rattle.lists_and_limits.specs.Lists.{found, without, without_all, with_changed, with_put};
 ghost use Rattle.search_tree.specs.Trees.{element_in, IsWithoutFirst, IsWithoutOne};
 
 use crate::balance::balanced;

@@ -2,7 +2,7 @@
 ghost use Rattle.std.specs.Prelude.{◌≡◌, [], ◌∷◌, ◌++◌, List, Option, None};
 ghost use Rattle.std.specs.Cmp.{IsTotalOrder};
 ghost use Rattle.std.specs.declared.cmp.Ordering.{Ordering};
-ghost use Rattle.search_tree.specs.Lists.{IsFirstSide};
+ghost use Rattle.lists_and_limits.specs.Lists.{IsFirstSide};
 
 use std::cmp::Ordering;
 

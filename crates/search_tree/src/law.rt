@@ -1,6 +1,6 @@
 // What holds of the definitions. The function that states it does nothing.
-ghost use Rattle.search_tree.specs.Orders.{OrderLaw};
-ghost use Rattle.search_tree.specs.Walks.{WalkLaw};
+ghost use Rattle.lists_and_limits.specs.Orders.{OrderLaw};
+ghost use Rattle.lists_and_limits.specs.Walks.{WalkLaw};
 
 use crate::element::Element;
 

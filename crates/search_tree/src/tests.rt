@@ -81,13 +81,13 @@ impl Model for Book {
     ghost use Rattle.std.specs.Prelude.{List};
     ghost use Rattle.std.specs.Ordering.{nat_cmp};
     ghost use Rattle.search_tree.specs.declared.tests.Entry.{Entry};
-    ghost use Rattle.search_tree.specs.Orders.{Ascends};
+    ghost use Rattle.lists_and_limits.specs.Orders.{AscendBy};
 
     ghost Value = { List Entry };
 
     ghost view = { λ a. a.tree };
 
-    ghost invariant = { λ a. Ascends (λ x y. nat_cmp x.key y.key) a.tree };
+    ghost invariant = { λ a. AscendBy (λ (e : Entry). e.key) nat_cmp a.tree };
 }
 
 impl Book {

@@ -1,9 +1,9 @@
 // The tree itself. Own; the balance is that of AVL trees.
 ghost use Rattle.std.specs.Prelude.{◌≡◌, ◌≤◌, ◌^◌, [], ◌++◌, ◌∷◌, length, option_copied, IfOk};
-ghost use Rattle.search_tree.specs.Cuts.{IsCut, IsRun};
-ghost use Rattle.search_tree.specs.Lists.{found, first_behind, count_at};
-ghost use Rattle.search_tree.specs.Orders.{Ascends};
-ghost use Rattle.search_tree.specs.Walks.{from_place, following};
+ghost use Rattle.lists_and_limits.specs.Cuts.{IsCut, IsRun};
+ghost use Rattle.lists_and_limits.specs.Lists.{found, first_behind, count_at};
+ghost use Rattle.lists_and_limits.specs.Orders.{Ascends};
+ghost use Rattle.lists_and_limits.specs.Walks.{from_place, following};
 ghost use Rattle.search_tree.specs.Trees.{node_items, root_items};
 
 use crate::element::{Element, Probe};

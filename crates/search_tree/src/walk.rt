@@ -1,6 +1,6 @@
 // The places at which a walk goes on.
 ghost use Rattle.std.specs.Prelude.{◌≡◌, option_copied};
-ghost use Rattle.search_tree.specs.Walks.{from_place};
+ghost use Rattle.lists_and_limits.specs.Walks.{from_place};
 
 use crate::element::{Element, Probe};
 use std::cmp::Ordering;

@@ -1,4 +1,4 @@
-use Rattle.search_tree.proofs.Orders.{law}
+use Rattle.lists_and_limits.proofs.Orders.{law}
 use Rattle.search_tree.proofs.law.order_law.Goals as goal
 
 pub returns : goal.returns

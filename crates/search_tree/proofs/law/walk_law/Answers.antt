@@ -1,4 +1,4 @@
-use Rattle.search_tree.proofs.Walks.{walks}
+use Rattle.lists_and_limits.proofs.Walks.{walks}
 use Rattle.search_tree.proofs.law.walk_law.Goals as goal
 
 pub returns : goal.returns

@@ -1,10 +1,8 @@
 use Rattle.std.specs.Ordering.{nat_cmp}
-use Rattle.std.proofs.lemmas.Cmp.{nat_cmp_total, on_total}
+use Rattle.std.proofs.lemmas.Cmp.{nat_cmp_total}
 use Rattle.search_tree.specs.declared.tests.Entry.{Entry}
-use Rattle.search_tree.proofs.Orders.{cut, place_element}
+use Rattle.lists_and_limits.proofs.Orders.{cut_key}
 use Rattle.search_tree.proofs.tests.Book.get.Goals as goal
 
 pub get-requires : goal.get-requires
-get-requires c =
-    cut (λ (x y : Entry). nat_cmp x.key y.key) (λ (x : Entry). nat_cmp x.key c.args.key) c.self.inside.tree
-    (place_element (λ (x y : Entry). nat_cmp x.key y.key) (on_total (λ (e : Entry). e.key) nat_cmp_total) (record { key = c.args.key; value = 0 })) c.self.invariant
+get-requires c = cut_key (λ (e : Entry). e.key) nat_cmp nat_cmp_total c.args.key c.self.inside.tree c.self.invariant

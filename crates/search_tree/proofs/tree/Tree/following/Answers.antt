@@ -1,5 +1,5 @@
 use Rattle.std.specs.Option.{option_copied}
-use Rattle.search_tree.proofs.Walks.{cut_place}
+use Rattle.lists_and_limits.proofs.Walks.{cut_place}
 use Rattle.search_tree.proofs.tree.Tree.following.Goals as goal
 
 pub next-requires : goal.next-requires

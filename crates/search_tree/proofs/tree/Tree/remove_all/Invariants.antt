@@ -1,6 +1,6 @@
 use Rattle.std.proofs.Common.{◌≡◌, length}
-use Rattle.search_tree.specs.Cuts.{IsRun}
-use Rattle.search_tree.specs.Lists.{without_all}
+use Rattle.lists_and_limits.specs.Cuts.{IsRun}
+use Rattle.lists_and_limits.specs.Lists.{without_all}
 use Rattle.search_tree.proofs.tree.Tree.remove_all.Given as goal
 
 abbrev pub invariant-loop : goal.invariant-loop

@@ -1,20 +1,28 @@
--- Elements in order, each place once, and what keeps them so. Own.
+-- Elements in order of a key, each key once, and what keeps them so. Own.
 use Rattle.std.specs.Prelude.{◌≡◌, ◌⊎◌, List, [], ◌∷◌}
+use Rattle.std.specs.List.{AllByRecursion}
 use Rattle.std.specs.declared.cmp.Ordering.{Ordering}
 use Rattle.std.specs.declared.cmp.Ordering.TheVariants.{Less, Greater}
-use Rattle.search_tree.specs.Cuts.{IsCut}
-use Rattle.search_tree.specs.Lists.{without, without_all, with_put}
+use Rattle.lists_and_limits.specs.Cuts.{IsCut}
+use Rattle.lists_and_limits.specs.Lists.{without, without_all, with_put}
 
+module _ {E K : Type 0} (key : E → K) (cmp : K → K → Ordering) where
+  -- the key is before that of each of the list
+  abbrev pub IsBelowAll : K → List E → Type 0
+  IsBelowAll k xs = AllByRecursion (λ x. cmp k (key x) ≡ Less) xs
+
+  -- the key of each is before the keys of all those after it
+  abbrev pub AscendBy : List E → Type 0
+  AscendBy [] = Unit {0}
+  AscendBy (x ∷ xs) = IsBelowAll (key x) xs × AscendBy xs
+
+-- elements that are their own keys
 module _ {E : Type 0} (cmp : E → E → Ordering) where
-  -- the element is before each of the list
   abbrev pub IsBelow : E → List E → Type 0
-  IsBelow a [] = Unit {0}
-  IsBelow a (x ∷ xs) = (cmp a x ≡ Less) × IsBelow a xs
+  IsBelow e xs = IsBelowAll (λ x. x) cmp e xs
 
-  -- each is before all those after it
   abbrev pub Ascends : List E → Type 0
-  Ascends [] = Unit {0}
-  Ascends (x ∷ xs) = IsBelow x xs × Ascends xs
+  Ascends xs = AscendBy (λ x. x) cmp xs
 
   -- of two elements in order, the first is before what is looked for or the second is after it
   abbrev pub IsPlace : (E → Ordering) → Type 0

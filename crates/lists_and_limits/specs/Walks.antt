@@ -2,8 +2,8 @@
 use Rattle.std.specs.Prelude.{◌≡◌, List, [], ◌∷◌, ◌++◌, Option, None, Some}
 use Rattle.std.specs.declared.cmp.Ordering.{Ordering}
 use Rattle.std.specs.declared.cmp.Ordering.TheVariants.{Greater}
-use Rattle.search_tree.specs.Lists.{first_behind, with_put}
-use Rattle.search_tree.specs.Orders.{Ascends}
+use Rattle.lists_and_limits.specs.Lists.{first_behind, with_put}
+use Rattle.lists_and_limits.specs.Orders.{Ascends}
 
 module _ {E : Type 0} (cmp : E → E → Ordering) where
   -- how an element compares with a place in the order; without a place, each element is after it

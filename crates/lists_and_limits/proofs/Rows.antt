@@ -2,7 +2,7 @@
 use Rattle.std.proofs.Common.{◌≡◌, ℕ, ◌+◌, ◌/◌, [], ◌∷◌, Some, None, refl}
 use Rattle.std.specs.declared.cmp.Ordering.{Ordering}
 use Rattle.std.specs.Ordering.{nat_cmp}
-use Rattle.search_tree.specs.Lists.{found, count_at, without, without_all, with_changed, with_put}
+use Rattle.lists_and_limits.specs.Lists.{found, count_at, without, without_all, with_changed, with_put}
 
 -- looks for the number 2
 abbrev two : ℕ → Ordering

@@ -1,28 +1,25 @@
 -- Walks over elements in order, one behind the other.
-use Rattle.std.proofs.Common.{◌≡◌, ◌⊎◌, inr, Bool, true, false, List, [], ◌∷◌, ◌++◌, Option, Some, None, refl, ap, ◌∙◌}
+use Rattle.std.proofs.Common.{◌≡◌, inr, true, false, List, [], ◌∷◌, ◌++◌, Option, Some, None, refl, ap, ◌∙◌}
 use Rattle.std.specs.declared.cmp.Ordering.{Ordering}
-use Rattle.std.specs.declared.cmp.Ordering.TheVariants.{Less, Equal, Greater}
+use Rattle.std.specs.declared.cmp.Ordering.TheVariants.{Less}
 use Rattle.std.specs.Ordering.{is_gt, ordering_reverse}
 use Rattle.std.specs.Cmp.{IsTotalOrder}
 use Rattle.std.proofs.lemmas.Cmp.{tied_itself}
-use Rattle.search_tree.specs.Lists.{first_behind, put_by, with_put}
-use Rattle.search_tree.specs.Orders.{IsBelow, Ascends, IsPlace}
-use Rattle.search_tree.specs.Cuts.{IsCut}
-use Rattle.search_tree.specs.Walks.{from_place, following, head_of, WalkLaw}
-use Rattle.search_tree.proofs.Orders.{cut, place_element}
+use Rattle.lists_and_limits.specs.Lists.{with_put}
+use Rattle.lists_and_limits.specs.Orders.{IsBelow, Ascends, IsPlace}
+use Rattle.lists_and_limits.specs.Cuts.{IsCut}
+use Rattle.lists_and_limits.specs.Walks.{from_place, following, head_of, WalkLaw}
+use Rattle.lists_and_limits.proofs.Each.{each_at}
+use Rattle.lists_and_limits.proofs.Fronts as fronts
+use Rattle.lists_and_limits.proofs.Orders.{cut, place_key}
 
 module _ {E : Type 0} (cmp : E → E → Ordering) (total : IsTotalOrder cmp) where
   is_place : (p : Option E) → IsPlace cmp (from_place cmp p)
   is_place None a b h = inr refl
-  is_place (Some e) a b h = place_element cmp total e a b h
+  is_place (Some e) a b h = place_key (λ x. x) cmp total e a b h
 
   pub cut_place : (p : Option E) (xs : List E) → Ascends cmp xs → IsCut (from_place cmp p) xs
-  cut_place p xs a = cut cmp (from_place cmp p) xs (is_place p) a
-
-  -- the element is before one that stands in a list that it is below
-  below_in : (x e : E) (front back : List E) → IsBelow cmp x (front ++ e ∷ back) → cmp x e ≡ Less
-  below_in x e [] back b = b.0
-  below_in x e (y ∷ front) back b = below_in x e front back b.1
+  cut_place p xs a = cut (λ x. x) cmp (from_place cmp p) xs (is_place p) a
 
   pub begins : (xs : List E) → following cmp None xs ≡ head_of cmp xs
   begins [] = refl
@@ -39,13 +36,11 @@ module _ {E : Type 0} (cmp : E → E → Ordering) (total : IsTotalOrder cmp) wh
       let itself : is_gt (cmp e e) ≡ false = ap is_gt (tied_itself total e) in
       rw itself (first_of_back e back a.0)
   goes-on (x ∷ front) e back a =
-      let before : is_gt (cmp x e) ≡ false = ap is_gt (below_in x e front back a.0) in
+      let before : is_gt (cmp x e) ≡ false = ap is_gt (each_at (λ y. cmp x y ≡ Less) front e back a.0) in
       rw before (goes-on front e back a.1)
 
   pub put-last : (front : List E) (e : E) (back : List E) → Ascends cmp (front ++ e ∷ back) → with_put cmp e front ≡ front ++ e ∷ []
-  put-last [] e back a = refl
-  put-last (x ∷ front) e back a =
-      rw (below_in x e front back a.0, put-last front e back a.1) refl
+  put-last front e back a = fronts.put-last (λ x. x) cmp e front (fronts.before_of (λ x. x) cmp front e back a)
 
   pub walks : WalkLaw cmp
   walks = record { begins = begins; goes_on = goes-on; put_last = put-last }
