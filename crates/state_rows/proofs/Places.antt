@@ -1,9 +1,9 @@
 -- Each actor and key cuts entries that are in order into those before and those after it; entries stay in order.
 use Rattle.std.proofs.Common.{ℕ, List, [], None}
 use Rattle.actor_names.specs.declared.actor_key.ActorKey.{ActorKey}
-use Rattle.search_tree.specs.Cuts.{IsCut}
-use Rattle.search_tree.specs.Orders.{Ascends, OrderLaw}
-use Rattle.search_tree.proofs.Orders.{law}
+use Rattle.lists_and_limits.specs.Cuts.{IsCut}
+use Rattle.lists_and_limits.specs.Orders.{Ascends, OrderLaw}
+use Rattle.lists_and_limits.proofs.Orders.{law}
 use Rattle.state_rows.specs.declared.entry.StateEntry.{StateEntry}
 use Rattle.state_rows.specs.Entries.{row_cmp, at_row}
 use Rattle.state_rows.specs.Orders.{rows_total}

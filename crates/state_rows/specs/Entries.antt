@@ -6,7 +6,7 @@ use Rattle.std.specs.Ordering.{nat_cmp, ordering_then}
 use Rattle.std.specs.Cmp.Lexicographic.{slice_cmp}
 use Rattle.actor_names.specs.declared.actor_key.ActorKey.{ActorKey}
 use Rattle.actor_names.specs.contracts.actor_key.ActorKeyOrd.TheImpl as actor_ord
-use Rattle.search_tree.specs.Lists.{found, without, with_put}
+use Rattle.lists_and_limits.specs.Lists.{found, without, with_put}
 use Rattle.state_rows.specs.declared.op.StateOp.{StateOp}
 use Rattle.state_rows.specs.declared.op.StateOp.TheVariants.{Upsert, Delete}
 use Rattle.state_rows.specs.declared.entry.StateEntry.{StateEntry}

@@ -1,7 +1,7 @@
 -- How a prepared transaction changes entries. Own.
 use Rattle.std.specs.Prelude.{◌≡◌, List, [], ◌∷◌}
 use Rattle.actor_names.specs.declared.actor_key.ActorKey.{ActorKey}
-use Rattle.search_tree.specs.Lists.{without, with_put}
+use Rattle.lists_and_limits.specs.Lists.{without, with_put}
 use Rattle.state_rows.specs.declared.entry.StateEntry.{StateEntry}
 use Rattle.state_rows.specs.declared.prepared.Step.{Step}
 use Rattle.state_rows.specs.declared.prepared.Step.TheVariants.{Put, Remove}

@@ -2,8 +2,8 @@
 ghost use Rattle.std.specs.Prelude.{◌≡◌, ℕ, List, Some, None, false};
 ghost use Rattle.std.specs.Ordering.{is_eq};
 ghost use Rattle.actor_names.specs.declared.actor_key.ActorKey.{ActorKey};
-ghost use Rattle.search_tree.specs.Lists.{without, with_put};
-ghost use Rattle.search_tree.specs.Orders.{Ascends};
+ghost use Rattle.lists_and_limits.specs.Lists.{without, with_put};
+ghost use Rattle.lists_and_limits.specs.Orders.{Ascends};
 ghost use Rattle.state_rows.specs.declared.entry.StateEntry.{StateEntry};
 ghost use Rattle.state_rows.specs.Entries.{place_cmp, row_cmp, at_row, entry_at};
 

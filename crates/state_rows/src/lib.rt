@@ -2,7 +2,7 @@
 //
 // Promise: the entries are a list in order of actor and key, each once. `prepare` takes all the memory that a
 // transaction needs, and `apply` then makes its operations one after another (`specs/Entries`), which can't fail. It
-// depends on `search_tree` and `actor_names`.
+// depends on `search_tree`, `actor_names` and `lists_and_limits`.
 #![tactic(auto)]
 
 mod check;

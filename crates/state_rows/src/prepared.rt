@@ -1,6 +1,6 @@
 // A transaction that has all the memory it needs.
 ghost use Rattle.std.specs.Prelude.{◌≡◌, ◌<◌, List, IfOk};
-ghost use Rattle.search_tree.specs.Orders.{Ascends};
+ghost use Rattle.lists_and_limits.specs.Orders.{Ascends};
 ghost use Rattle.state_rows.specs.declared.entry.StateEntry.{StateEntry};
 ghost use Rattle.state_rows.specs.Entries.{row_cmp, absent_from, after_op, after_ops};
 ghost use Rattle.state_rows.specs.Prepared.{after_step, after_tx};

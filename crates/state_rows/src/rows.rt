@@ -1,7 +1,7 @@
 // The state of actors.
 ghost use Rattle.std.specs.Prelude.{◌≡◌, ◌<◌, [], List, false, Some, None, if◌then◌else◌, IfOk, IfErr, IfSome, OnErr, option_copied};
-ghost use Rattle.search_tree.specs.Orders.{Ascends};
-ghost use Rattle.search_tree.specs.Walks.{following};
+ghost use Rattle.lists_and_limits.specs.Orders.{Ascends};
+ghost use Rattle.lists_and_limits.specs.Walks.{following};
 ghost use Rattle.state_rows.specs.declared.entry.StateEntry.{StateEntry};
 ghost use Rattle.state_rows.specs.Checks.{ops_fault, or_memory};
 ghost use Rattle.state_rows.specs.Entries.{row_cmp, value_at, after_ops, restored};
@@ -27,7 +27,7 @@ pub struct StateRows {
 
 impl Model for StateRows {
     ghost use Rattle.std.specs.Prelude.{List};
-    ghost use Rattle.search_tree.specs.Orders.{Ascends};
+    ghost use Rattle.lists_and_limits.specs.Orders.{Ascends};
     ghost use Rattle.state_rows.specs.declared.entry.StateEntry.{StateEntry};
     ghost use Rattle.state_rows.specs.Entries.{row_cmp};
 

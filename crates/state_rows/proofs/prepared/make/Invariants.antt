@@ -1,6 +1,6 @@
 use Rattle.std.proofs.Common.{◌≡◌}
 use Rattle.std.specs.Vec.Iter.{into_iter_items}
-use Rattle.search_tree.specs.Orders.{Ascends}
+use Rattle.lists_and_limits.specs.Orders.{Ascends}
 use Rattle.state_rows.specs.Entries.{row_cmp}
 use Rattle.state_rows.specs.Prepared.{after_steps, after_tx}
 use Rattle.state_rows.proofs.prepared.make.Given as goal
