@@ -9,7 +9,7 @@ use Rattle.actor_names.specs.declared.actor_key.ActorKey.{ActorKey}
 use Rattle.timer_book.specs.declared.entry.TimerEntry.{TimerEntry}
 use Rattle.timer_book.specs.Entries.{entry_place, place_cmp, actor_place, is_at, is_of, timer_place}
 use Rattle.timer_book.proofs.Places.{total}
-use Rattle.timer_book.proofs.Maps.{eq-is}
+use Rattle.lists_and_limits.proofs.Maps.{eq-is}
 
 -- the order of two actors
 abbrev order : ActorKey → TimerEntry → Ordering

@@ -1,8 +1,9 @@
 -- The first timer of a list that is cut in two, and the one that is due.
 use Rattle.std.proofs.Common.{◌≡◌, ℕ, ◌<◌, ◌≤◌, Bool, true, false, not, ◌&&◌, nat_le, if◌then◌else◌, List, [], ◌∷◌, ◌++◌, Option, Some, None, refl, sym, ap, subst, ◌∙◌, arith}
 use Rattle.std.specs.declared.cmp.Ordering.TheVariants.{Less}
+use Rattle.lists_and_limits.specs.Orders.{IsBelowAll}
 use Rattle.timer_book.specs.declared.entry.TimerEntry.{TimerEntry}
-use Rattle.timer_book.specs.Entries.{entry_place, place_cmp, IsBelowAll, Ascends, is_earlier, is_waiting, earlier_of, due_entry}
+use Rattle.timer_book.specs.Entries.{entry_place, place_cmp, Ascends, is_earlier, is_waiting, earlier_of, due_entry}
 use Rattle.timer_book.specs.Soonest.{is_first, sooner, moment_in, first_in, idle, first_of, soonest_of, by_now}
 
 -- the moment of the first timer is the first moment
@@ -65,7 +66,7 @@ module _ (l : List TimerEntry) (x : TimerEntry) (r : List TimerEntry) where
 
 -- ---- the one that is due
 
-pub first_below : (p : List (List ℕ)) (xs : List TimerEntry) (f : TimerEntry) → IsBelowAll p xs → first_of xs ≡ Some f → place_cmp p (entry_place f) ≡ Less
+pub first_below : (p : List (List ℕ)) (xs : List TimerEntry) (f : TimerEntry) → IsBelowAll entry_place place_cmp p xs → first_of xs ≡ Some f → place_cmp p (entry_place f) ≡ Less
 first_below p [] f b h = absurd (cc)
 first_below p (x ∷ xs) f b h = go (is_first (moment_in (idle x)) (soonest_of xs)) refl (λ e. first_below p xs f b.1 e)
   where

@@ -1,10 +1,8 @@
 mod Places
-mod Maps
 mod Same
 mod Firsts
 mod Actors
 mod Fires
-mod Ties
 mod Keeps
 mod Trees
 mod Rows

@@ -10,7 +10,7 @@ use Rattle.actor_names.specs.declared.actor_key.ActorKey.{ActorKey}
 use Rattle.timer_book.specs.declared.entry.TimerEntry.{TimerEntry}
 use Rattle.timer_book.specs.Entries.{timer_place, entry_place, place_cmp, is_at, entry_at}
 use Rattle.timer_book.proofs.Places.{total}
-use Rattle.timer_book.proofs.Maps.{eq-is}
+use Rattle.lists_and_limits.proofs.Maps.{eq-is}
 
 numbers_same : (x y : ℕ) → nat_cmp x y ≡ Equal → x ≡ y
 numbers_same x y is = grind (arith, nat_tests)

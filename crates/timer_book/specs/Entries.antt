@@ -1,9 +1,10 @@
 -- Timers in order of space, type, id and name. Own; timers follow the Actors API reference of Dapr.
-use Rattle.std.specs.Prelude.{true, ◌⊎◌, ◌≡◌, ℕ, suc, Bool, false, not, ◌&&◌, ◌||◌, ◌==◌, nat_lt, nat_le, if◌then◌else◌, List, [], ◌∷◌, filter, bytes_eq, Option, None, Some}
+use Rattle.std.specs.Prelude.{true, ◌≡◌, ℕ, suc, Bool, false, not, ◌&&◌, ◌||◌, ◌==◌, nat_lt, nat_le, if◌then◌else◌, List, [], ◌∷◌, filter, bytes_eq, Option, None, Some}
 use Rattle.std.specs.declared.cmp.Ordering.{Ordering}
-use Rattle.std.specs.declared.cmp.Ordering.TheVariants.{Less, Equal, Greater}
 use Rattle.std.specs.Ordering.{nat_cmp, is_eq, is_lt}
 use Rattle.std.specs.Cmp.Lexicographic.{slice_cmp}
+use Rattle.lists_and_limits.specs.Lists.{In, found, without, with_put}
+use Rattle.lists_and_limits.specs.Orders.{AscendBy}
 use Rattle.actor_names.specs.Same.{same_key}
 use Rattle.actor_names.specs.declared.actor_key.ActorKey.{ActorKey}
 use Rattle.schedule_text.specs.declared.advance.Next.{Next}
@@ -23,8 +24,12 @@ entry_place e = timer_place e.key e.name
 abbrev pub place_cmp : List (List ℕ) → List (List ℕ) → Ordering
 place_cmp a b = slice_cmp (slice_cmp nat_cmp) a b
 
+-- how a timer compares with a place
+abbrev pub at_place : List (List ℕ) → TimerEntry → Ordering
+at_place place e = place_cmp (entry_place e) place
+
 abbrev pub is_at : List (List ℕ) → TimerEntry → Bool
-is_at place e = is_eq (place_cmp (entry_place e) place)
+is_at place e = is_eq (at_place place e)
 
 abbrev pub is_of : ActorKey → TimerEntry → Bool
 is_of key e = same_key e.key key
@@ -57,34 +62,20 @@ is_earlier a b = nat_lt a.moment b.moment || ((a.moment == b.moment) && is_lt (p
 
 -- ---- timers in order, a key and name once
 
--- the place is before each of the timers
-abbrev pub IsBelowAll : List (List ℕ) → List TimerEntry → Type 0
-IsBelowAll place [] = Unit {0}
-IsBelowAll place (x ∷ xs) = (place_cmp place (entry_place x) ≡ Less) × IsBelowAll place xs
-
 abbrev pub Ascends : List TimerEntry → Type 0
-Ascends [] = Unit {0}
-Ascends (x ∷ xs) = IsBelowAll (entry_place x) xs × Ascends xs
+Ascends xs = AscendBy entry_place place_cmp xs
 
 -- the timer at a place
 abbrev pub entry_at : List (List ℕ) → List TimerEntry → Option TimerEntry
-entry_at place [] = None
-entry_at place (x ∷ xs) = if is_at place x then Some x else entry_at place xs
-
-abbrev pub put_by : Ordering → TimerEntry → TimerEntry → List TimerEntry → List TimerEntry → List TimerEntry
-put_by Less e x xs later = x ∷ later
-put_by Equal e x xs later = e ∷ xs
-put_by Greater e x xs later = e ∷ x ∷ xs
+entry_at place xs = found (at_place place) xs
 
 -- puts a timer in its place, and replaces one with its key and name
 abbrev pub put_entry : TimerEntry → List TimerEntry → List TimerEntry
-put_entry e [] = e ∷ []
-put_entry e (x ∷ xs) = put_by (place_cmp (entry_place x) (entry_place e)) e x xs (put_entry e xs)
+put_entry e xs = with_put (λ a b. at_place (entry_place b) a) e xs
 
 -- the timers without the one at a place
 abbrev pub without_entry : List (List ℕ) → List TimerEntry → List TimerEntry
-without_entry place [] = []
-without_entry place (x ∷ xs) = if is_at place x then xs else x ∷ without_entry place xs
+without_entry place xs = without (at_place place) xs
 
 -- how many timers an actor has
 abbrev pub count_of : ActorKey → List TimerEntry → ℕ
@@ -107,10 +98,6 @@ due_entry now (x ∷ xs) = if is_waiting now x then earlier_of x (due_entry now 
 
 -- ---- what the definitions are held to
 
-abbrev pub IsAmong : TimerEntry → List TimerEntry → Type 0
-IsAmong e [] = ⊥
-IsAmong e (x ∷ xs) = (e ≡ x) ⊎ IsAmong e xs
-
 -- no waiting timer is to fire earlier
 abbrev pub NoneEarlier : ℕ → TimerEntry → List TimerEntry → Type 0
 NoneEarlier now e [] = Unit {0}
@@ -122,4 +109,4 @@ NoneWaits now (x ∷ xs) = (is_waiting now x ≡ false) × NoneWaits now xs
 
 -- it is one of the timers, it waits, and no waiting timer is to fire earlier
 abbrev pub IsFirstDue : ℕ → TimerEntry → List TimerEntry → Type 0
-IsFirstDue now e xs = IsAmong e xs × (is_waiting now e ≡ true) × NoneEarlier now e xs
+IsFirstDue now e xs = In e xs × (is_waiting now e ≡ true) × NoneEarlier now e xs

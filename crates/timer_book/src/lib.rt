@@ -2,7 +2,7 @@
 //
 // Promise: a book is seen as a count of the numbers drawn and a list of timers in order of key and name, and each
 // call changes it as `specs/Book` defines. As a machine (`specs/Machine`) it can be put behind a gate. Depends on
-// `state_machine`, `search_tree`, `actor_names` and `schedule_text`.
+// `state_machine`, `search_tree`, `actor_names`, `lists_and_limits` and `schedule_text`.
 #![tactic(auto)]
 
 mod book;

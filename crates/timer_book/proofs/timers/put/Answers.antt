@@ -1,6 +1,5 @@
-use Rattle.std.proofs.Common.{◌∙◌}
 use Rattle.timer_book.specs.Entries.{entry_place}
-use Rattle.timer_book.proofs.Trees.{cut_place, put-place}
+use Rattle.timer_book.proofs.Trees.{cut_place}
 use Rattle.timer_book.proofs.timers.put.Goals as goal
 
 pub put-requires : goal.put-requires
@@ -8,5 +7,4 @@ put-requires c = cut_place (entry_place c.in_ok-node.node.value.element) c.args.
 
 pub returns-clause-ok : goal.returns-clause-ok
 returns-clause-ok c =
-    let k = rw c.in_ok-node.ensures at c.put.ensures in
-    k ∙ put-place c.args.entry c.args.tree.now
+    rw c.in_ok-node.ensures at c.put.ensures
