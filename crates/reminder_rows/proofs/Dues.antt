@@ -7,10 +7,10 @@ use Rattle.std.specs.Ordering.{nat_cmp, ordering_then, ordering_reverse, is_eq, 
 use Rattle.std.proofs.lemmas.Bool.Decides.{nat_tests}
 use Rattle.std.proofs.lemmas.List.{append-nil}
 use Rattle.std.proofs.lemmas.Cmp.{tied_itself}
-use Rattle.search_tree.specs.Cuts.{IsCut}
-use Rattle.search_tree.specs.Lists.{first_behind, found, put_by, with_put}
-use Rattle.search_tree.specs.Orders.{IsBelow, Ascends, IsPlace}
-use Rattle.search_tree.proofs.Orders.{place_element, cut}
+use Rattle.lists_and_limits.specs.Cuts.{IsCut}
+use Rattle.lists_and_limits.specs.Lists.{first_behind, found, put_by, with_put}
+use Rattle.lists_and_limits.specs.Orders.{IsBelow, Ascends, IsPlace}
+use Rattle.lists_and_limits.proofs.Orders.{place_key, cut}
 use Rattle.reminder_rows.specs.declared.row.DueKey.{DueKey}
 use Rattle.reminder_rows.specs.Reminders.{place_cmp, due_cmp, after_at, is_after, is_due}
 use Rattle.reminder_rows.specs.Filing.{first_with}
@@ -20,10 +20,10 @@ use Rattle.reminder_rows.proofs.Sorted.{at_key}
 -- the comparison with a place in the order is one that a search tree can use
 pub after_place : (p : Option DueKey) → IsPlace due_cmp (after_at p)
 after_place None a b h = inr refl
-after_place (Some k) a b h = place_element due_cmp dues_total k a b h
+after_place (Some k) a b h = place_key (λ x. x) due_cmp dues_total k a b h
 
 pub cut_after : (p : Option DueKey) (dues : List DueKey) → Ascends due_cmp dues → IsCut (after_at p) dues
-cut_after p dues a = cut due_cmp (after_at p) dues (after_place p) a
+cut_after p dues a = cut (λ x. x) due_cmp (after_at p) dues (after_place p) a
 
 forth : (a b : DueKey) → due_cmp a b ≡ Less → due_cmp b a ≡ Greater
 forth a b l = dues_total.antisymm b a ∙ ap ordering_reverse l

@@ -1,4 +1,3 @@
-mod Maps
 mod Sorted
 mod Dues
 mod Newest

@@ -5,16 +5,16 @@ use Rattle.std.specs.declared.cmp.Ordering.TheVariants.{Less, Equal, Greater}
 use Rattle.std.specs.Ordering.{nat_cmp, ordering_then, is_eq}
 use Rattle.std.proofs.lemmas.Bool.Decides.{nat_tests}
 use Rattle.actor_names.specs.declared.actor_key.ActorKey.{ActorKey}
-use Rattle.search_tree.specs.Cuts.{IsCut}
-use Rattle.search_tree.specs.Lists.{found, put_by, with_put, without}
-use Rattle.search_tree.specs.Orders.{Ascends, OrderLaw}
-use Rattle.search_tree.proofs.Orders.{law}
+use Rattle.lists_and_limits.specs.Cuts.{IsCut}
+use Rattle.lists_and_limits.specs.Lists.{found, put_by, with_put, without}
+use Rattle.lists_and_limits.specs.Orders.{Ascends, OrderLaw}
+use Rattle.lists_and_limits.proofs.Orders.{law}
 use Rattle.reminder_rows.specs.declared.row.ReminderRow.{ReminderRow}
 use Rattle.reminder_rows.specs.declared.row.DueKey.{DueKey}
 use Rattle.reminder_rows.specs.Reminders.{at_name, row_cmp, row_at, without_row, due_cmp, by_due, key_in}
 use Rattle.reminder_rows.specs.Filing.{IsFiled}
 use Rattle.reminder_rows.specs.Orders.{rows_total, dues_total}
-use Rattle.reminder_rows.proofs.Maps as maps
+use Rattle.lists_and_limits.proofs.Maps as maps
 
 pub rows_law : OrderLaw row_cmp
 rows_law = law row_cmp rows_total
@@ -66,7 +66,7 @@ apart_back : (x e : ReminderRow) → is_eq (row_cmp x e) ≡ false → is_eq (ro
 apart_back x e h = go (is_eq (row_cmp e x)) refl
   where
     go : (b : Bool) → is_eq (row_cmp e x) ≡ b → is_eq (row_cmp e x) ≡ false
-    go true t = absurd (let k : is_eq (row_cmp x e) ≡ true = maps.back row_cmp rows_total e x t in cc)
+    go true t = absurd (let k : is_eq (row_cmp x e) ≡ true = maps.back (λ x. x) row_cmp rows_total e x t in cc)
     go false t = t
 
 -- if the record of a name isn't found, it is neither the first record nor one of the others
@@ -89,7 +89,7 @@ module _ (e : ReminderRow) where
   by_due-put (x ∷ xs) new = go (row_cmp x e) refl (by_due-put xs (new_rest e x xs new))
     where
       go : (o : Ordering) → row_cmp x e ≡ o → by_due (with_put row_cmp e xs) ≡ with_put due_cmp e.key (by_due xs) → by_due (put_by o e x xs (with_put row_cmp e xs)) ≡ with_put due_cmp e.key (by_due (x ∷ xs))
-      go Less is ih = rw ih (maps.put-put due_cmp dues_total x.key e.key (by_due xs) (due-order xs) (apart x e (new_first e x xs new)))
+      go Less is ih = rw ih (maps.put-put (λ x. x) due_cmp dues_total x.key e.key (by_due xs) (due-order xs) (apart x e (new_first e x xs new)))
       go Equal is ih = absurd (let k : is_eq (row_cmp x e) ≡ true = ap is_eq is in let n = new_first e x xs new in cc)
       go Greater is ih = refl
 
@@ -97,7 +97,7 @@ module _ (e : ReminderRow) where
   new-due [] new = refl
   new-due (x ∷ xs) new =
       let n : is_eq (due_cmp x.key e.key) ≡ false = apart x e (new_first e x xs new) in
-      maps.found-put due_cmp dues_total x.key e.key (by_due xs) ∙ rw n (new-due xs (new_rest e x xs new))
+      maps.found-put (λ x. x) due_cmp dues_total x.key e.key (by_due xs) ∙ rw n (new-due xs (new_rest e x xs new))
 
 -- ---- a record that is taken out
 
@@ -106,22 +106,22 @@ module _ (actor : ActorKey) (name : List ℕ) (rows : List ReminderRow) (a : Asc
   order-without = let l = rows_law in l.without_one (at_name actor name) rows a
 
   pub gone : row_at actor name (without_row actor name rows) ≡ None
-  gone = maps.found-without row_cmp rows_total (row_of actor name) (row_of actor name) rows a ∙ rw (maps.itself row_cmp rows_total (row_of actor name)) refl
+  gone = maps.found-without (λ x. x) row_cmp rows_total (row_of actor name) (row_of actor name) rows a ∙ rw (maps.itself (λ x. x) row_cmp rows_total (row_of actor name)) refl
 
   -- a record takes the place of the one of its name that was taken out
   pub put-named : (f : ReminderRow) → is_eq (at_name actor name f) ≡ true → with_put row_cmp f (without_row actor name rows) ≡ with_put row_cmp f rows
-  put-named f n = maps.put-without row_cmp rows_total (row_of actor name) f rows a n
+  put-named f n = maps.put-without (λ x. x) row_cmp rows_total (row_of actor name) f rows a n
 
   module _ (e : ReminderRow) (h : row_at actor name rows ≡ Some e) where
     pub named : is_eq (at_name actor name e) ≡ true
-    named = maps.found-is row_cmp rows_total (row_of actor name) e rows h
+    named = maps.found-is (at_name actor name) e rows h
 
     -- no record of its name is left
     pub gone-name : row_at e.key.actor e.key.name (without_row actor name rows) ≡ None
-    gone-name = maps.found-tied row_cmp rows_total e (row_of actor name) named (without_row actor name rows) ∙ gone
+    gone-name = maps.found-tied (λ x. x) row_cmp rows_total e (row_of actor name) named (without_row actor name rows) ∙ gone
 
     put_again : with_put row_cmp e (without_row actor name rows) ≡ rows
-    put_again = maps.put-back row_cmp rows_total (row_of actor name) e rows a h
+    put_again = maps.put-back (λ x. x) row_cmp rows_total (row_of actor name) e rows a h
 
     with_key : by_due rows ≡ with_put due_cmp e.key (by_due (without_row actor name rows))
     with_key = ap by_due (sym put_again) ∙ by_due-put e (without_row actor name rows) gone-name
@@ -129,12 +129,12 @@ module _ (actor : ActorKey) (name : List ℕ) (rows : List ReminderRow) (a : Asc
     pub due-found : found (at_key e.key) (by_due rows) ≡ Some e.key
     due-found =
         rw with_key
-        (maps.found-put due_cmp dues_total e.key e.key (by_due (without_row actor name rows)) ∙ rw (maps.itself due_cmp dues_total e.key) refl)
+        (maps.found-put (λ x. x) due_cmp dues_total e.key e.key (by_due (without_row actor name rows)) ∙ rw (maps.itself (λ x. x) due_cmp dues_total e.key) refl)
 
     pub by_due-without : without (at_key e.key) (by_due rows) ≡ by_due (without_row actor name rows)
     by_due-without =
         rw with_key
-        (maps.without-put due_cmp dues_total e.key e.key (by_due (without_row actor name rows)) (due-order (without_row actor name rows)) (maps.itself due_cmp dues_total e.key) (new-due e (without_row actor name rows) gone-name))
+        (maps.without-put (λ x. x) due_cmp dues_total e.key e.key (by_due (without_row actor name rows)) (due-order (without_row actor name rows)) (maps.itself (λ x. x) due_cmp dues_total e.key) (new-due e (without_row actor name rows) gone-name))
 
 -- ---- the keys are those of the records
 
@@ -155,12 +155,12 @@ found-key k rows a = go (row_at k.actor k.name rows) refl
         let none : found (at_key k) (by_due left) ≡ None = new-due (row_with k) left (gone k.actor k.name rows a) in
         let is : is_eq (due_cmp e.key k) ≡ (e.key.moment == k.moment) = same_moment e.key.moment k.moment (at_name k.actor k.name e) (named k.actor k.name rows a e h) in
         rw (with_key k.actor k.name rows a e h)
-        (maps.found-put due_cmp dues_total e.key k (by_due left) ∙ rw (is, none) refl)
+        (maps.found-put (λ x. x) due_cmp dues_total e.key k (by_due left) ∙ rw (is, none) refl)
 
 -- ---- both trees
 
 pub none-without : (actor : ActorKey) (name : List ℕ) (rows : List ReminderRow) → row_at actor name rows ≡ None → without_row actor name rows ≡ rows
-none-without actor name rows h = maps.without-none row_cmp rows_total (row_of actor name) rows h
+none-without actor name rows h = maps.without-none (at_name actor name) rows h
 
 pub filed_dues : (rows : List ReminderRow) (dues : List DueKey) → IsFiled rows dues → Ascends due_cmp dues
 filed_dues rows dues f = rw f.keys (due-order rows)

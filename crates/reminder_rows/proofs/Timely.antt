@@ -1,32 +1,20 @@
 -- Each record is due at the first moment of its schedule.
-use Rattle.std.proofs.Common.{◌≡◌, ℕ, Bool, true, false, ◌==◌, if◌then◌else◌, List, [], ◌∷◌, Option, Some, None, refl, ap}
+use Rattle.std.proofs.Common.{◌≡◌, ℕ, Bool, true, false, ◌==◌, if◌then◌else◌, List, Option, Some, None, refl, ap}
 use Rattle.std.specs.declared.cmp.Ordering.{Ordering}
-use Rattle.std.specs.declared.cmp.Ordering.TheVariants.{Less, Equal, Greater}
-use Rattle.std.specs.Ordering.{is_eq}
 use Rattle.actor_names.specs.declared.actor_key.ActorKey.{ActorKey}
 use Rattle.schedule_text.specs.declared.advance.Next.{Next}
 use Rattle.schedule_text.specs.declared.advance.Next.TheVariants.{At, Done, OutOfRange}
-use Rattle.search_tree.specs.Lists.{put_by, with_put, without}
+use Rattle.lists_and_limits.specs.Lists.{with_put, without}
+use Rattle.lists_and_limits.proofs.Each.{each_put, each_without}
 use Rattle.reminder_rows.specs.declared.reminder.Reminder.{Reminder}
 use Rattle.reminder_rows.specs.declared.row.ReminderRow.{ReminderRow}
 use Rattle.reminder_rows.specs.Reminders.{row_cmp, row_at, put_at, put_row, next_of, fired_row, refired, after_next, fired_rows, IsTimely, AreTimely, TimelyLaw}
 
 timely-with : (e : ReminderRow) (rows : List ReminderRow) → IsTimely e → AreTimely rows → AreTimely (with_put row_cmp e rows)
-timely-with e [] t a = (t, tt)
-timely-with e (x ∷ xs) t a = go (row_cmp x e) (timely-with e xs t a.1)
-  where
-    go : (o : Ordering) → AreTimely (with_put row_cmp e xs) → AreTimely (put_by o e x xs (with_put row_cmp e xs))
-    go Less ih = (a.0, ih)
-    go Equal ih = (t, a.1)
-    go Greater ih = (t, a)
+timely-with = each_put IsTimely row_cmp
 
 timely-without : (at : ReminderRow → Ordering) (rows : List ReminderRow) → AreTimely rows → AreTimely (without at rows)
-timely-without at [] a = tt
-timely-without at (x ∷ xs) a = go (is_eq (at x)) (timely-without at xs a.1)
-  where
-    go : (b : Bool) → AreTimely (without at xs) → AreTimely (if b then xs else x ∷ without at xs)
-    go true ih = a.1
-    go false ih = (a.0, ih)
+timely-without = each_without IsTimely
 
 timely-put : (actor : ActorKey) (name : List ℕ) (reminder : Reminder) (rows : List ReminderRow) → AreTimely rows → AreTimely (put_row actor name reminder rows)
 timely-put actor name reminder rows a = go reminder.schedule.first refl

@@ -3,8 +3,8 @@ use Rattle.std.specs.Prelude.{◌≡◌, ℕ, suc, zero, Bool, false, if◌then�
 use Rattle.std.specs.declared.cmp.Ordering.{Ordering}
 use Rattle.std.specs.Ordering.{is_eq, is_lt, is_gt}
 use Rattle.actor_names.specs.declared.actor_key.ActorKey.{ActorKey}
-use Rattle.search_tree.specs.Lists.{with_put}
-use Rattle.search_tree.specs.Orders.{Ascends}
+use Rattle.lists_and_limits.specs.Lists.{with_put}
+use Rattle.lists_and_limits.specs.Orders.{Ascends}
 use Rattle.reminder_rows.specs.declared.row.ReminderRow.{ReminderRow}
 use Rattle.reminder_rows.specs.declared.row.DueKey.{DueKey}
 use Rattle.reminder_rows.specs.declared.filing.Filing.{Filing}

@@ -1,6 +1,7 @@
 -- Reminders in order of actor and name, which of them are due, and how each call changes them. Own; reminders follow
 -- the Actors API reference of Dapr.
 use Rattle.std.specs.Prelude.{◌≡◌, ℕ, Bool, ◌==◌, nat_le, if◌then◌else◌, List, [], ◌∷◌, filter, take, Option, None, Some, Result, Ok, Err}
+use Rattle.std.specs.List.{AllByRecursion}
 use Rattle.std.specs.declared.cmp.Ordering.{Ordering}
 use Rattle.std.specs.declared.cmp.Ordering.TheVariants.{Greater}
 use Rattle.std.specs.Ordering.{nat_cmp, ordering_then, is_gt}
@@ -10,7 +11,7 @@ use Rattle.actor_names.specs.contracts.actor_key.ActorKeyOrd.TheImpl as actor_or
 use Rattle.schedule_text.specs.declared.advance.Next.{Next}
 use Rattle.schedule_text.specs.declared.advance.Next.TheVariants.{At, Done, OutOfRange}
 use Rattle.schedule_text.specs.Firing.{next_firing}
-use Rattle.search_tree.specs.Lists.{found, without, with_put}
+use Rattle.lists_and_limits.specs.Lists.{found, without, with_put}
 use Rattle.reminder_rows.specs.declared.reminder.Reminder.{Reminder}
 use Rattle.reminder_rows.specs.declared.row.ReminderRow.{ReminderRow}
 use Rattle.reminder_rows.specs.declared.row.DueKey.{DueKey}
@@ -132,8 +133,7 @@ IsTimely e = e.reminder.schedule.first ≡ Some e.key.moment
 
 -- each of them is
 abbrev pub AreTimely : List ReminderRow → Type 0
-AreTimely [] = Unit {0}
-AreTimely (x ∷ xs) = IsTimely x × AreTimely xs
+AreTimely xs = AllByRecursion IsTimely xs
 
 -- Each change keeps the records timely, and a timely record that is put anew is as it was.
 pub record TimelyLaw : Type 0 where

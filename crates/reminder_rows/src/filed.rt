@@ -1,8 +1,8 @@
 // The records that are filed: in one tree by actor and name, and their keys in another one by moment.
 ghost use Rattle.std.specs.Prelude.{◌≡◌, [], None, is_some, option_copied};
-ghost use Rattle.search_tree.specs.Lists.{first_behind, with_put};
-ghost use Rattle.search_tree.specs.Orders.{Ascends};
-ghost use Rattle.search_tree.specs.Walks.{following};
+ghost use Rattle.lists_and_limits.specs.Lists.{first_behind, with_put};
+ghost use Rattle.lists_and_limits.specs.Orders.{Ascends};
+ghost use Rattle.lists_and_limits.specs.Walks.{following};
 ghost use Rattle.reminder_rows.specs.Reminders.{row_cmp, after_at, row_at, without_row, by_due, refired};
 ghost use Rattle.reminder_rows.specs.Filing.{row_in, IsKeyed};
 

@@ -2,8 +2,8 @@
 ghost use Rattle.std.specs.Prelude.{◌≡◌, ℕ, List, Some, None, false};
 ghost use Rattle.std.specs.Ordering.{is_eq};
 ghost use Rattle.actor_names.specs.declared.actor_key.ActorKey.{ActorKey};
-ghost use Rattle.search_tree.specs.Lists.{found, with_put};
-ghost use Rattle.search_tree.specs.Orders.{Ascends};
+ghost use Rattle.lists_and_limits.specs.Lists.{found, with_put};
+ghost use Rattle.lists_and_limits.specs.Orders.{Ascends};
 ghost use Rattle.reminder_rows.specs.declared.row.ReminderRow.{ReminderRow};
 ghost use Rattle.reminder_rows.specs.declared.row.DueKey.{DueKey};
 ghost use Rattle.reminder_rows.specs.Reminders.{place_cmp, row_cmp, at_name, row_at, without_row, due_cmp, by_due, key_in, TimelyLaw};

@@ -2,7 +2,7 @@
 //
 // Promise: the records are a list in order of actor and name, each once, and each call changes it as
 // `specs/Reminders` says; those that are due are given in order of their moments. After `reserve` a `put` can't fail.
-// It depends on `search_tree`, `schedule_text` and `actor_names`.
+// It depends on `search_tree`, `schedule_text`, `actor_names` and `lists_and_limits`.
 #![tactic(auto)]
 
 mod error;

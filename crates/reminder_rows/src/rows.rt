@@ -1,9 +1,9 @@
 // The reminders of actors.
 ghost use Rattle.std.specs.Prelude.{◌≡◌, ◌≤◌, [], is_some, option_copied, IfOk, OnOk, OnErr};
 ghost use Rattle.std.specs.List.{last_or};
-ghost use Rattle.search_tree.specs.Lists.{first_behind};
-ghost use Rattle.search_tree.specs.Orders.{Ascends};
-ghost use Rattle.search_tree.specs.Walks.{following};
+ghost use Rattle.lists_and_limits.specs.Lists.{first_behind};
+ghost use Rattle.lists_and_limits.specs.Orders.{Ascends};
+ghost use Rattle.lists_and_limits.specs.Walks.{following};
 ghost use Rattle.reminder_rows.specs.Reminders.{row_cmp, row_at, without_row, reminder_in, put_row, by_due, after_at, due_keys, refired, after_next, fired_answer, fired_rows};
 
 use crate::error::FiredError;

@@ -1,5 +1,5 @@
 use Rattle.std.proofs.Common.{◌≡◌, Some, None, sym, ◌∙◌}
-use Rattle.search_tree.specs.Lists.{found}
+use Rattle.lists_and_limits.specs.Lists.{found}
 use Rattle.search_tree.specs.Trees.{element_in}
 use Rattle.reminder_rows.specs.Reminders.{row_at}
 use Rattle.reminder_rows.proofs.Sorted.{cut_name, cut_key, filed_dues, filed_without, none-without, due-found, at_key}

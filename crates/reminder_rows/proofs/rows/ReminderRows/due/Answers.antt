@@ -1,7 +1,7 @@
 use Rattle.std.proofs.Common.{◌≡◌, ◌<◌, ◌≤◌, Some, None, sym, arith}
 use Rattle.std.specs.List.{last_or}
 use Rattle.std.specs.Option.{option_copied}
-use Rattle.search_tree.specs.Lists.{first_behind}
+use Rattle.lists_and_limits.specs.Lists.{first_behind}
 use Rattle.reminder_rows.specs.Reminders.{by_due, after_at}
 use Rattle.reminder_rows.proofs.Sorted.{due-order}
 use Rattle.reminder_rows.proofs.Dues.{told-more, told-none, told-late}

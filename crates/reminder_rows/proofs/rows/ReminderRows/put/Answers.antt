@@ -1,9 +1,9 @@
 use Rattle.std.proofs.Common.{◌≡◌, ℕ, ◌≤◌, Option, None, sym, ap, ◌∙◌, arith}
-use Rattle.search_tree.specs.Lists.{with_put}
+use Rattle.lists_and_limits.specs.Lists.{with_put}
 use Rattle.reminder_rows.specs.Filing.{with_fresh, spare_of}
 use Rattle.reminder_rows.specs.Orders.{rows_total}
 use Rattle.reminder_rows.specs.Reminders.{row_cmp, without_row, new_row, put_at}
-use Rattle.reminder_rows.proofs.Maps.{itself}
+use Rattle.lists_and_limits.proofs.Maps.{itself}
 use Rattle.reminder_rows.proofs.Newest.{none_fresh}
 use Rattle.reminder_rows.proofs.Sorted.{gone, put-named}
 use Rattle.reminder_rows.proofs.rows.ReminderRows.put.Goals as goal
@@ -25,6 +25,6 @@ returns c =
     let rows = c.args.self.now.rows in
     let row = new_row c.args.actor c.args.name c.in-Some.moment c.args.reminder in
     let put : with_fresh c.replace-none.new.self c.self.inside.filed ≡ with_put row_cmp row rows =
-    rw (c.replace-none.ensures.after, left c) (put-named c.args.actor c.args.name rows c.in_order.ensures row (itself row_cmp rows_total row))
+    rw (c.replace-none.ensures.after, left c) (put-named c.args.actor c.args.name rows c.in_order.ensures row (itself (λ x. x) row_cmp rows_total row))
     in
     put ∙ sym (ap (λ (first : Option ℕ). put_at first c.args.actor c.args.name c.args.reminder rows) c.in-Some.is)
