@@ -2,10 +2,10 @@
 use Rattle.std.proofs.Common.{◌≡◌, ◌⊎◌, inl, inr, ℕ, ◌+◌, ◌<◌, ◌≤◌, max, nat_le, ◌==◌, Bool, true, false, if◌then◌else◌, List, [], ◌∷◌, ◌++◌, length, Option, Some, None, Result, Ok, Err, is_some, refl, sym, ap, ◌∙◌, arith, length-append}
 use Rattle.std.specs.Ordering.{nat_cmp, is_eq}
 use Rattle.std.proofs.lemmas.Bool.Decides.{nat_tests}
-use Rattle.search_tree.specs.Lists.{found, without, with_put}
-use Rattle.search_tree.specs.Orders.{Ascends, IsPlace, OrderLaw}
-use Rattle.search_tree.specs.Cuts.{IsCut}
-use Rattle.search_tree.proofs.Orders.{law, cut, place_element}
+use Rattle.lists_and_limits.specs.Lists.{found, without, with_put}
+use Rattle.lists_and_limits.specs.Orders.{Ascends, IsPlace, OrderLaw}
+use Rattle.lists_and_limits.specs.Cuts.{IsCut}
+use Rattle.lists_and_limits.proofs.Orders.{law, cut, place_key}
 use Rattle.stamp_lanes.specs.declared.answer.LaneAnswer.{LaneAnswer}
 use Rattle.stamp_lanes.specs.declared.answer.KeptNumber.{KeptNumber}
 use Rattle.stamp_lanes.specs.declared.answer.StampLook.{StampLook}
@@ -14,10 +14,11 @@ use Rattle.stamp_lanes.specs.declared.error.StampError.{StampError}
 use Rattle.stamp_lanes.specs.declared.lane.Lane.{Lane}
 use Rattle.stamp_lanes.specs.Kept.{kept_answer, Differ}
 use Rattle.stamp_lanes.specs.Lanes.{new_lane, answered, look_lane, dropped, with_space, joined, lane_after, IsLane, at_part, lane_cmp, lane_at, lane_or_new, lane_of, lanes_after}
-use Rattle.stamp_lanes.specs.Stamps.{Every, after_part}
+use Rattle.std.specs.List.{AllByRecursion as Every}
+use Rattle.stamp_lanes.specs.Stamps.{after_part}
 use Rattle.stamp_lanes.specs.Orders.{lanes_total}
-use Rattle.stamp_lanes.proofs.Maps as maps
-use Rattle.stamp_lanes.proofs.Every.{every-put, every-found}
+use Rattle.lists_and_limits.proofs.Maps as maps
+use Rattle.lists_and_limits.proofs.Each.{each_put, each_found}
 
 -- ---- numbers
 
@@ -172,7 +173,7 @@ lane-part part lanes = go (lane_at part lanes) refl
   where
     go : (o : Option Lane) → lane_at part lanes ≡ o → (lane_or_new part o).part ≡ part
     go None h = refl
-    go (Some l) h = nat-is l.part part (maps.found-is lane_cmp lanes_total (new_lane part) l lanes h)
+    go (Some l) h = nat-is l.part part (maps.found-is (at_part part) l lanes h)
 
 after-part : (part : ℕ) (k : KeptNumber) (lanes : List Lane) → (lane_after (lane_of part lanes) k).part ≡ part
 after-part part k lanes = space-part (lane_of part lanes) ∙ lane-part part lanes
@@ -180,7 +181,7 @@ after-part part k lanes = space-part (lane_of part lanes) ∙ lane-part part lan
 -- the lane of the part has changed, and no other one
 pub lane_at-after : (q part : ℕ) (k : KeptNumber) (lanes : List Lane) → lane_at q (lanes_after part k lanes) ≡ (if is_eq (nat_cmp part q) then Some (lane_after (lane_of part lanes) k) else lane_at q lanes)
 lane_at-after q part k lanes =
-    maps.found-put lane_cmp lanes_total (lane_after (lane_of part lanes) k) (new_lane q) lanes
+    maps.found-put (λ x. x) lane_cmp lanes_total (lane_after (lane_of part lanes) k) (new_lane q) lanes
     ∙ ap (λ p. if is_eq (nat_cmp p q) then Some (lane_after (lane_of part lanes) k) else lane_at q lanes) (after-part part k lanes)
 
 pub lane_of-after : (part : ℕ) (k : KeptNumber) (lanes : List Lane) → lane_of part (lanes_after part k lanes) ≡ lane_after (lane_of part lanes) k
@@ -207,30 +208,30 @@ sound-lane part lanes h = go (lane_at part lanes) refl
   where
     go : (o : Option Lane) → lane_at part lanes ≡ o → IsLane (lane_or_new part o)
     go None n = record { fits = omega arith; differ = tt }
-    go (Some l) f = every-found IsLane (at_part part) l lanes h f
+    go (Some l) f = each_found IsLane (at_part part) lanes l f h
 
 pub order-lanes : (part : ℕ) (k : KeptNumber) (lanes : List Lane) → Ascends lane_cmp lanes → Ascends lane_cmp (lanes_after part k lanes)
 order-lanes part k lanes a = let l = lanes_law in l.put (lane_after (lane_of part lanes) k) lanes a
 
 pub sound-lanes : (part : ℕ) (k : KeptNumber) (lanes : List Lane) → Every IsLane lanes → kept_answer k.number (lane_of part lanes).kept ≡ None → Every IsLane (lanes_after part k lanes)
 sound-lanes part k lanes h n =
-    every-put IsLane lane_cmp (lane_after (lane_of part lanes) k) lanes
+    each_put IsLane lane_cmp (lane_after (lane_of part lanes) k) lanes
     (is_lane-after (lane_of part lanes) k (sound-lane part lanes h) n) h
 
 -- ---- lanes that are taken out and put back
 
 -- a lane of the part takes the place of the one that was taken out
 pub put-lane : (part : ℕ) (l : Lane) (lanes : List Lane) → Ascends lane_cmp lanes → l.part ≡ part → with_put lane_cmp l (without (at_part part) lanes) ≡ with_put lane_cmp l lanes
-put-lane part l lanes a e = maps.put-without lane_cmp lanes_total (new_lane part) l lanes a (nat-tied l.part part e)
+put-lane part l lanes a e = maps.put-without (λ x. x) lane_cmp lanes_total (new_lane part) l lanes a (nat-tied l.part part e)
 
 -- ---- places in the order of parts
 
 after-place : (p : Option ℕ) → IsPlace lane_cmp (after_part p)
 after-place None x y h = inr refl
-after-place (Some part) x y h = place_element lane_cmp lanes_total (new_lane part) x y h
+after-place (Some part) x y h = place_key (λ x. x) lane_cmp lanes_total (new_lane part) x y h
 
 pub cut_after_part : (p : Option ℕ) (lanes : List Lane) → Ascends lane_cmp lanes → IsCut (after_part p) lanes
-cut_after_part p lanes a = cut lane_cmp (after_part p) lanes (after-place p) a
+cut_after_part p lanes a = cut (λ x. x) lane_cmp (after_part p) lanes (after-place p) a
 
 -- ---- a lane that is taken out, keeps a number and is put back
 
@@ -242,7 +243,7 @@ module _ (part : ℕ) (lanes : List Lane) (a : Ascends lane_cmp lanes) where
   kept-new k h = put-lane part (lane_after (new_lane part) k) lanes a (space-part (new_lane part)) ∙ rw h refl
 
   pub kept-there : (k : KeptNumber) (l : Lane) → lane_at part lanes ≡ Some l → with_put lane_cmp (lane_after l k) (without (at_part part) lanes) ≡ lanes_after part k lanes
-  kept-there k l h = put-lane part (lane_after l k) lanes a (space-part l ∙ nat-is l.part part (maps.found-is lane_cmp lanes_total (new_lane part) l lanes h)) ∙ rw h refl
+  kept-there k l h = put-lane part (lane_after l k) lanes a (space-part l ∙ nat-is l.part part (maps.found-is (at_part part) l lanes h)) ∙ rw h refl
 
 pub cut_lane : (l : Lane) (lanes : List Lane) → Ascends lane_cmp lanes → IsCut (λ x. lane_cmp x l) lanes
 cut_lane l lanes a = let o = lanes_law in o.cut_element l lanes a

@@ -1,5 +1,3 @@
-mod Maps
-mod Every
 mod LaneFacts
 mod NodeFacts
 mod Draws

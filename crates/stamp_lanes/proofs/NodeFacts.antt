@@ -4,10 +4,10 @@ use Rattle.std.specs.Option.{is_none}
 use Rattle.std.specs.Ordering.{is_eq}
 use Rattle.std.proofs.lemmas.Bool.Decides.{nat_tests}
 use Rattle.actor_names.specs.declared.member.Member.{Member}
-use Rattle.search_tree.specs.Lists.{found, without, with_put}
-use Rattle.search_tree.specs.Cuts.{IsCut}
-use Rattle.search_tree.specs.Orders.{Ascends, IsPlace, OrderLaw}
-use Rattle.search_tree.proofs.Orders.{law, cut, place_element}
+use Rattle.lists_and_limits.specs.Lists.{found, without, with_put}
+use Rattle.lists_and_limits.specs.Cuts.{IsCut}
+use Rattle.lists_and_limits.specs.Orders.{Ascends, IsPlace, OrderLaw}
+use Rattle.lists_and_limits.proofs.Orders.{law, cut, place_key}
 use Rattle.stamp_lanes.specs.declared.answer.KeptNumber.{KeptNumber}
 use Rattle.stamp_lanes.specs.declared.answer.LaneAnswer.{LaneAnswer}
 use Rattle.stamp_lanes.specs.declared.answer.StampLook.TheVariants.{Fresh}
@@ -18,11 +18,11 @@ use Rattle.stamp_lanes.specs.declared.lane.Lane.{Lane}
 use Rattle.stamp_lanes.specs.declared.node.NodeLanes.{NodeLanes}
 use Rattle.stamp_lanes.specs.Kept.{kept_answer, Differ}
 use Rattle.stamp_lanes.specs.Lanes.{lane_cmp, lane_at, lane_of, look_lane, lanes_after, IsLane}
-use Rattle.stamp_lanes.specs.Stamps.{at_node, node_cmp, node_at, greatest_boot, bare_node, draw_fault, look_node, look, node_after, nodes_after, after_accept, after_node, after_part, Every, IsNode, IsSound}
+use Rattle.stamp_lanes.specs.Stamps.{at_node, node_cmp, node_at, greatest_boot, bare_node, draw_fault, look_node, look, node_after, nodes_after, after_accept, after_node, after_part, IsNode, IsSound}
 use Rattle.stamp_lanes.specs.Restores.{number_fault, numbers_fault, lane_fault, node_fault, lane_row_fault, with_lane, put_lane, after_lane_row}
 use Rattle.stamp_lanes.specs.Orders.{nodes_total}
-use Rattle.stamp_lanes.proofs.Maps as maps
-use Rattle.stamp_lanes.proofs.Every.{every-put, every-found}
+use Rattle.lists_and_limits.proofs.Maps as maps
+use Rattle.lists_and_limits.proofs.Each.{each_put, each_found}
 use Rattle.stamp_lanes.proofs.LaneFacts.{fresh-is, order-lanes, sound-lanes, lanes_law}
 
 pub nodes_law : OrderLaw node_cmp
@@ -36,21 +36,21 @@ pub cut_node : (space node : List ℕ) (nodes : List NodeLanes) → Ascends node
 cut_node space node nodes a = let l = nodes_law in l.cut_element (named space node) nodes a
 
 pub node-tied : (space node : List ℕ) (e : NodeLanes) (nodes : List NodeLanes) → node_at space node nodes ≡ Some e → is_eq (at_node space node e) ≡ true
-node-tied space node e nodes h = maps.found-is node_cmp nodes_total (named space node) e nodes h
+node-tied space node e nodes h = maps.found-is (at_node space node) e nodes h
 
 -- the same node is found under the name of the one that was found
 pub node-again : (space node : List ℕ) (e : NodeLanes) (nodes : List NodeLanes) → node_at space node nodes ≡ Some e → node_at e.space e.node nodes ≡ Some e
-node-again space node e nodes h = maps.found-tied node_cmp nodes_total e (named space node) (node-tied space node e nodes h) nodes ∙ h
+node-again space node e nodes h = maps.found-tied (λ x. x) node_cmp nodes_total e (named space node) (node-tied space node e nodes h) nodes ∙ h
 
 -- ---- places in the orders
 
 -- the place behind a node is one that a search tree can use
 after-place : (p : Option NodeLanes) → IsPlace node_cmp (after_node p)
 after-place None x y h = inr refl
-after-place (Some e) x y h = place_element node_cmp nodes_total e x y h
+after-place (Some e) x y h = place_key (λ x. x) node_cmp nodes_total e x y h
 
 pub cut_after_node : (p : Option NodeLanes) (nodes : List NodeLanes) → Ascends node_cmp nodes → IsCut (after_node p) nodes
-cut_after_node p nodes a = cut node_cmp (after_node p) nodes (after-place p) a
+cut_after_node p nodes a = cut (λ x. x) node_cmp (after_node p) nodes (after-place p) a
 
 -- ---- a node that takes the place of itself
 
@@ -63,10 +63,10 @@ module _ (space node : List ℕ) (nodes : List NodeLanes) (a : Ascends node_cmp 
 
   -- a node of the name takes the place of the one that was taken out
   put-node : (d : NodeLanes) → is_eq (at_node space node d) ≡ true → with_put node_cmp d (without (at_node space node) nodes) ≡ with_put node_cmp d nodes
-  put-node d t = maps.put-without node_cmp nodes_total (named space node) d nodes a t
+  put-node d t = maps.put-without (λ x. x) node_cmp nodes_total (named space node) d nodes a t
 
 without-none : (space node : List ℕ) (nodes : List NodeLanes) → node_at space node nodes ≡ None → without (at_node space node) nodes ≡ nodes
-without-none space node nodes h = maps.without-none node_cmp nodes_total (named space node) nodes h
+without-none space node nodes h = maps.without-none (at_node space node) nodes h
 
 module _ (member : Member) (part : ℕ) (k : KeptNumber) (nodes : List NodeLanes) where
   pub accept-none : node_at member.space member.node nodes ≡ None → without (at_node member.space member.node) nodes ≡ after_accept member part k nodes
@@ -106,12 +106,12 @@ boot_le space node e (x ∷ xs) h = go (is_eq (at_node space node x)) refl (λ k
 -- where a node was, another one of its name changes no number of nodes
 pub length-found : (e d : NodeLanes) (nodes : List NodeLanes) → Ascends node_cmp nodes → node_at e.space e.node nodes ≡ Some d → length (with_put node_cmp e nodes) ≡ length nodes
 length-found e d nodes a h =
-    let s = maps.put-found node_cmp nodes_total e d nodes a h in
+    let s = maps.put-found (λ x. x) node_cmp nodes_total e d nodes a h in
     ap length s.3 ∙ (length-append s.0 (e ∷ s.1) ∙ (sym (length-append s.0 (d ∷ s.1)) ∙ sym (ap length s.2)))
 
 pub length-new : (e : NodeLanes) (nodes : List NodeLanes) → node_at e.space e.node nodes ≡ None → length (with_put node_cmp e nodes) ≡ length nodes + 1
 length-new e nodes h =
-    let s = maps.put-new node_cmp nodes_total e nodes h in
+    let s = maps.put-new (λ x. x) node_cmp nodes_total e nodes h in
     let l : length (with_put node_cmp e nodes) ≡ length (s.0 ++ e ∷ s.1) = ap length s.3 in
     let m : length nodes ≡ length (s.0 ++ s.1) = ap length s.2 in
     omega (arith, length-append s.0 (e ∷ s.1), length-append s.0 s.1)
@@ -119,14 +119,14 @@ length-new e nodes h =
 -- the greatest boot after a node with the same boot, or with one that isn't below the greatest, is put
 pub boots-found : (e d : NodeLanes) (nodes : List NodeLanes) → Ascends node_cmp nodes → node_at e.space e.node nodes ≡ Some d → e.boot ≡ d.boot → greatest_boot (with_put node_cmp e nodes) ≡ greatest_boot nodes
 boots-found e d nodes a h same =
-    let s = maps.put-found node_cmp nodes_total e d nodes a h in
+    let s = maps.put-found (λ x. x) node_cmp nodes_total e d nodes a h in
     let l : greatest_boot (with_put node_cmp e nodes) ≡ greatest_boot (s.0 ++ e ∷ s.1) = ap Boots s.3 in
     let m : greatest_boot nodes ≡ greatest_boot (s.0 ++ d ∷ s.1) = ap Boots s.2 in
     omega (arith, boots-append s.0 (e ∷ s.1), boots-append s.0 (d ∷ s.1))
 
 pub boots-new : (e : NodeLanes) (nodes : List NodeLanes) → node_at e.space e.node nodes ≡ None → greatest_boot (with_put node_cmp e nodes) ≡ max (greatest_boot nodes) e.boot
 boots-new e nodes h =
-    let s = maps.put-new node_cmp nodes_total e nodes h in
+    let s = maps.put-new (λ x. x) node_cmp nodes_total e nodes h in
     let l : greatest_boot (with_put node_cmp e nodes) ≡ greatest_boot (s.0 ++ e ∷ s.1) = ap Boots s.3 in
     let m : greatest_boot nodes ≡ greatest_boot (s.0 ++ s.1) = ap Boots s.2 in
     omega (arith, boots-append s.0 (e ∷ s.1), boots-append s.0 s.1)
@@ -137,7 +137,7 @@ boots-greater e nodes a g = go (node_at e.space e.node nodes) refl
     go : (o : Option NodeLanes) → node_at e.space e.node nodes ≡ o → greatest_boot (with_put node_cmp e nodes) ≡ e.boot
     go None h = omega (arith, boots-new e nodes h)
     go (Some d) h =
-        let s = maps.put-found node_cmp nodes_total e d nodes a h in
+        let s = maps.put-found (λ x. x) node_cmp nodes_total e d nodes a h in
         let l : greatest_boot (with_put node_cmp e nodes) ≡ greatest_boot (s.0 ++ e ∷ s.1) = ap Boots s.3 in
         let m : greatest_boot nodes ≡ greatest_boot (s.0 ++ d ∷ s.1) = ap Boots s.2 in
         omega (arith, boots-append s.0 (e ∷ s.1), boots-append s.0 (d ∷ s.1))
@@ -159,7 +159,7 @@ module _ (nodes : List NodeLanes) (greatest count : ℕ) (s : IsSound nodes grea
       let l = nodes_law in
       record {
         order = l.put (with_lanes lanes e) nodes s.order;
-        each = every-put IsNode node_cmp (with_lanes lanes e) nodes i s.each;
+        each = each_put IsNode node_cmp (with_lanes lanes e) nodes i s.each;
         boots = s.boots ∙ sym (boots-found (with_lanes lanes e) e nodes s.order there refl);
         limit = s.limit;
         counted = (let n = length-found (with_lanes lanes e) e nodes s.order there in s.counted ∙ ap (λ m. min 65536 m) (sym n));
@@ -179,7 +179,7 @@ module _ (nodes : List NodeLanes) (greatest count : ℕ) (s : IsSound nodes grea
       let l = nodes_law in
       record {
         order = l.put (bare_node space node boot) nodes s.order;
-        each = every-put IsNode node_cmp (bare_node space node boot) nodes (bare-sound space node boot) s.each;
+        each = each_put IsNode node_cmp (bare_node space node boot) nodes (bare-sound space node boot) s.each;
         boots = (let m = s.boots in let n : greatest_boot nodes ≤ boot = omega arith in sym (boots-greater (bare_node space node boot) nodes s.order n));
         limit = b;
         counted = count-put (bare_node space node boot);
@@ -191,7 +191,7 @@ module _ (nodes : List NodeLanes) (greatest count : ℕ) (s : IsSound nodes grea
       let l = nodes_law in
       record {
         order = l.put (bare_node space node boot) nodes s.order;
-        each = every-put IsNode node_cmp (bare_node space node boot) nodes (bare-sound space node boot) s.each;
+        each = each_put IsNode node_cmp (bare_node space node boot) nodes (bare-sound space node boot) s.each;
         boots = (let m = s.boots in let n = boots-new (bare_node space node boot) nodes h in omega arith);
         limit = (let m = s.limit in omega arith);
         counted = (let n = length-new (bare_node space node boot) nodes h in let c = s.counted in omega arith);
@@ -223,7 +223,7 @@ sound-accept member part k nodes greatest count s f = go (node_at member.space m
     go (Some e) h =
         let g : look_node member.boot part k.number (Some e) ≡ Ok Fresh = rw h at f in
         let i = fresh-node member part k.number e g in
-        let n = every-found IsNode (at_node member.space member.node) e nodes s.each h in
+        let n = each_found IsNode (at_node member.space member.node) nodes e h s.each in
         sound-lanes_of nodes greatest count s member.space member.node e (lanes_after part k e.lanes) h
         (record { order = order-lanes part k e.lanes n.order; lanes = sound-lanes part k e.lanes n.lanes i.none })
 
@@ -276,7 +276,7 @@ sound-lane_row member l nodes greatest count s f = go (node_at member.space memb
     go (Some e) h =
         let g : node_fault member.boot l.part l.kept (Some e) ≡ None = rw h at f in
         let i = lane-new member l.part l.kept e g in
-        let n = every-found IsNode (at_node member.space member.node) e nodes s.each h in
+        let n = each_found IsNode (at_node member.space member.node) nodes e h s.each in
         let o = lanes_law in
         sound-lanes_of nodes greatest count s member.space member.node e (with_put lane_cmp l e.lanes) h
-        (record { order = o.put l e.lanes n.order; lanes = every-put IsLane lane_cmp l e.lanes (record { fits = i.fits; differ = i.differ }) n.lanes })
+        (record { order = o.put l e.lanes n.order; lanes = each_put IsLane lane_cmp l e.lanes (record { fits = i.fits; differ = i.differ }) n.lanes })

@@ -1,58 +1,24 @@
 -- The rows of nodes are read back to the same nodes.
 use Rattle.std.proofs.Common.{◌≡◌, ℕ, ◌<◌, ◌≤◌, nat_lt, ◌==◌, Bool, true, false, if◌then◌else◌, List, [], ◌∷◌, ◌++◌, length, Option, Some, None, is_some, refl, sym, ap, ◌∙◌, subst, arith, append_assoc}
-use Rattle.std.specs.declared.cmp.Ordering.{Ordering}
-use Rattle.std.specs.declared.cmp.Ordering.TheVariants.{Less, Equal, Greater}
-use Rattle.std.specs.Ordering.{is_eq, nat_cmp}
-use Rattle.std.specs.Cmp.{IsTotalOrder}
+use Rattle.std.specs.declared.cmp.Ordering.TheVariants.{Equal, Greater}
+use Rattle.std.specs.Ordering.{nat_cmp}
 use Rattle.std.proofs.lemmas.Bool.Decides.{nat_tests}
 use Rattle.std.proofs.lemmas.Cmp.{tied_itself}
 use Rattle.std.proofs.lemmas.List.{append-nil}
 use Rattle.actor_names.specs.declared.member.Member.{Member}
-use Rattle.search_tree.specs.Lists.{found, put_by, with_put}
-use Rattle.search_tree.specs.Orders.{IsBelow, Ascends}
+use Rattle.lists_and_limits.specs.Lists.{with_put}
+use Rattle.lists_and_limits.specs.Orders.{Ascends}
+use Rattle.lists_and_limits.proofs.Fronts.{AreBefore, before_of, found-before, found-at, put-before, put-at}
 use Rattle.stamp_lanes.specs.declared.answer.KeptNumber.{KeptNumber}
 use Rattle.stamp_lanes.specs.declared.error.RestoreError.{RestoreError}
 use Rattle.stamp_lanes.specs.declared.lane.Lane.{Lane}
 use Rattle.stamp_lanes.specs.declared.node.NodeLanes.{NodeLanes}
 use Rattle.stamp_lanes.specs.Kept.{kept_answer, Differ}
 use Rattle.stamp_lanes.specs.Lanes.{IsLane, at_part, lane_at, lane_cmp}
-use Rattle.stamp_lanes.specs.Stamps.{at_node, node_cmp, node_at, bare_node, Every, IsNode}
+use Rattle.std.specs.List.{AllByRecursion as Every}
+use Rattle.stamp_lanes.specs.Stamps.{at_node, node_cmp, node_at, bare_node, IsNode}
 use Rattle.stamp_lanes.specs.Orders.{lanes_total, nodes_total}
 use Rattle.stamp_lanes.specs.Restores.{number_fault, numbers_fault, lane_fault, node_fault, lane_row_fault, with_lane, put_lane, after_lane_row, Row, BootRow, LaneRow, boot_rows, rows_of_member, member_of, lane_rows, rows_of, row_fault, after_row, Restores}
-
--- ---- one list after another
-
-module _ {E : Type 0} (cmp : E → E → Ordering) where
-  -- each of them is before the element
-  abbrev pub Before : E → List E → Type 0
-  Before e [] = Unit {0}
-  Before e (x ∷ xs) = (cmp x e ≡ Less) × Before e xs
-
-  below_of : (x : E) (xs : List E) (y : E) (ys : List E) → IsBelow cmp x (xs ++ y ∷ ys) → cmp x y ≡ Less
-  below_of x [] y ys b = b.0
-  below_of x (z ∷ zs) y ys b = below_of x zs y ys b.1
-
-  pub before_of : (xs : List E) (y : E) (ys : List E) → Ascends cmp (xs ++ y ∷ ys) → Before y xs
-  before_of [] y ys a = tt
-  before_of (x ∷ xs) y ys a = (below_of x xs y ys a.0, before_of xs y ys a.1)
-
-  pub found-before : (e : E) (xs ys : List E) → Before e xs → found (λ x. cmp x e) (xs ++ ys) ≡ found (λ x. cmp x e) ys
-  found-before e [] ys b = refl
-  found-before e (x ∷ xs) ys b = let o : is_eq (cmp x e) ≡ false = ap is_eq b.0 in rw o (found-before e xs ys b.1)
-
-  pub put-before : (e : E) (xs ys : List E) → Before e xs → with_put cmp e (xs ++ ys) ≡ xs ++ with_put cmp e ys
-  put-before e [] ys b = refl
-  put-before e (x ∷ xs) ys b = rw b.0 (ap (λ zs. x ∷ zs) (put-before e xs ys b.1))
-
-  module _ (total : IsTotalOrder cmp) where
-    -- an element that is tied with the first of the rest takes its place
-    pub put-at : (e d : E) (xs ys : List E) → Before e xs → cmp d e ≡ Equal → with_put cmp e (xs ++ d ∷ ys) ≡ xs ++ e ∷ ys
-    put-at e d xs ys b t = put-before e xs (d ∷ ys) b ∙ rw t refl
-
-    pub found-at : (e d : E) (xs ys : List E) → Before e xs → cmp d e ≡ Equal → found (λ x. cmp x e) (xs ++ d ∷ ys) ≡ Some d
-    found-at e d xs ys b t =
-        let o : is_eq (cmp d e) ≡ true = ap is_eq t in
-        found-before e xs (d ∷ ys) b ∙ rw o refl
 
 -- ---- rows one after another
 
@@ -73,19 +39,19 @@ bares-append : (xs ys : List NodeLanes) → bares (xs ++ ys) ≡ bares xs ++ bar
 bares-append [] ys = refl
 bares-append (x ∷ xs) ys = ap (λ zs. bare x ∷ zs) (bares-append xs ys)
 
-before-bare : (e : NodeLanes) (xs : List NodeLanes) → Before node_cmp e xs → Before node_cmp (bare e) (bares xs)
+before-bare : (e : NodeLanes) (xs : List NodeLanes) → AreBefore (λ x. x) node_cmp e xs → AreBefore (λ x. x) node_cmp (bare e) (bares xs)
 before-bare e [] b = tt
 before-bare e (x ∷ xs) b = (b.0, before-bare e xs b.1)
 
 boots-back : (done todo : List NodeLanes) → Ascends node_cmp (done ++ todo) → Restores (boot_rows todo) (bares done) (bares (done ++ todo))
 boots-back done [] a = sym (ap bares (append-nil done))
 boots-back done (e ∷ es) a =
-    let b = before-bare e done (before_of node_cmp done e es a) in
+    let b = before-bare e done (before_of (λ x. x) node_cmp done e es a) in
     let none : node_at e.space e.node (bares done) ≡ None =
-    ap (node_at e.space e.node) (sym (append-nil (bares done))) ∙ found-before node_cmp (bare e) (bares done) [] b
+    ap (node_at e.space e.node) (sym (append-nil (bares done))) ∙ found-before (λ x. x) node_cmp (bare e) (bares done) [] b
     in
     let put : with_put node_cmp (bare e) (bares done) ≡ bares (done ++ e ∷ []) =
-    ap (with_put node_cmp (bare e)) (sym (append-nil (bares done))) ∙ (put-before node_cmp (bare e) (bares done) [] b ∙ sym (bares-append done (e ∷ [])))
+    ap (with_put node_cmp (bare e)) (sym (append-nil (bares done))) ∙ (put-before (λ x. x) node_cmp (bare e) (bares done) [] b ∙ sym (bares-append done (e ∷ [])))
     in
     let same : (done ++ e ∷ []) ++ es ≡ done ++ e ∷ es = append_assoc done (e ∷ []) es in
     let rest : Restores (boot_rows es) (bares (done ++ e ∷ [])) (bares ((done ++ e ∷ []) ++ es)) = boots-back (done ++ e ∷ []) es (rw same a) in
@@ -110,7 +76,7 @@ same a = grind (arith, nat_tests)
 abbrev with_lanes : List Lane → NodeLanes → NodeLanes
 with_lanes lanes e = record e { lanes = lanes }
 
-module _ (e : NodeLanes) (front back : List NodeLanes) (b : Before node_cmp e front) where
+module _ (e : NodeLanes) (front back : List NodeLanes) (b : AreBefore (λ x. x) node_cmp e front) where
   -- the nodes, if that one has these lanes
   abbrev Among : List Lane → List NodeLanes
   Among lanes = front ++ with_lanes lanes e ∷ back
@@ -119,17 +85,17 @@ module _ (e : NodeLanes) (front back : List NodeLanes) (b : Before node_cmp e fr
   tied = tied_itself nodes_total e
 
   here : (lanes : List Lane) → node_at e.space e.node (Among lanes) ≡ Some (with_lanes lanes e)
-  here lanes = found-at node_cmp nodes_total e (with_lanes lanes e) front back b tied
+  here lanes = found-at (λ x. x) node_cmp e (with_lanes lanes e) front back b tied
 
   placed : (lanes other : List Lane) → with_put node_cmp (with_lanes other e) (Among lanes) ≡ Among other
-  placed lanes other = put-at node_cmp nodes_total (with_lanes other e) (with_lanes lanes e) front back b tied
+  placed lanes other = put-at (λ x. x) node_cmp (with_lanes other e) (with_lanes lanes e) front back b tied
 
   lanes-back : (done todo : List Lane) → Ascends lane_cmp (done ++ todo) → Every IsLane todo → Restores (rows_of_member (member_of e) todo) (Among done) (Among (done ++ todo))
   lanes-back done [] a i = sym (ap Among (append-nil done))
   lanes-back done (l ∷ ls) a i =
-      let before = before_of lane_cmp done l ls a in
-      let new : lane_at l.part done ≡ None = ap (lane_at l.part) (sym (append-nil done)) ∙ found-before lane_cmp l done [] before in
-      let put : with_put lane_cmp l done ≡ done ++ l ∷ [] = ap (with_put lane_cmp l) (sym (append-nil done)) ∙ put-before lane_cmp l done [] before in
+      let before = before_of (λ x. x) lane_cmp done l ls a in
+      let new : lane_at l.part done ≡ None = ap (lane_at l.part) (sym (append-nil done)) ∙ found-before (λ x. x) lane_cmp l done [] before in
+      let put : with_put lane_cmp l done ≡ done ++ l ∷ [] = ap (with_put lane_cmp l) (sym (append-nil done)) ∙ put-before (λ x. x) lane_cmp l done [] before in
       let assoc : (done ++ l ∷ []) ++ ls ≡ done ++ l ∷ ls = append_assoc done (l ∷ []) ls in
       let rest : Restores (rows_of_member (member_of e) ls) (Among (done ++ l ∷ [])) (Among ((done ++ l ∷ []) ++ ls)) = lanes-back (done ++ l ∷ []) ls (rw assoc a) i.1 in
       let fine : lane_row_fault (member_of e) l.part l.kept (Among done) ≡ None = rw (here done, same e.boot, new) (no_numbers_fault l i.0) in
@@ -141,7 +107,7 @@ module _ (e : NodeLanes) (front back : List NodeLanes) (b : Before node_cmp e fr
 lane_rows-back : (done todo : List NodeLanes) → Ascends node_cmp (done ++ todo) → Every IsNode todo → Restores (lane_rows todo) (done ++ bares todo) (done ++ todo)
 lane_rows-back done [] a i = refl
 lane_rows-back done (e ∷ es) a i =
-    let before = before_of node_cmp done e es a in
+    let before = before_of (λ x. x) node_cmp done e es a in
     let n = i.0 in
     let assoc : (done ++ e ∷ []) ++ es ≡ done ++ e ∷ es = append_assoc done (e ∷ []) es in
     let open_ : (done ++ e ∷ []) ++ bares es ≡ done ++ e ∷ bares es = append_assoc done (e ∷ []) (bares es) in

@@ -3,7 +3,7 @@ use Rattle.std.proofs.Common.{◌≡◌, ◌⊎◌, inl, inr, ℕ, ◌+◌, ◌<
 use Rattle.std.specs.Ordering.{is_eq}
 use Rattle.std.proofs.lemmas.Bool.Decides.{nat_tests}
 use Rattle.actor_names.specs.declared.member.Member.{Member}
-use Rattle.search_tree.specs.Lists.{with_put}
+use Rattle.lists_and_limits.specs.Lists.{with_put}
 use Rattle.stamp_lanes.specs.declared.answer.LaneAnswer.{LaneAnswer}
 use Rattle.stamp_lanes.specs.declared.answer.KeptNumber.{KeptNumber}
 use Rattle.stamp_lanes.specs.declared.answer.StampLook.TheVariants.{Fresh}
@@ -12,7 +12,7 @@ use Rattle.stamp_lanes.specs.Lanes.{lane_of, lanes_after, look_lane}
 use Rattle.stamp_lanes.specs.Stamps.{at_node, node_cmp, node_at, greatest_boot, bare_node, look_node, look, node_after, nodes_after, after_accept, after_draw}
 use Rattle.stamp_lanes.specs.Runs.{LaneEvent, Draws, Accepts, MayCome, MayRun, after_event, after_events}
 use Rattle.stamp_lanes.specs.Orders.{nodes_total}
-use Rattle.stamp_lanes.proofs.Maps as maps
+use Rattle.lists_and_limits.proofs.Maps as maps
 use Rattle.stamp_lanes.proofs.LaneFacts.{IsUsed, used-lanes, used-new, used-not-fresh, lane_of-after}
 use Rattle.stamp_lanes.proofs.NodeFacts.{named, boot_le, node-tied, fresh-node}
 
@@ -43,7 +43,7 @@ spent-lanes boot part number p k e (inl l) = inl l
 spent-lanes boot part number p k e (inr u) = inr (u.0, used-lanes number part p k e.lanes u.1)
 
 found-put : (space node : List ℕ) (e : NodeLanes) (nodes : List NodeLanes) → node_at space node (with_put node_cmp e nodes) ≡ (if is_eq (at_node space node e) then Some e else node_at space node nodes)
-found-put space node e nodes = maps.found-put node_cmp nodes_total e (named space node) nodes
+found-put space node e nodes = maps.found-put (λ x. x) node_cmp nodes_total e (named space node) nodes
 
 module _ (boot part number : ℕ) (space node : List ℕ) where
   abbrev pub Spent : List NodeLanes → Type 0
@@ -69,8 +69,8 @@ module _ (boot part number : ℕ) (space node : List ℕ) where
       go (Some d) h =
           after-put (node_after p k d) nodes
           (λ t.
-          let mine : node_at d.space d.node nodes ≡ node_at space node nodes = maps.found-tied node_cmp nodes_total d (named space node) t nodes in
-          let its : node_at d.space d.node nodes ≡ Some d = maps.found-tied node_cmp nodes_total d (named member.space member.node) (node-tied member.space member.node d nodes h) nodes ∙ h in
+          let mine : node_at d.space d.node nodes ≡ node_at space node nodes = maps.found-tied (λ x. x) node_cmp nodes_total d (named space node) t nodes in
+          let its : node_at d.space d.node nodes ≡ Some d = maps.found-tied (λ x. x) node_cmp nodes_total d (named member.space member.node) (node-tied member.space member.node d nodes h) nodes ∙ h in
           let found : node_at space node nodes ≡ Some d = sym mine ∙ its in
           spent-lanes boot part number p k d (rw found at s))
           s

@@ -2,7 +2,7 @@
 use Rattle.std.specs.Prelude.{◌≡◌, ◌≤◌, ℕ, max, nat_le, if◌then◌else◌, List, [], ◌∷◌, ◌++◌, length, Option, None, Some, Result, Ok, Err}
 use Rattle.std.specs.declared.cmp.Ordering.{Ordering}
 use Rattle.std.specs.Ordering.{nat_cmp}
-use Rattle.search_tree.specs.Lists.{found, with_put}
+use Rattle.lists_and_limits.specs.Lists.{found, with_put}
 use Rattle.stamp_lanes.specs.declared.answer.LaneAnswer.{LaneAnswer}
 use Rattle.stamp_lanes.specs.declared.answer.KeptNumber.{KeptNumber}
 use Rattle.stamp_lanes.specs.declared.answer.StampLook.{StampLook}

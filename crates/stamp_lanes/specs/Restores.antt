@@ -1,7 +1,7 @@
 -- The rows of the nodes, and what they are read back to. Own.
 use Rattle.std.specs.Prelude.{◌≡◌, ℕ, nat_lt, ◌==◌, Bool, if◌then◌else◌, List, [], ◌∷◌, ◌++◌, length, Option, None, Some, is_some}
 use Rattle.actor_names.specs.declared.member.Member.{Member}
-use Rattle.search_tree.specs.Lists.{with_put}
+use Rattle.lists_and_limits.specs.Lists.{with_put}
 use Rattle.stamp_lanes.specs.declared.answer.KeptNumber.{KeptNumber}
 use Rattle.stamp_lanes.specs.declared.error.RestoreError.{RestoreError}
 use Rattle.stamp_lanes.specs.declared.error.RestoreError.TheVariants.{SameNode, OtherBoot, SameLane, TooManyNumbers, SameNumber, OutOfMemory}

@@ -1,12 +1,13 @@
 -- The nodes in order of space and node: the boot that each drew last, and the lanes of that boot. Own.
 use Rattle.std.specs.Prelude.{◌≡◌, ◌≤◌, ◌^◌, ◌+◌, ℕ, max, min, nat_le, ◌==◌, ◌&&◌, Bool, if◌then◌else◌, List, [], ◌∷◌, length, Option, None, Some, Result, Ok, Err, is_none}
+use Rattle.std.specs.List.{AllByRecursion as Every}
 use Rattle.std.specs.declared.cmp.Ordering.{Ordering}
 use Rattle.std.specs.declared.cmp.Ordering.TheVariants.{Greater}
 use Rattle.std.specs.Ordering.{nat_cmp, ordering_then}
 use Rattle.std.specs.Cmp.Lexicographic.{slice_cmp}
 use Rattle.actor_names.specs.declared.member.Member.{Member}
-use Rattle.search_tree.specs.Lists.{found, first_behind, with_put}
-use Rattle.search_tree.specs.Orders.{Ascends}
+use Rattle.lists_and_limits.specs.Lists.{found, first_behind, with_put}
+use Rattle.lists_and_limits.specs.Orders.{Ascends}
 use Rattle.stamp_lanes.specs.declared.answer.KeptNumber.{KeptNumber}
 use Rattle.stamp_lanes.specs.declared.answer.StampLook.{StampLook}
 use Rattle.stamp_lanes.specs.declared.error.StampError.{StampError}
@@ -103,12 +104,6 @@ next_lane after None = None
 next_lane after (Some e) = first_behind (after_part after) e.lanes
 
 -- ---- what holds of the nodes that are kept
-
-module _ {E : Type 0} (P : E → Type 0) where
-  -- each of them
-  abbrev pub Every : List E → Type 0
-  Every [] = Unit {0}
-  Every (x ∷ xs) = P x × Every xs
 
 -- the lanes are in order, each of a part of its own
 pub record IsNode (e : NodeLanes) : Type 0 where

@@ -1,9 +1,10 @@
 // The nodes with their boots and lanes.
 ghost use Rattle.std.specs.Prelude.{◌≡◌, ◌≤◌, ◌^◌, ◌+◌, ◌++◌, [], None, Ok, Err, is_some, option_copied, IfOk, IfErr, IfSome, OnOk, OnErr};
-ghost use Rattle.search_tree.specs.Lists.{first_behind};
-ghost use Rattle.search_tree.specs.Orders.{Ascends};
+ghost use Rattle.lists_and_limits.specs.Lists.{first_behind};
+ghost use Rattle.lists_and_limits.specs.Orders.{Ascends};
 ghost use Rattle.stamp_lanes.specs.declared.answer.StampLook.TheVariants.{Fresh};
-ghost use Rattle.stamp_lanes.specs.Stamps.{node_cmp, node_at, greatest_boot, draw_fault, or_memory, after_draw, look, after_accept, after_node, next_lane, Every, IsNode};
+ghost use Rattle.std.specs.List.{AllByRecursion as Every};
+ghost use Rattle.stamp_lanes.specs.Stamps.{node_cmp, node_at, greatest_boot, draw_fault, or_memory, after_draw, look, after_accept, after_node, next_lane, IsNode};
 ghost use Rattle.stamp_lanes.specs.Restores.{boot_row_fault, after_boot_row, lane_row_fault, after_lane_row, fault_or_memory};
 ghost use Rattle.stamp_lanes.specs.Prepared.{space_of, node_of};
 

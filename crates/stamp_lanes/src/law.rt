@@ -1,11 +1,12 @@
 // What holds of the definitions. The functions that state it do nothing.
 ghost use Rattle.std.specs.Prelude.{◌≡◌, ◌≤◌, ◌^◌, ℕ, List, [], ◌∷◌, ◌++◌, Ok};
-ghost use Rattle.search_tree.specs.Orders.{Ascends};
+ghost use Rattle.lists_and_limits.specs.Orders.{Ascends};
 ghost use Rattle.actor_names.specs.declared.member.Member.{Member};
 ghost use Rattle.stamp_lanes.specs.declared.answer.LaneAnswer.{LaneAnswer};
 ghost use Rattle.stamp_lanes.specs.declared.answer.StampLook.TheVariants.{Fresh};
 ghost use Rattle.stamp_lanes.specs.declared.node.NodeLanes.{NodeLanes};
-ghost use Rattle.stamp_lanes.specs.Stamps.{look, greatest_boot, node_cmp, Every, IsNode};
+ghost use Rattle.std.specs.List.{AllByRecursion as Every};
+ghost use Rattle.stamp_lanes.specs.Stamps.{look, greatest_boot, node_cmp, IsNode};
 ghost use Rattle.stamp_lanes.specs.Restores.{Restores, rows_of};
 ghost use Rattle.stamp_lanes.specs.Runs.{LaneEvent, Accepts, MayRun, after_events};
 

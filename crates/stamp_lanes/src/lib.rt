@@ -3,8 +3,8 @@
 //
 // Promise: a stamp is accepted at most once, however often it is looked up (`lane_law`). The nodes are a list in order
 // of space and node, each once, and each call changes it as `specs/Stamps` says; rows that are read back give the same
-// list (`restored_law`). After `reserve` an `accept` can't fail. It depends on `search_tree`, `actor_names` and
-// `schedule_text`.
+// list (`restored_law`). After `reserve` an `accept` can't fail. It depends on `search_tree`, `actor_names`,
+// `lists_and_limits` and `schedule_text`.
 #![tactic(auto)]
 
 mod answer;

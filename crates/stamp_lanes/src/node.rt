@@ -1,9 +1,10 @@
 // A node with the lanes of the boot that it drew last.
 ghost use Rattle.std.specs.Prelude.{◌≡◌, ◌≤◌, ◌+◌, min, if◌then◌else◌, length, IfOk, option_copied};
-ghost use Rattle.search_tree.specs.Lists.{first_behind, with_put};
-ghost use Rattle.search_tree.specs.Orders.{Ascends};
+ghost use Rattle.lists_and_limits.specs.Lists.{first_behind, with_put};
+ghost use Rattle.lists_and_limits.specs.Orders.{Ascends};
 ghost use Rattle.stamp_lanes.specs.Lanes.{new_lane, lane_cmp, lane_of, lane_after, look_lane, lanes_after, IsLane};
-ghost use Rattle.stamp_lanes.specs.Stamps.{Every, after_part, bare_node};
+ghost use Rattle.std.specs.List.{AllByRecursion as Every};
+ghost use Rattle.stamp_lanes.specs.Stamps.{after_part, bare_node};
 
 use crate::answer::StampLook;
 use crate::error::StampError;

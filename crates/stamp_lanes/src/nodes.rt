@@ -1,7 +1,8 @@
 // Changes of one node among the others.
 ghost use Rattle.std.specs.Prelude.{◌≡◌};
-ghost use Rattle.search_tree.specs.Orders.{Ascends};
-ghost use Rattle.stamp_lanes.specs.Stamps.{node_cmp, node_after, after_accept, Every, IsNode};
+ghost use Rattle.lists_and_limits.specs.Orders.{Ascends};
+ghost use Rattle.std.specs.List.{AllByRecursion as Every};
+ghost use Rattle.stamp_lanes.specs.Stamps.{node_cmp, node_after, after_accept, IsNode};
 ghost use Rattle.stamp_lanes.specs.Restores.{with_lane, after_lane_row};
 
 use crate::kept::KeptNode;

@@ -1,6 +1,6 @@
 // A lane that is read back.
 ghost use Rattle.std.specs.Prelude.{◌≡◌, ◌≤◌, is_some, length, IfOk};
-ghost use Rattle.search_tree.specs.Orders.{Ascends};
+ghost use Rattle.lists_and_limits.specs.Orders.{Ascends};
 ghost use Rattle.stamp_lanes.specs.Kept.{kept_answer};
 ghost use Rattle.stamp_lanes.specs.Lanes.{lane_cmp};
 ghost use Rattle.stamp_lanes.specs.Restores.{number_fault, numbers_fault, lane_fault};

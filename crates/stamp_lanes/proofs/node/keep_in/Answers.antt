@@ -1,6 +1,6 @@
 use Rattle.std.proofs.Common.{◌≡◌, Some, None, sym, ◌∙◌}
 use Rattle.stamp_lanes.specs.Lanes.{at_part, lane_at, IsLane}
-use Rattle.stamp_lanes.proofs.Every.{every-found}
+use Rattle.lists_and_limits.proofs.Each.{each_found}
 use Rattle.stamp_lanes.proofs.LaneFacts.{cut_part, cut_lane, order-without, kept-new, kept-there}
 use Rattle.stamp_lanes.proofs.node.keep_in.Goals as goal
 
@@ -12,7 +12,7 @@ put-requires c = rw c.take.ensures.rest (cut_lane c.longer-lane.result.value.ele
 
 pub longer-lane-requires-in-Some : goal.longer-lane-requires-in-Some
 longer-lane-requires-in-Some c =
-    let i = every-found IsLane (at_part c.args.part) c.in-Some.old.value.element c.args.lanes.now c.requires.each (sym c.in-Some.ensures.taken) in
+    let i = each_found IsLane (at_part c.args.part) c.args.lanes.now c.in-Some.old.value.element (sym c.in-Some.ensures.taken) c.requires.each in
     i.fits
 
 pub put-requires-in-Some : goal.put-requires-in-Some

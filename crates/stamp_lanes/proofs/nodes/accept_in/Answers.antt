@@ -1,6 +1,6 @@
 use Rattle.std.proofs.Common.{◌≡◌, Some, None, sym, ◌∙◌}
 use Rattle.stamp_lanes.specs.Stamps.{at_node, node_at, IsNode}
-use Rattle.stamp_lanes.proofs.Every.{every-found}
+use Rattle.lists_and_limits.proofs.Each.{each_found}
 use Rattle.stamp_lanes.proofs.NodeFacts.{cut_node, cut_at, order-without, accept-none, accept-there}
 use Rattle.stamp_lanes.proofs.nodes.accept_in.Goals as goal
 
@@ -8,7 +8,7 @@ pub take-requires : goal.take-requires
 take-requires c = cut_node c.args.member.now.space c.args.member.now.node c.args.tree.now c.requires.order
 
 pub accepted-node-requires : goal.accepted-node-requires
-accepted-node-requires c = every-found IsNode (at_node c.args.member.now.space c.args.member.now.node) c.in-Some.old.value.element c.args.tree.now c.requires.each (sym c.in-Some.ensures.taken)
+accepted-node-requires c = each_found IsNode (at_node c.args.member.now.space c.args.member.now.node) c.args.tree.now c.in-Some.old.value.element (sym c.in-Some.ensures.taken) c.requires.each
 
 pub put-requires : goal.put-requires
 put-requires c = rw c.take.ensures.rest (cut_at c.accepted-node.result.0.value.element _ (order-without c.args.member.now.space c.args.member.now.node c.args.tree.now c.requires.order))

@@ -1,6 +1,6 @@
 use Rattle.std.proofs.Common.{sym}
 use Rattle.stamp_lanes.specs.Stamps.{at_node, IsNode}
-use Rattle.stamp_lanes.proofs.Every.{every-found}
+use Rattle.lists_and_limits.proofs.Each.{each_found}
 use Rattle.stamp_lanes.proofs.NodeFacts.{cut_node}
 use Rattle.stamp_lanes.proofs.lanes.StampLanes.lane_fault.Goals as goal
 
@@ -8,4 +8,4 @@ pub get-requires : goal.get-requires
 get-requires c = cut_node c.args.member.now.space c.args.member.now.node c.self.inside.tree c.self.invariant.order
 
 pub lane_fault-requires : goal.lane_fault-requires
-lane_fault-requires c = let n = every-found IsNode (at_node c.args.member.now.space c.args.member.now.node) c.in-Some.node.now c.self.inside.tree c.self.invariant.each (sym c.in-Some.ensures) in n.order
+lane_fault-requires c = let n = each_found IsNode (at_node c.args.member.now.space c.args.member.now.node) c.self.inside.tree c.in-Some.node.now (sym c.in-Some.ensures) c.self.invariant.each in n.order

@@ -1,6 +1,6 @@
 use Rattle.std.proofs.Common.{sym}
 use Rattle.stamp_lanes.specs.Stamps.{at_node, IsNode}
-use Rattle.stamp_lanes.proofs.Every.{every-found}
+use Rattle.lists_and_limits.proofs.Each.{each_found}
 use Rattle.stamp_lanes.proofs.NodeFacts.{cut_node}
 use Rattle.stamp_lanes.proofs.lanes.StampLanes.next_lane.Goals as goal
 
@@ -8,4 +8,4 @@ pub get-requires : goal.get-requires
 get-requires c = cut_node c.args.space.now c.args.node.now c.self.inside.tree c.self.invariant.order
 
 pub next_in-requires : goal.next_in-requires
-next_in-requires c = let n = every-found IsNode (at_node c.args.space.now c.args.node.now) c.in-Some.node.now c.self.inside.tree c.self.invariant.each (sym c.in-Some.ensures) in n.order
+next_in-requires c = let n = each_found IsNode (at_node c.args.space.now c.args.node.now) c.self.inside.tree c.in-Some.node.now (sym c.in-Some.ensures) c.self.invariant.each in n.order
