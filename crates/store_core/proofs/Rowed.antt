@@ -1,20 +1,19 @@
 -- The rows of tables, element by element.
-use Rattle.std.proofs.Common.{◌≡◌, ℕ, Bool, true, false, List, [], ◌∷◌, ◌++◌, Option, Some, None, refl, sym, ap, subst, ◌∙◌, append_assoc}
+use Rattle.std.proofs.Common.{◌≡◌, ℕ, List, [], ◌∷◌, ◌++◌, Option, Some, None, refl, sym, ap, subst, ◌∙◌, append_assoc}
 use Rattle.std.specs.Prelude.{map, if◌then◌else◌, IfSome}
 use Rattle.std.proofs.lemmas.List.{append-nil}
-use Rattle.std.specs.declared.cmp.Ordering.{Ordering}
-use Rattle.std.specs.Ordering.{is_eq, is_gt}
-use Rattle.std.specs.Cmp.{IsTotalOrder}
+use Rattle.std.specs.Ordering.{is_gt}
 use Rattle.std.proofs.lemmas.Cmp.{tied_itself}
 use Rattle.actor_names.specs.declared.member.Member.{Member}
-use Rattle.search_tree.specs.Lists.{found, first_behind}
-use Rattle.search_tree.specs.Orders.{IsBelow, Ascends}
-use Rattle.search_tree.specs.Walks.{following}
+use Rattle.lists_and_limits.specs.Lists.{found, first_behind}
+use Rattle.lists_and_limits.specs.Orders.{Ascends}
+use Rattle.lists_and_limits.specs.Walks.{following}
+use Rattle.lists_and_limits.proofs.Fronts.{before_of, found-at}
 use Rattle.stamp_lanes.specs.declared.lane.Lane.{Lane}
 use Rattle.stamp_lanes.specs.declared.node.NodeLanes.{NodeLanes}
 use Rattle.stamp_lanes.specs.Lanes.{lane_cmp}
 use Rattle.stamp_lanes.specs.Restores.{member_of}
-use Rattle.stamp_lanes.specs.Stamps.{node_at, node_cmp, after_node, after_part, next_lane, Every}
+use Rattle.stamp_lanes.specs.Stamps.{node_at, node_cmp, after_node, after_part, next_lane}
 use Rattle.stamp_lanes.specs.Orders.{nodes_total}
 use Rattle.state_rows.specs.declared.entry.StateEntry.{StateEntry}
 use Rattle.reminder_rows.specs.declared.row.ReminderRow.{ReminderRow}
@@ -22,7 +21,6 @@ use Rattle.store_tables.specs.declared.row.TableRow.{TableRow}
 use Rattle.store_tables.specs.declared.row.TableRow.TheVariants.{Boot, Lane as LaneOf, State, Reminder}
 use Rattle.store_tables.specs.Tables.{Tables}
 use Rattle.store_tables.specs.Rows.{boot_rows, lane_rows, member_rows, state_rows, reminder_rows}
-use Rattle.store_payloads.specs.Fits.{Each}
 use Rattle.store_payloads.specs.Laws.{snapshot_payloads}
 use Rattle.store_payloads.specs.Payloads.{row_payload}
 use Rattle.store_core.proofs.Walking.{AreRowsOf}
@@ -99,29 +97,10 @@ snapshot_is now t =
     (map_then (row_payload now) (lane_rows t.nodes) (state_rows t.rows ++ reminder_rows t.reminders)
     ∙ ap (λ rs. lane_payloads now t.nodes ++ rs) (map_then (row_payload now) (state_rows t.rows) (reminder_rows t.reminders)))
 
--- ---- what holds of each element
-
-pub each_at : {E : Type 0} (P : E → Type 0) (front : List E) (e : E) (back : List E) → Each P (front ++ e ∷ back) → P e
-each_at P [] e back each = each.0
-each_at P (x ∷ front) e back each = each_at P front e back each.1
-
-pub every_at : {E : Type 0} (P : E → Type 0) (front : List E) (e : E) (back : List E) → Every P (front ++ e ∷ back) → P e
-every_at P [] e back each = each.0
-every_at P (x ∷ front) e back each = every_at P front e back each.1
-
-module _ {E : Type 0} (cmp : E → E → Ordering) (total : IsTotalOrder cmp) where
-  below_in : (x e : E) (front back : List E) → IsBelow cmp x (front ++ e ∷ back) → is_eq (cmp x e) ≡ false
-  below_in x e [] back below = ap is_eq below.0
-  below_in x e (y ∷ front) back below = below_in x e front back below.1
-
-  -- an element is found in its place
-  found_here : (front : List E) (e : E) (back : List E) → Ascends cmp (front ++ e ∷ back) → found (λ x. cmp x e) (front ++ e ∷ back) ≡ Some e
-  found_here [] e back order = ap (λ b. if b then Some e else found (λ x. cmp x e) back) (ap is_eq (tied_itself total e))
-  found_here (x ∷ front) e back order =
-      ap (λ b. if b then Some x else found (λ y. cmp y e) (front ++ e ∷ back)) (below_in x e front back order.0) ∙ found_here front e back order.1
+-- ---- an element in its place
 
 pub node_here : (front : List NodeLanes) (e : NodeLanes) (back : List NodeLanes) → Ascends node_cmp (front ++ e ∷ back) → node_at e.space e.node (front ++ e ∷ back) ≡ Some e
-node_here front e back order = found_here node_cmp nodes_total front e back order
+node_here front e back order = found-at (λ x. x) node_cmp e e front back (before_of (λ x. x) node_cmp front e back order) (tied_itself nodes_total e)
 
 -- ---- walks
 
@@ -154,15 +133,6 @@ next_lane_is place found after here e part known is =
 pub part_is : (o : Option Lane) (r : Option ℕ) → IfSome o (λ l. r ≡ Some l.part) → (o ≡ None → r ≡ None) → r ≡ part_in o
 part_is None r some none = none refl
 part_is (Some l) r some none = some
-
--- what holds of each is so of one that is found
-pub every_found : {E : Type 0} (P : E → Type 0) (probe : E → Ordering) (xs : List E) (e : E) → found probe xs ≡ Some e → Every P xs → P e
-every_found P probe [] e is each = absurd (let f : None ≡ Some e = is in cc)
-every_found {E} P probe (x ∷ xs) e is each = go (is_eq (probe x)) (λ later. every_found P probe xs e later each.1) is
-  where
-    go : (b : Bool) → (found probe xs ≡ Some e → P e) → (if b then Some x else found probe xs) ≡ Some e → P e
-    go true rest is = let same : x ≡ e = cc in subst P same each.0
-    go false rest is = rest is
 
 -- the rows of the lanes of one node
 pub lanes_of_one : (now : ℕ) (e : NodeLanes) → lane_payloads now (e ∷ []) ≡ member_payloads now (member_of e) e.lanes

@@ -3,9 +3,9 @@ use Rattle.std.proofs.Common.{◌≡◌, ℕ, ◌+◌, false, List, [], ◌∷�
 use Rattle.std.proofs.lemmas.List.{append-nil}
 use Rattle.std.specs.declared.cmp.Ordering.{Ordering}
 use Rattle.std.specs.Cmp.{IsTotalOrder}
-use Rattle.search_tree.specs.Orders.{Ascends}
-use Rattle.search_tree.specs.Walks.{following, head_of}
-use Rattle.search_tree.proofs.Walks.{begins, goes-on}
+use Rattle.lists_and_limits.specs.Orders.{Ascends}
+use Rattle.lists_and_limits.specs.Walks.{following, head_of}
+use Rattle.lists_and_limits.proofs.Walks.{begins, goes-on}
 use Rattle.tx_journal.specs.declared.error.JournalError.{JournalError}
 use Rattle.tx_journal.specs.Calls.{JournalState, is_alone}
 use Rattle.store_tables.specs.Tables.{Tables}

@@ -33,7 +33,7 @@ use Rattle.reminder_rows.specs.declared.row.DueKey.{DueKey}
 use Rattle.reminder_rows.specs.declared.error.FiredError.{FiredError}
 use Rattle.reminder_rows.specs.declared.error.FiredError.TheVariants as fired_errors
 use Rattle.reminder_rows.specs.Reminders.{row_at, at_name, reminder_in, by_due, due_cmp, is_after, is_due, due_keys, next_of, fired_answer, IsTimely, AreTimely}
-use Rattle.search_tree.specs.Lists.{found}
+use Rattle.lists_and_limits.specs.Lists.{found}
 use Rattle.wire_fields.specs.Fields.{byte, number16, number32, number64, both, only, maybe, in_any_order, AllFit, MaybeFits}
 use Rattle.wire_fields.specs.Parts.{boot, counter, fixed, small, flag, member}
 use Rattle.wire_fields.specs.Records.{text, blob, moment, schedule, reminder, next, NextFits, op, ops_list, due_key}
@@ -51,9 +51,10 @@ use Rattle.store_tables.specs.Dues.{entry_of, with_entry, entries_of, entry_size
 use Rattle.store_tables.specs.Tables.{Tables, Outcome, Told, Accepted, told_or, nanos_of, kept_as, stamp_refusal, look_answer, stamp_answer, accepted, boot_refusal, boot_answer, state_refusal, ops_answer, value_answer, reminder_answer, fired_refusal, by_fired, fired_outcome, tx_outcome, put_outcome, delete_outcome, store_outcome}
 use Rattle.store_tables.specs.Contents.{Timed, outcome_of}
 use Rattle.store_payloads.specs.Fields.{AnswerFits as KeptFits, lane_answer, kept_number, state_fields, reminder_fields, boot_fields}
-use Rattle.store_payloads.specs.Fits.{Each, BootFits, LanesFit, ReminderFits, TablesFit}
+use Rattle.std.specs.List.{AllByRecursion as Each}
+use Rattle.store_payloads.specs.Fits.{BootFits, LanesFit, ReminderFits, TablesFit}
 use Rattle.store_payloads.specs.Laws.{OutcomeFits}
-use Rattle.store_payloads.proofs.Fitting.{each_found, each_put}
+use Rattle.lists_and_limits.proofs.Each.{each_found, each_put}
 use Rattle.store_payloads.proofs.Keeping.{LaneParts, lane_found, member_fits, may_draw, next_boot, firing_fits, schedule_in}
 
 -- ---- what is told and what is accepted

@@ -10,7 +10,7 @@ use Rattle.schedule_text.specs.declared.advance.Period.{Period}
 use Rattle.schedule_text.specs.declared.advance.Schedule.{Schedule}
 use Rattle.schedule_text.specs.Range.{end_of_time, moment_of}
 use Rattle.schedule_text.specs.Firing.{add_period, sum_of, first_after, following, next_at, is_zero, is_last, next_by, next_firing}
-use Rattle.search_tree.specs.Lists.{found, without, with_put}
+use Rattle.lists_and_limits.specs.Lists.{found, without, with_put}
 use Rattle.stamp_lanes.specs.declared.answer.KeptNumber.{KeptNumber}
 use Rattle.stamp_lanes.specs.declared.lane.Lane.{Lane}
 use Rattle.stamp_lanes.specs.declared.node.NodeLanes.{NodeLanes}
@@ -31,8 +31,9 @@ use Rattle.wire_fields.specs.Parts.{boot, flag, node_place, member, actor, recor
 use Rattle.wire_fields.specs.Records.{text, blob, moment, period, schedule, next, NextFits, reminder, ttl, op, ops_list}
 use Rattle.store_payloads.specs.Payloads.{end_of_moments}
 use Rattle.store_payloads.specs.Fields.{AnswerFits, lane_answer, kept_number, kept_numbers, boot_fields, lane_fields, state_fields, reminder_fields}
-use Rattle.store_payloads.specs.Fits.{Each, BootFits, LaneFits, LanesFit, ReminderFits, TablesFit}
-use Rattle.store_payloads.proofs.Fitting.{each_put, each_without, each_found}
+use Rattle.std.specs.List.{AllByRecursion as Each}
+use Rattle.store_payloads.specs.Fits.{BootFits, LaneFits, LanesFit, ReminderFits, TablesFit}
+use Rattle.lists_and_limits.proofs.Each.{each_put, each_without, each_found}
 
 -- ---- state
 

@@ -36,9 +36,10 @@ use Rattle.store_payloads.specs.declared.payload.StorePayload.{StorePayload}
 use Rattle.store_payloads.specs.Fields.{AnswerFits, lane_answer, kept_number, boot_fields, state_fields, reminder_fields, RowFits, table_row}
 use Rattle.store_payloads.specs.Payloads.{end_of_moments}
 use Rattle.store_payloads.specs.Folds.{Folded, may_come, with_set, after_set, with_act, after_act, after_body, folded, start}
-use Rattle.store_payloads.specs.Fits.{BodyFits, PayloadFits, Each, BootFits, LanesFit, ReminderFits, TablesFit}
+use Rattle.std.specs.List.{AllByRecursion as Each}
+use Rattle.store_payloads.specs.Fits.{BodyFits, PayloadFits, BootFits, LanesFit, ReminderFits, TablesFit}
 use Rattle.store_payloads.specs.Laws.{MayCome, KeepsFit}
-use Rattle.store_payloads.proofs.Fitting.{each_put, each_without, each_found}
+use Rattle.lists_and_limits.proofs.Each.{each_put, each_without, each_found}
 use Rattle.store_payloads.proofs.Keeping.{ops_keep, may_draw, next_boot, bare_keeps, accept_keeps, lane_keeps, firing_fits, schedule_in, put_keeps, fired_keeps}
 
 pub none_fit : TablesFit no_tables

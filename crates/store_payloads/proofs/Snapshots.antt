@@ -9,7 +9,7 @@ use Rattle.store_payloads.specs.declared.fold.FoldPlace.TheVariants.{Rows, Comma
 use Rattle.store_payloads.specs.Fields.{table_row}
 use Rattle.store_payloads.specs.Payloads.{end_of_moments, row_payload, payload_reading}
 use Rattle.store_payloads.specs.Folds.{Folded, folded, fold_from, start, tables_in}
-use Rattle.store_payloads.specs.Fits.{Each}
+use Rattle.std.specs.List.{AllByRecursion as Each}
 use Rattle.store_payloads.specs.FirstForm.{is_first_form}
 use Rattle.store_payloads.specs.Laws.{ReadsRows, ReadsSnapshot, SpellsToday}
 use Rattle.store_payloads.proofs.Fitting.{tables_fit}

@@ -16,7 +16,7 @@ use Rattle.reminder_rows.specs.declared.row.DueKey.{DueKey}
 use Rattle.reminder_rows.specs.declared.error.FiredError.{FiredError}
 use Rattle.reminder_rows.specs.declared.error.FiredError.TheVariants as fired_errors
 use Rattle.reminder_rows.specs.Reminders.{row_at, at_name, reminder_in, put_row, by_due, due_cmp, is_after, is_due, due_keys, next_of, fired_answer, fired_rows, IsTimely, AreTimely}
-use Rattle.search_tree.specs.Lists.{found}
+use Rattle.lists_and_limits.specs.Lists.{found}
 use Rattle.wire_fields.specs.Fields.{number16, number64, both, maybe, in_any_order, AllFit, MaybeFits}
 use Rattle.wire_fields.specs.Parts.{actor, record_name, at_most, boot}
 use Rattle.wire_fields.specs.Records.{text, blob, moment, schedule, reminder, next, NextFits, due_key}
@@ -32,9 +32,10 @@ use Rattle.store_tables.specs.Dues.{entry_of, with_entry, entries_of, entry_size
 use Rattle.store_tables.specs.Tables.{Tables, Outcome, Told, Accepted, nanos_of, stamp_answer, accepted, boot_answer, ops_answer, reminder_answer, fired_refusal, by_fired, fired_outcome, tx_outcome, put_outcome, delete_outcome, store_outcome}
 use Rattle.store_tables.specs.Contents.{Timed, outcome_of}
 use Rattle.store_payloads.specs.Fields.{AnswerFits as KeptFits, reminder_fields}
-use Rattle.store_payloads.specs.Fits.{Each, ReminderFits, TablesFit}
+use Rattle.std.specs.List.{AllByRecursion as Each}
+use Rattle.store_payloads.specs.Fits.{ReminderFits, TablesFit}
 use Rattle.store_payloads.specs.Laws.{MayCome, OutcomeFits, AnswersFit}
-use Rattle.store_payloads.proofs.Fitting.{each_found, each_put}
+use Rattle.lists_and_limits.proofs.Each.{each_found, each_put}
 use Rattle.store_payloads.proofs.Keeping.{may_draw, next_boot, firing_fits, schedule_in}
 use Rattle.store_payloads.proofs.Answering.{or_fits, refused_fits, stamp_told, accepted_fits, done_fits, boot_told, no_fault, fault_told, ops_told, value_told}
 

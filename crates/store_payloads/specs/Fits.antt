@@ -1,5 +1,6 @@
 -- What fits its fields: what a payload says, and tables by the rows of their entries. Own.
-use Rattle.std.specs.Prelude.{◌<◌, List, [], ◌∷◌}
+use Rattle.std.specs.Prelude.{◌<◌}
+use Rattle.std.specs.List.{AllByRecursion as Each}
 use Rattle.stamp_lanes.specs.declared.lane.Lane.{Lane}
 use Rattle.stamp_lanes.specs.declared.node.NodeLanes.{NodeLanes}
 use Rattle.stamp_lanes.specs.Restores.{member_of}
@@ -25,12 +26,6 @@ pub record PayloadFits (p : StorePayload) : Type 0 where
   pub body : BodyFits p.body
 
 -- ---- tables
-
-module _ {A : Type 0} (P : A → Type 0) where
-  -- each of them
-  abbrev pub Each : List A → Type 0
-  Each [] = Unit {0}
-  Each (x ∷ xs) = P x × Each xs
 
 abbrev pub BootFits : NodeLanes → Type 0
 BootFits e = boot_fields.Fits ((e.space, e.node), e.boot)

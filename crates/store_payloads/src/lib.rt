@@ -3,7 +3,7 @@
 //
 // Promise: a payload is read exactly (`specs/Payloads`), and payloads one after another lead to the tables of
 // `fold_from` (`specs/Folds`). It depends on `store_tables`, `frame_wire`, `wire_fields`, `stamp_lanes`, `state_rows`,
-// `reminder_rows`, `schedule_text` and `actor_names`.
+// `reminder_rows`, `schedule_text`, `actor_names` and `lists_and_limits`.
 #![tactic(auto)]
 
 mod error;

@@ -4,7 +4,7 @@ use Rattle.std.specs.Result.{result_err}
 use Rattle.std.specs.declared.cmp.Ordering.{Ordering}
 use Rattle.std.specs.Ordering.{is_eq}
 use Rattle.actor_names.specs.declared.actor_key.ActorKey.{ActorKey}
-use Rattle.search_tree.specs.Lists.{found}
+use Rattle.lists_and_limits.specs.Lists.{found}
 use Rattle.reminder_rows.specs.declared.reminder.Reminder.{Reminder}
 use Rattle.reminder_rows.specs.declared.row.ReminderRow.{ReminderRow}
 use Rattle.reminder_rows.specs.declared.error.FiredError.TheVariants.{NotThere, OtherMoment}

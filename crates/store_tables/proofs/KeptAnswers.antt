@@ -1,13 +1,10 @@
 -- A stamp that was accepted last is looked up with its answer.
-use Rattle.std.proofs.Common.{◌≡◌, ℕ, nat_le, ◌==◌, Bool, true, false, if◌then◌else◌, List, [], ◌∷◌, ◌++◌, length, Option, Some, None, Ok, refl, sym, ap, ◌∙◌, arith}
-use Rattle.std.specs.declared.cmp.Ordering.{Ordering}
+use Rattle.std.proofs.Common.{◌≡◌, ℕ, nat_le, ◌==◌, Bool, true, false, if◌then◌else◌, List, [], ◌∷◌, ◌++◌, length, Option, Some, None, Ok, refl, ap, arith}
 use Rattle.std.specs.Ordering.{is_eq, nat_cmp}
-use Rattle.std.specs.Cmp.{IsTotalOrder}
 use Rattle.std.proofs.lemmas.Bool.Decides.{nat_tests}
-use Rattle.std.proofs.lemmas.Cmp.{alike_right}
 use Rattle.actor_names.specs.declared.member.Member.{Member}
-use Rattle.search_tree.specs.Lists.{found, with_put}
-use Rattle.search_tree.proofs.Maps.{eq-is, put-there}
+use Rattle.lists_and_limits.specs.Lists.{with_put}
+use Rattle.lists_and_limits.proofs.Maps.{found-is, put-tied}
 use Rattle.stamp_lanes.specs.declared.answer.LaneAnswer.{LaneAnswer}
 use Rattle.stamp_lanes.specs.declared.answer.KeptNumber.{KeptNumber}
 use Rattle.stamp_lanes.specs.declared.answer.StampLook.TheVariants.{Fresh, Kept}
@@ -17,29 +14,6 @@ use Rattle.stamp_lanes.specs.Kept.{kept_answer}
 use Rattle.stamp_lanes.specs.Lanes.{new_lane, answered, look_lane, dropped, with_space, lane_after, at_part, lane_cmp, lane_at, lane_or_new, lane_of, lanes_after}
 use Rattle.stamp_lanes.specs.Stamps.{at_node, node_cmp, node_at, bare_node, look_node, look, node_after, nodes_after, after_accept}
 use Rattle.stamp_lanes.specs.Orders.{lanes_total, nodes_total}
-
--- ---- elements in order
-
-module _ {E : Type 0} where
-  found-is : (at : E → Ordering) (e : E) (xs : List E) → found at xs ≡ Some e → is_eq (at e) ≡ true
-  found-is at e [] h = absurd (cc)
-  found-is at e (x ∷ xs) h = go (is_eq (at x)) refl (λ k. found-is at e xs k)
-    where
-      go : (b : Bool) → is_eq (at x) ≡ b → (found at xs ≡ Some e → is_eq (at e) ≡ true) → is_eq (at e) ≡ true
-      go true t ih =
-          let k : Some x ≡ Some e = rw t at h in
-          let same : x ≡ e = cc in
-          rw (← same) t
-      go false t ih = ih (rw t at h)
-
-  module _ (cmp : E → E → Ordering) (total : IsTotalOrder cmp) where
-    found-tied : (p q : E) → is_eq (cmp p q) ≡ true → (xs : List E) → found (λ x. cmp x p) xs ≡ found (λ x. cmp x q) xs
-    found-tied p q t [] = refl
-    found-tied p q t (x ∷ xs) = rw (alike_right total p q x (eq-is (cmp p q) t), found-tied p q t xs) refl
-
-    -- an element that is put is found at each place that is tied with it
-    found-put : (e q : E) (xs : List E) → is_eq (cmp e q) ≡ true → found (λ x. cmp x q) (with_put cmp e xs) ≡ Some e
-    found-put e q xs t = sym (found-tied e q t (with_put cmp e xs)) ∙ put-there cmp total e xs
 
 -- ---- one lane
 
@@ -102,7 +76,7 @@ lane_of-after : (part : ℕ) (k : KeptNumber) (lanes : List Lane) → lane_of pa
 lane_of-after part k lanes =
     let lane = lane_of part lanes in
     let tied : is_eq (nat_cmp (lane_after lane k).part part) ≡ true = rw (space-part lane) (lane-tied part lanes) in
-    ap (λ (o : Option Lane). lane_or_new part o) (found-put lane_cmp lanes_total (lane_after lane k) (new_lane part) lanes tied)
+    ap (λ (o : Option Lane). lane_or_new part o) (put-tied (λ x. x) lane_cmp lanes_total (lane_after lane k) (new_lane part) lanes tied)
 
 -- ---- nodes
 
@@ -124,5 +98,5 @@ look-accepted member part k nodes f = go (node_at member.space member.node nodes
     go (Some e) h =
         let g : look_node member.boot part k.number (Some e) ≡ Ok Fresh = rw h at f in
         let tied : is_eq (at_node member.space member.node e) ≡ true = found-is (at_node member.space member.node) e nodes h in
-        let there : node_at member.space member.node (with_put node_cmp (node_after part k e) nodes) ≡ Some (node_after part k e) = found-put node_cmp nodes_total (node_after part k e) (bare_node member.space member.node 0) nodes tied in
+        let there : node_at member.space member.node (with_put node_cmp (node_after part k e) nodes) ≡ Some (node_after part k e) = put-tied (λ x. x) node_cmp nodes_total (node_after part k e) (bare_node member.space member.node 0) nodes tied in
         rw there (look-node member.boot part k e g)

@@ -2,18 +2,18 @@
 use Rattle.std.proofs.Common.{◌≡◌, ◌≤◌, ◌^◌, ℕ, Bool, true, false, List, [], ◌∷◌, ◌++◌, Option, Some, None, refl, sym, ap, subst, ◌∙◌, append_assoc, arith}
 use Rattle.std.specs.Prelude.{max, nat_le, is_none, is_some, ◌&&◌}
 use Rattle.std.proofs.lemmas.Bool.Decides.{nat_tests}
-use Rattle.std.specs.declared.cmp.Ordering.{Ordering}
-use Rattle.std.specs.declared.cmp.Ordering.TheVariants.{Less, Equal}
+use Rattle.std.specs.declared.cmp.Ordering.TheVariants.{Equal}
 use Rattle.std.specs.Ordering.{nat_cmp, ordering_then, is_eq, is_lt}
 use Rattle.std.proofs.lemmas.Cmp.{tied_itself}
 use Rattle.actor_names.specs.declared.member.Member.{Member}
-use Rattle.search_tree.specs.Lists.{found}
-use Rattle.search_tree.specs.Orders.{IsBelow, Ascends}
-use Rattle.search_tree.proofs.Walks.{put-last}
+use Rattle.lists_and_limits.specs.Orders.{IsBelow, Ascends}
+use Rattle.lists_and_limits.proofs.Fronts.{none_before, before_of}
+use Rattle.lists_and_limits.proofs.Walks.{put-last}
 use Rattle.stamp_lanes.specs.declared.lane.Lane.{Lane}
 use Rattle.stamp_lanes.specs.declared.node.NodeLanes.{NodeLanes}
 use Rattle.stamp_lanes.specs.Lanes.{lane_cmp}
-use Rattle.stamp_lanes.specs.Stamps.{greatest_boot, node_cmp, Every, IsNode}
+use Rattle.std.specs.List.{AllByRecursion as Every}
+use Rattle.stamp_lanes.specs.Stamps.{greatest_boot, node_cmp, IsNode}
 use Rattle.stamp_lanes.specs.Orders.{nodes_total}
 use Rattle.stamp_lanes.specs.Restores.{Row, BootRow, LaneRow, boot_row_fault, lane_row_fault, member_of, row_fault, after_row, rows_of_member, boot_rows as lanes_boot_rows, lane_rows as lanes_lane_rows, rows_of, Restores as LanesRestore}
 use Rattle.state_rows.specs.declared.entry.StateEntry.{StateEntry}
@@ -32,17 +32,6 @@ use Rattle.store_tables.specs.Rows.{boot_rows, member_rows, lane_rows, state_row
 nil_right : {A : Type 0} (xs : List A) → xs ++ [] ≡ xs
 nil_right [] = refl
 nil_right (x ∷ xs) = ap (λ ys. x ∷ ys) (nil_right xs)
-
--- ---- an element behind a list isn't in it
-
-module _ {E : Type 0} (cmp : E → E → Ordering) where
-  below_in : (x e : E) (front back : List E) → IsBelow cmp x (front ++ e ∷ back) → cmp x e ≡ Less
-  below_in x e [] back b = b.0
-  below_in x e (y ∷ front) back b = below_in x e front back b.1
-
-  found_none : (front : List E) (e : E) (back : List E) → Ascends cmp (front ++ e ∷ back) → found (λ x. cmp x e) front ≡ None
-  found_none [] e back a = refl
-  found_none (x ∷ front) e back a = rw (below_in x e front back a.0) (found_none front e back a.1)
 
 -- ---- rows lead back
 
@@ -87,7 +76,7 @@ states_lead front [] t tail u order leads = subst (λ (l : List StateEntry). Res
 states_lead front (e ∷ back) t tail u order leads =
     let regrouped : (front ++ e ∷ []) ++ back ≡ front ++ e ∷ back = append_assoc front (e ∷ []) back in
     let rest = states_lead (front ++ e ∷ []) back t tail u (subst (Ascends row_cmp) (sym regrouped) order) (subst (λ (l : List StateEntry). Restores tail (record t { rows = l }) u) (sym regrouped) leads) in (
-      ap is_none (found_none row_cmp front e back order),
+      ap is_none (none_before (λ x. x) row_cmp e front (before_of (λ x. x) row_cmp front e back order)),
       subst (λ (l : List StateEntry). Restores (state_rows back ++ tail) (record t { rows = l }) u) (sym (put-last row_cmp rows_total front e back order)) rest,
     )
 
@@ -98,7 +87,7 @@ reminders_lead front (e ∷ back) t u order timely is =
     let rest = reminders_lead (front ++ e ∷ []) back t u (subst (Ascends reminder_cmp) (sym regrouped) order) timely.1 (ap (λ (l : List ReminderRow). record t { reminders = l }) regrouped ∙ is) in
     let put : put_at e.reminder.schedule.first e.key.actor e.key.name e.reminder front ≡ front ++ e ∷ [] =
     ap (λ o. put_at o e.key.actor e.key.name e.reminder front) timely.0 ∙ put-last reminder_cmp reminders_total front e back order in (
-      and_true (is_some e.reminder.schedule.first) _ (ap is_some timely.0) (ap is_none (found_none reminder_cmp front e back order)),
+      and_true (is_some e.reminder.schedule.first) _ (ap is_some timely.0) (ap is_none (none_before (λ x. x) reminder_cmp e front (before_of (λ x. x) reminder_cmp front e back order))),
       subst (λ (l : List ReminderRow). Restores (reminder_rows back) (record t { reminders = l }) u) (sym put) rest,
     )
 

@@ -1,6 +1,7 @@
 -- Tables in order. Own.
-use Rattle.search_tree.specs.Orders.{Ascends}
-use Rattle.stamp_lanes.specs.Stamps.{node_cmp, Every, IsNode}
+use Rattle.lists_and_limits.specs.Orders.{Ascends}
+use Rattle.std.specs.List.{AllByRecursion as Every}
+use Rattle.stamp_lanes.specs.Stamps.{node_cmp, IsNode}
 use Rattle.state_rows.specs.Entries.{row_cmp}
 use Rattle.reminder_rows.specs.Reminders.{row_cmp as reminder_cmp, AreTimely}
 use Rattle.store_tables.specs.Tables.{Tables}

@@ -5,7 +5,7 @@ use Rattle.std.specs.declared.cmp.Ordering.TheVariants.{Less}
 use Rattle.std.specs.Ordering.{nat_cmp, ordering_then, is_lt}
 use Rattle.std.specs.Cmp.Lexicographic.{slice_cmp}
 use Rattle.actor_names.specs.declared.member.Member.{Member}
-use Rattle.search_tree.specs.Lists.{with_put}
+use Rattle.lists_and_limits.specs.Lists.{with_put}
 use Rattle.stamp_lanes.specs.declared.lane.Lane.{Lane}
 use Rattle.stamp_lanes.specs.declared.node.NodeLanes.{NodeLanes}
 use Rattle.stamp_lanes.specs.Restores.{boot_row_fault, lane_row_fault, after_boot_row, after_lane_row, member_of}

@@ -2,8 +2,8 @@
 //
 // Promise: a command is told an answer and changes nothing, or it is accepted and leaves the tables of `store_outcome`
 // (`specs/Tables`). Of all lists of commands, no stamp is accepted twice (`outcome_law`). After `prepare` an `apply`
-// can't fail. It depends on `frame_wire`, `wire_fields`, `stamp_lanes`, `state_rows`, `reminder_rows`, `search_tree`,
-// `schedule_text` and `actor_names`.
+// can't fail. It depends on `frame_wire`, `wire_fields`, `stamp_lanes`, `state_rows`, `reminder_rows`,
+// `schedule_text`, `actor_names` and `lists_and_limits`.
 #![tactic(auto)]
 
 mod answers;

@@ -1,7 +1,7 @@
 // Rows of a snapshot: the tables are walked over in order, and rows are taken in.
 ghost use Rattle.std.specs.Prelude.{◌≡◌, ◌≤◌, true, false, None, Some, if◌then◌else◌, option_copied, IfOk, OnOk, OnErr};
-ghost use Rattle.search_tree.specs.Lists.{first_behind};
-ghost use Rattle.search_tree.specs.Walks.{following};
+ghost use Rattle.lists_and_limits.specs.Lists.{first_behind};
+ghost use Rattle.lists_and_limits.specs.Walks.{following};
 ghost use Rattle.stamp_lanes.specs.Stamps.{node_at, after_node, next_lane};
 ghost use Rattle.state_rows.specs.Entries.{row_cmp};
 ghost use Rattle.reminder_rows.specs.Reminders.{row_cmp as reminder_cmp};

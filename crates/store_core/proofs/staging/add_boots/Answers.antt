@@ -3,8 +3,10 @@ use Rattle.std.specs.Option.{option_copied}
 use Rattle.std.proofs.lemmas.Result.{err_from_is_err_and}
 use Rattle.stamp_lanes.specs.Stamps.{node_cmp}
 use Rattle.stamp_lanes.specs.Orders.{nodes_total}
-use Rattle.store_payloads.specs.Fits.{Each, BootFits}
-use Rattle.store_core.proofs.Rowed.{boot_payloads, boots_are, next_node_is, each_at}
+use Rattle.std.specs.List.{AllByRecursion as Each}
+use Rattle.lists_and_limits.proofs.Each.{each_at}
+use Rattle.store_payloads.specs.Fits.{BootFits}
+use Rattle.store_core.proofs.Rowed.{boot_payloads, boots_are, next_node_is}
 use Rattle.store_core.proofs.Stagings.{stopped}
 use Rattle.store_core.proofs.Adding.{may_staged}
 use Rattle.store_core.proofs.Walking.{walked_none, walked_all, walked_more, walked_miss, rest, here}

@@ -3,9 +3,11 @@ use Rattle.std.specs.Option.{option_copied}
 use Rattle.std.proofs.lemmas.Result.{err_from_is_err_and}
 use Rattle.stamp_lanes.specs.Stamps.{node_cmp}
 use Rattle.stamp_lanes.specs.Orders.{nodes_total}
-use Rattle.store_payloads.specs.Fits.{Each, LanesFit}
+use Rattle.std.specs.List.{AllByRecursion as Each}
+use Rattle.lists_and_limits.proofs.Each.{each_at}
+use Rattle.store_payloads.specs.Fits.{LanesFit}
 use Rattle.store_core.specs.Compacts.{IsStaged, Misses}
-use Rattle.store_core.proofs.Rowed.{lane_payloads, lanes_are, lanes_of_one, next_node_is, node_known, each_at}
+use Rattle.store_core.proofs.Rowed.{lane_payloads, lanes_are, lanes_of_one, next_node_is, node_known}
 use Rattle.store_core.proofs.Stagings.{stopped}
 use Rattle.store_core.proofs.Adding.{may_staged}
 use Rattle.store_core.proofs.Walking.{IsWalked, walked_none, walked_all, walked_more, walked_miss, rest, here}

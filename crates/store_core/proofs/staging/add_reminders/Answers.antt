@@ -3,8 +3,10 @@ use Rattle.std.specs.Option.{option_copied}
 use Rattle.std.proofs.lemmas.Result.{err_from_is_err_and}
 use Rattle.reminder_rows.specs.Reminders.{row_cmp}
 use Rattle.reminder_rows.specs.Orders.{rows_total}
-use Rattle.store_payloads.specs.Fits.{Each, ReminderFits}
-use Rattle.store_core.proofs.Rowed.{reminder_payloads, reminders_are, each_at}
+use Rattle.std.specs.List.{AllByRecursion as Each}
+use Rattle.lists_and_limits.proofs.Each.{each_at}
+use Rattle.store_payloads.specs.Fits.{ReminderFits}
+use Rattle.store_core.proofs.Rowed.{reminder_payloads, reminders_are}
 use Rattle.store_core.proofs.Stagings.{stopped}
 use Rattle.store_core.proofs.Adding.{may_staged}
 use Rattle.store_core.proofs.Walking.{walked_none, walked_all, walked_more, walked_miss, rest, here}
