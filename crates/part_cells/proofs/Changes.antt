@@ -6,16 +6,17 @@ use Rattle.part_cells.specs.declared.actor_cell.ActorCell.{ActorCell}
 use Rattle.part_cells.specs.Cells.{cell_at, drop_cell, insert_cell, put_cell}
 use Rattle.part_cells.specs.Order.{AreInOrder}
 use Rattle.part_cells.proofs.KeyOrders.{equal_self}
-use Rattle.part_cells.proofs.Elements.{cut, In-cell_at, key-cell_at, none_at, drop-none}
+use Rattle.lists_and_limits.proofs.Elements.{In-cut}
+use Rattle.part_cells.proofs.Elements.{In-cell_at, key-cell_at, none_at, drop-none}
 use Rattle.part_cells.proofs.Forks.{at_here, put_here}
 
 -- a cell among cells in order is found
 pub at-In : (cs : List ActorCell) (c : ActorCell) → AreInOrder cs → In c cs → cell_at cs c.key ≡ Some c
-at-In cs c o i = let m = cut cs c i in let a = rw m.2 at o in rw m.2 (at_here c.key m.0 c m.1 a (equal_self c.key))
+at-In cs c o i = let m = In-cut cs c i in let a = rw m.2 at o in rw m.2 (at_here c.key m.0 c m.1 a (equal_self c.key))
 
 -- putting what is there changes nothing
 pub put-In : (cs : List ActorCell) (c : ActorCell) → AreInOrder cs → In c cs → put_cell cs c ≡ cs
-put-In cs c o i = let m = cut cs c i in let a = rw m.2 at o in rw m.2 (put_here c m.0 c m.1 a (equal_self c.key))
+put-In cs c o i = let m = In-cut cs c i in let a = rw m.2 at o in rw m.2 (put_here c m.0 c m.1 a (equal_self c.key))
 
 -- and so does putting back what was taken
 pub insert-taken : (cs : List ActorCell) (key : ActorKey) (c : ActorCell) → cell_at cs key ≡ Some c → AreInOrder cs → insert_cell (drop_cell cs key) c ≡ cs

@@ -1,5 +1,5 @@
 -- Which cells are among those that a change leaves, and which cell is found.
-use Rattle.std.proofs.Common.{◌≡◌, ◌⊎◌, true, false, List, [], ◌∷◌, ◌++◌, Some, None, refl, sym, ap, subst, ◌∙◌, inl, inr}
+use Rattle.std.proofs.Common.{◌≡◌, ◌⊎◌, true, false, List, [], ◌∷◌, Some, None, refl, sym, ap, subst, ◌∙◌, inl, inr}
 use Rattle.std.proofs.lemmas.Bool.{cond_both, cond-false}
 use Rattle.actor_names.specs.declared.actor_key.ActorKey.{ActorKey}
 use Rattle.turn_core.specs.CellSound.{In}
@@ -7,28 +7,6 @@ use Rattle.part_cells.specs.declared.actor_cell.ActorCell.{ActorCell}
 use Rattle.actor_names.specs.Same.{same_key, key_before}
 use Rattle.part_cells.specs.Cells.{cell_at, drop_cell, insert_cell, put_cell, keep_cell, is_kept}
 use Rattle.part_cells.proofs.KeyOrders.{same_key-true}
-
--- ---- lists
-
--- a list is cut at each of its elements
-pub cut : {A : Type 0} (xs : List A) (x : A) → In x xs → (l : List A) × (r : List A) × (xs ≡ l ++ x ∷ r)
-cut [] x i = absurd i
-cut (y ∷ xs) x (inl e) = ([], xs, ap (λ z. z ∷ xs) (sym e))
-cut (y ∷ xs) x (inr i) = let m = cut xs x i in (y ∷ m.0, m.1, ap (λ ys. y ∷ ys) m.2)
-
-pub In-front : {A : Type 0} (l m : List A) (x : A) → In x l → In x (l ++ m)
-In-front [] m x i = absurd i
-In-front (y ∷ l) m x (inl e) = inl e
-In-front (y ∷ l) m x (inr i) = inr (In-front l m x i)
-
-pub In-back : {A : Type 0} (l m : List A) (x : A) → In x m → In x (l ++ m)
-In-back [] m x i = i
-In-back (y ∷ l) m x i = inr (In-back l m x i)
-
-pub In-either : {A : Type 0} (l m : List A) (x : A) → In x (l ++ m) → In x l ⊎ In x m
-In-either [] m x i = inr i
-In-either (y ∷ l) m x (inl e) = inl (inl e)
-In-either (y ∷ l) m x (inr i) = elim (In-either l m x i) [ inl j ↦ inl (inr j) | inr j ↦ inr j ]
 
 -- ---- the cell that is found
 

@@ -19,7 +19,7 @@ use Rattle.part_cells.proofs.Changes.{at-In, put-missing}
 use Rattle.part_cells.proofs.KeyOrders.{same_key-true}
 use Rattle.part_cells.proofs.Sizes.{total-put-found, total-insert_cell, total-taken}
 use Rattle.part_cells.specs.Slots.{cells_in, AreSlotsKept, IsSettled, IsFoundAt}
-use Rattle.part_cells.proofs.Elements.{cut, In-front, In-back, In-either}
+use Rattle.lists_and_limits.proofs.Elements.{In-cut, In-left, In-right, In-append}
 use Rattle.part_cells.proofs.Placed.{same-tied, In-cells, cells-In, at_slot, look_up, front_apart, behind_apart, changed_here, dropped_here, removed_here, added_here, In-placed, placed-In}
 
 pub same_some : {A : Type 0} (x y : A) → Some x ≡ Some y → x ≡ y
@@ -93,7 +93,7 @@ module _ (at : ℕ → Option ActorCell) (ps : List (ActorKey × ℕ)) (look : �
   module _ (s : ℕ) (c x : ActorCell) (at' : ℕ → Option ActorCell) (e : at s ≡ Some c) (e' : at' s ≡ Some x) (others : (m : ℕ) → (m ≡ s → ⊥) → at' m ≡ at m) (key : x.key ≡ c.key) where
     pub changed : cells_in at' ps ≡ put_cell (cells_in at ps) x
     changed =
-        let m = cut ps (c.key, s) (k.held s c e) in
+        let m = In-cut ps (c.key, s) (k.held s c e) in
         let o : AreInOrder (cells_in at (m.0 ++ (c.key, s) ∷ m.1)) = subst (λ qs. AreInOrder (cells_in at qs)) m.2 k.in_order in
         subst (λ qs. cells_in at' qs ≡ put_cell (cells_in at qs) x) (sym m.2) (changed_here at s c e m.0 m.1 o at' others x e' key)
 
@@ -169,14 +169,14 @@ module _ (at : ℕ → Option ActorCell) (ps : List (ActorKey × ℕ)) (look : �
 
     cut_at : IsCutAt
     cut_at =
-        let m = cut ps (c.key, s) (k.held s c e) in
+        let m = In-cut ps (c.key, s) (k.held s c e) in
         let o : AreInOrder (cells_in at (m.0 ++ (c.key, s) ∷ m.1)) = subst (λ qs. AreInOrder (cells_in at qs)) m.2 k.in_order in
         record {
           front = m.0;
           behind = m.1;
           same = m.2;
           in_order = o;
-          removed = ap (remove_entry (is_at (key_cmp c.key))) m.2 ∙ removed_here at s c e m.0 m.1 o (λ q i. k.placed q (subst (In q) (sym m.2) (In-front m.0 ((c.key, s) ∷ m.1) q i)));
+          removed = ap (remove_entry (is_at (key_cmp c.key))) m.2 ∙ removed_here at s c e m.0 m.1 o (λ q i. k.placed q (subst (In q) (sym m.2) (In-left m.0 ((c.key, s) ∷ m.1) q i)));
         }
 
     pub dropped : cells_in at' dropped_places ≡ drop_cell (cells_in at ps) c.key
@@ -220,9 +220,9 @@ module _ (at : ℕ → Option ActorCell) (ps : List (ActorKey × ℕ)) (look : �
           let m = cut_at in
           record {
             placed = λ q i. (
-                let j : In q ps × (q.1 ≡ s → ⊥) = elim (In-either m.front m.behind q (subst (In q) m.removed i)) [
-                  | inl a ↦ (subst (In q) (sym m.same) (In-front m.front ((c.key, s) ∷ m.behind) q a), front_apart at s c e m.front m.behind m.in_order q a)
-                  | inr b ↦ (subst (In q) (sym m.same) (In-back m.front ((c.key, s) ∷ m.behind) q (inr b)), behind_apart at s c e m.front m.behind m.in_order q b)
+                let j : In q ps × (q.1 ≡ s → ⊥) = elim (In-append m.front m.behind q (subst (In q) m.removed i)) [
+                  | inl a ↦ (subst (In q) (sym m.same) (In-left m.front ((c.key, s) ∷ m.behind) q a), front_apart at s c e m.front m.behind m.in_order q a)
+                  | inr b ↦ (subst (In q) (sym m.same) (In-right m.front ((c.key, s) ∷ m.behind) q (inr b)), behind_apart at s c e m.front m.behind m.in_order q b)
                 ] in
                 let f = k.placed q j.0 in
                 (f.0, others q.1 j.1 ∙ f.1, f.2)
@@ -230,9 +230,9 @@ module _ (at : ℕ → Option ActorCell) (ps : List (ActorKey × ℕ)) (look : �
             held = λ z d f. (
                 let apart = not_here z d f in
                 let i = subst (In (d.key, z)) m.same (k.held z d (sym (others z apart) ∙ f)) in
-                subst (In (d.key, z)) (sym m.removed) (elim (In-either m.front ((c.key, s) ∷ m.behind) (d.key, z) i) [
-                  | inl a ↦ In-front m.front m.behind (d.key, z) a
-                  | inr b ↦ elim b [ inl q ↦ absurd (apart (ap (λ (p : ActorKey × ℕ). p.1) q)) | inr j ↦ In-back m.front m.behind (d.key, z) j ]
+                subst (In (d.key, z)) (sym m.removed) (elim (In-append m.front ((c.key, s) ∷ m.behind) (d.key, z) i) [
+                  | inl a ↦ In-left m.front m.behind (d.key, z) a
+                  | inr b ↦ elim b [ inl q ↦ absurd (apart (ap (λ (p : ActorKey × ℕ). p.1) q)) | inr j ↦ In-right m.front m.behind (d.key, z) j ]
                 ])
                 );
             in_order = subst AreInOrder (sym dropped) (order-drop_cell (cells_in at ps) c.key k.in_order);

@@ -8,7 +8,8 @@ use Rattle.actor_names.specs.Same.{same_key, key_before}
 use Rattle.part_cells.specs.Cells.{drop_cell, insert_cell, put_cell, keep_cell, is_kept}
 use Rattle.part_cells.specs.Order.{AreInOrder}
 use Rattle.part_cells.proofs.KeyOrders.{key_trans, key_after}
-use Rattle.part_cells.proofs.Elements.{In-back, In-drop_cell, In-insert_cell, other_key}
+use Rattle.lists_and_limits.proofs.Elements.{In-right}
+use Rattle.part_cells.proofs.Elements.{In-drop_cell, In-insert_cell, other_key}
 
 -- ---- the parts of cells in order
 
@@ -19,7 +20,7 @@ order_back (c ∷ l) m o = order_back l m o.1
 -- those before a cell have keys before its own
 pub before_middle : (l : List ActorCell) (x : ActorCell) (r : List ActorCell) → AreInOrder (l ++ x ∷ r) → (d : ActorCell) → In d l → key_before d.key x.key ≡ true
 before_middle [] x r o d i = absurd i
-before_middle (c ∷ l) x r o d (inl e) = subst (λ (z : ActorCell). key_before z.key x.key ≡ true) (sym e) (o.0 x (In-back l (x ∷ r) x (inl refl)))
+before_middle (c ∷ l) x r o d (inl e) = subst (λ (z : ActorCell). key_before z.key x.key ≡ true) (sym e) (o.0 x (In-right l (x ∷ r) x (inl refl)))
 before_middle (c ∷ l) x r o d (inr i) = before_middle l x r o.1 d i
 
 pub behind_middle : (l : List ActorCell) (x : ActorCell) (r : List ActorCell) → AreInOrder (l ++ x ∷ r) → (d : ActorCell) → In d r → key_before x.key d.key ≡ true

@@ -14,7 +14,7 @@ use Rattle.part_cells.specs.declared.actor_cell.ActorCell.{ActorCell}
 use Rattle.part_cells.specs.Cells.{calls_in, total}
 use Rattle.part_cells.specs.Slots.{is_among, with_found, cells_in, AreSlotsKept, IsVisited, each_list, list_at, number_at, first_where, least_of, lesser_at, open_calls, late_calls, next_calls, opened_calls}
 use Rattle.part_cells.specs.Order.{AreInOrder}
-use Rattle.part_cells.proofs.Elements.{In-back, In-either}
+use Rattle.lists_and_limits.proofs.Elements.{In-right, In-append}
 use Rattle.part_cells.proofs.Placed.{front_apart, behind_apart, same_cells}
 
 pub among-turns : (m : ℕ) (ts : List Turn) → is_among m (turn_calls ts) ≡ has_turn m ts
@@ -153,7 +153,7 @@ module _ (f : ActorCell → ActorCell) (g : ActorCell → List ℕ) (h : ActorCe
   module _ (p : ActorKey × ℕ) (left : List (ActorKey × ℕ)) (at : ℕ → Option ActorCell) (after : List ℕ) (n : ℕ) (s : IsInPass f g h places (p ∷ left) cells at before after n) (look : ℕ → Option ℕ) (count : ℕ) (k : AreSlotsKept at places look count) where
     apart : (q : ActorKey × ℕ) → In q s.done ⊎ In q left → q.1 ≡ p.1 → ⊥
     apart q i same =
-        let m = k.placed p (subst (In p) (sym s.cut) (In-back s.done (p ∷ left) p (inl refl))) in
+        let m = k.placed p (subst (In p) (sym s.cut) (In-right s.done (p ∷ left) p (inl refl))) in
         let it : p ≡ (m.0.key, p.1) = λ j. (sym m.2 j, p.1) in
         let o : AreInOrder (cells_in at (s.done ++ (m.0.key, p.1) ∷ left)) = subst (λ (z : ActorKey × ℕ). AreInOrder (cells_in at (s.done ++ z ∷ left))) it (subst (λ qs. AreInOrder (cells_in at qs)) s.cut k.in_order) in
         elim i [
@@ -172,7 +172,7 @@ module _ (f : ActorCell → ActorCell) (g : ActorCell → List ℕ) (h : ActorCe
           done = s.done ++ p ∷ [];
           begun = s.begun;
           cut = s.cut ∙ sym (append_assoc s.done (p ∷ []) left);
-          visited = λ q i. elim (In-either s.done (p ∷ []) q i) [
+          visited = λ q i. elim (In-append s.done (p ∷ []) q i) [
             | inl a ↦ v.others q.1 (apart q (inl a)) ∙ s.visited q a
             | inr b ↦ elim b [
               | inl e ↦ ap (λ (z : ActorKey × ℕ). at' z.1) e ∙ v.cell ∙ ap (option_map f) (s.coming p (inl refl)) ∙ ap (λ (z : ActorKey × ℕ). option_map f (s.first z.1)) (sym e)

@@ -2,7 +2,7 @@
 //
 // Promise: `Cells` is seen as the list of its cells in order of key, and each of its changes is a change of that list,
 // as defined in `specs/Cells` and `specs/Slots`. The index has one entry for each call that is open or waits, and no
-// other. Depends on `turn_core`, `place_table`, `actor_names` and `slab`.
+// other. Depends on `turn_core`, `place_table`, `actor_names`, `lists_and_limits` and `slab`.
 #![tactic(auto)]
 
 mod actor_cell;

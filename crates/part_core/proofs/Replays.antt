@@ -1,7 +1,8 @@
 -- Replaying marks from the cells as they were gives the cells as they are: look-ups after changes, and lists of marks.
-use Rattle.std.proofs.Common.{◌≡◌, ◌⊎◌, ℕ, Bool, true, false, cond, List, [], ◌∷◌, ◌++◌, Option, None, Some, refl, sym, ap, ◌∙◌, subst, inl, inr}
+use Rattle.std.proofs.Common.{◌≡◌, ℕ, Bool, true, false, cond, List, [], ◌∷◌, ◌++◌, Option, None, Some, refl, sym, ap, ◌∙◌, subst, inl, inr}
 use Rattle.std.proofs.lemmas.Bool.{or_parts, cond_both, cond-true, cond-false, false≢true, true≢false, cases_Bool}
 use Rattle.actor_names.specs.declared.actor_key.ActorKey.{ActorKey}
+pub use Rattle.lists_and_limits.proofs.Elements.{In-append}
 use Rattle.turn_core.specs.declared.cell.Turn.{Turn}
 use Rattle.turn_core.specs.CellSound.{In}
 use Rattle.part_cells.specs.declared.actor_cell.ActorCell.{ActorCell}
@@ -90,11 +91,6 @@ cell_at-In (x ∷ cs) c d i =
     ]
 
 -- ---- marks of one actor
-
-pub In-append : {A : Type 0} (xs ys : List A) (x : A) → In x (xs ++ ys) → In x xs ⊎ In x ys
-In-append [] ys x h = inr h
-In-append (y ∷ xs) ys x (inl e) = inl (inl e)
-In-append (y ∷ xs) ys x (inr i) = elim (In-append xs ys x i) [ inl l ↦ inl (inr l) | inr r ↦ inr r ]
 
 abbrev pub IsOf : PartMark → ActorKey → Type 0
 IsOf (TurnBegan key call chain) k = key ≡ k

@@ -1,7 +1,8 @@
 // One part of a sidecar: the actors whose keys fall into it, its stage in a placement round and its table.
 //
 // Promise: each step of a `Part` follows the part's state machine (`specs/Part`). As a machine (`specs/Machine`) it
-// can be put behind a gate. Depends on `state_machine`, `part_cells`, `place_table`, `turn_core` and `actor_names`.
+// can be put behind a gate. Depends on `state_machine`, `part_cells`, `place_table`, `turn_core`, `actor_names` and
+// `lists_and_limits`.
 #![tactic(auto)]
 
 mod actors;

@@ -1,26 +1,12 @@
--- Elements of lists that were joined, and of lists with one element more or less.
-use Rattle.std.proofs.Common.{◌≡◌, ◌⊎◌, ℕ, ◌≤◌, List, [], ◌∷◌, ◌++◌, length, refl, ap, inl, inr, arith}
+-- Elements of lists with one element less.
+use Rattle.std.proofs.Common.{◌≡◌, ℕ, ◌≤◌, List, [], ◌∷◌, length, refl, ap, inl, inr, arith}
 use Rattle.std.specs.Prelude.{◌==◌}
 use Rattle.std.proofs.lemmas.Bool.{cond_both, eqb-true}
 use Rattle.turn_core.specs.declared.cell.Turn.{Turn}
 use Rattle.turn_core.specs.declared.cell.Waiter.{Waiter}
 use Rattle.turn_core.specs.Cell.{without_turn, without_waiter, without_first_unmoved, all_moved}
 use Rattle.turn_core.specs.CellSound.{In}
-
-pub In-left : {A : Type 0} (xs ys : List A) (x : A) → In x xs → In x (xs ++ ys)
-In-left [] ys x h = absurd h
-In-left (y ∷ xs) ys x (inl e) = inl e
-In-left (y ∷ xs) ys x (inr i) = inr (In-left xs ys x i)
-
-pub In-last : {A : Type 0} (xs : List A) (x : A) → In x (xs ++ x ∷ [])
-In-last [] x = inl refl
-In-last (y ∷ xs) x = inr (In-last xs x)
-
-pub In-push : {A : Type 0} (xs : List A) (y x : A) → In x (xs ++ y ∷ []) → In x xs ⊎ (x ≡ y)
-In-push [] y x (inl e) = inr e
-In-push [] y x (inr i) = absurd i
-In-push (z ∷ xs) y x (inl e) = inl (inl e)
-In-push (z ∷ xs) y x (inr i) = elim (In-push xs y x i) [ inl l ↦ inl (inr l) | inr r ↦ inr r ]
+pub use Rattle.lists_and_limits.proofs.Elements.{In-left, In-last, In-push}
 
 pub In-without_turn : (call : ℕ) (ts : List Turn) (t : Turn) → In t (without_turn call ts) → In t ts
 In-without_turn call [] t h = h

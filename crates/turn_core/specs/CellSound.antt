@@ -1,14 +1,10 @@
 -- What stays true of a cell, whatever calls it takes. Own.
-use Rattle.std.specs.Prelude.{◌≡◌, ◌≤◌, ◌^◌, ◌+◌, ◌==◌, ℕ, ◌⊎◌, nat_lt, if◌then◌else◌, List, [], ◌∷◌, length, Option, is_some}
+use Rattle.std.specs.Prelude.{◌≡◌, ◌≤◌, ◌^◌, ◌+◌, ◌==◌, ℕ, nat_lt, if◌then◌else◌, List, [], ◌∷◌, length, Option, is_some}
+pub use Rattle.lists_and_limits.specs.Lists.{In}
 use Rattle.turn_core.specs.declared.cell.Turn.{Turn}
 use Rattle.turn_core.specs.declared.cell.Waiter.{Waiter}
 use Rattle.turn_core.specs.Cell.{CellState, greatest_depth, longest_line}
 use Rattle.turn_core.specs.CellMarks.{most_turns}
-
--- x is an element of the list
-abbrev pub In : {A : Type 0} → A → List A → Type 0
-In x [] = ⊥
-In x (y ∷ ys) = (x ≡ y) ⊎ In x ys
 
 -- there is a chain exactly if reentrancy is on
 abbrev pub FitsDepth : ℕ → Option (List ℕ) → Type 0

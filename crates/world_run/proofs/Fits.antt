@@ -26,7 +26,7 @@ use Rattle.cluster_model.specs.Messages.{Request, Answer, LockAt, UpdateTo, Unlo
 use Rattle.cluster_model.specs.World as world
 use Rattle.cluster_model.specs.World.{ClusterState, WorldStep, CallPlace, key_part, most_events, table_in}
 use Rattle.cluster_model.specs.Invariant.{version_of}
-use Rattle.cluster_model.proofs.Basics.{In-slice_get}
+use Rattle.lists_and_limits.proofs.Elements.{In-left, In-last, In-slice_get}
 use Rattle.cluster_model.specs.Invariant.{IsSafeWorld}
 use Rattle.cluster_model.proofs.Lines.{line_kept}
 use Rattle.cluster_model.proofs.Worlds.{safe_kept}
@@ -37,15 +37,6 @@ use Rattle.world_run.specs.Worlds.{WorldView, view_of, cluster_of, after, GivesS
 use Rattle.world_run.proofs.Unmarked.{marked, adds, happens_marked, begun-append, ended-append, more-capped}
 
 -- ---- fits
-
-In-left : {A : Type 0} (xs ys : List A) (x : A) → In x xs → In x (xs ++ ys)
-In-left (z ∷ xs) ys x (inl e) = inl e
-In-left (z ∷ xs) ys x (inr i) = inr (In-left xs ys x i)
-In-left [] ys x i = absurd i
-
-In-last : {A : Type 0} (xs : List A) (x : A) → In x (xs ++ x ∷ [])
-In-last [] x = inl refl
-In-last (z ∷ xs) x = inr (In-last xs x)
 
 In-numbered : (ms : List Message) (k : ℕ) (x : Message) → numbered ms k ≡ Some x → In x ms
 In-numbered ms zero x e = absurd (cc)
