@@ -104,7 +104,7 @@ module _ (owner : PlacementTable → ActorKey → Option HostInfo) (part_of : Ac
           (subst (λ (m : Member). AllHave owner (λ k call chain. WasAsked part_of w.settings.parts (set w.parts n q) more all m k call chain) q.cells) (sym same) cells)
       | inr j ↦ (λ c d. let h = t.cells x j c d in record {
         turns = λ u a. later w.settings.parts w.parts w.calls asked (set w.parts n q) more all l x.member c.key u.call u.chain (h.turns u a);
-        line = λ v a. later w.settings.parts w.parts w.calls asked (set w.parts n q) more all l x.member c.key v.call v.chain (h.line v a);
+        queue = λ v a. later w.settings.parts w.parts w.calls asked (set w.parts n q) more all l x.member c.key v.call v.chain (h.queue v a);
       })
     ],
     λ m k call chain i. elim (In-append w.marks (tagged p.member xs) _ i) [
@@ -142,7 +142,7 @@ module _ (owner : PlacementTable → ActorKey → Option HostInfo) (part_of : Ac
       let has = step_has owner (λ k call chain. WasAsked part_of w.settings.parts (set w.parts n q) w.calls asked p.member k call chain) p e quiet
       (λ c d. let h = t.all.cells p i c d in record {
         turns = λ u a. later w.settings.parts w.parts w.calls asked (set w.parts n q) w.calls asked l p.member c.key u.call u.chain (h.turns u a);
-        line = λ v a. later w.settings.parts w.parts w.calls asked (set w.parts n q) w.calls asked l p.member c.key v.call v.chain (h.line v a);
+        queue = λ v a. later w.settings.parts w.parts w.calls asked (set w.parts n q) w.calls asked l p.member c.key v.call v.chain (h.queue v a);
       }) in
       let now = stepped w n p q (part_step owner p e).marks asked w.calls asked at st.member l has.cells has.began t.all in
       record {
@@ -169,7 +169,7 @@ module _ (owner : PlacementTable → ActorKey → Option HostInfo) (part_of : Ac
         cells = λ p i. elim (In-append w.parts new p i) [
           | inl j ↦ (λ c d. let h = t.cells p j c d in record {
             turns = λ u a. later w.settings.parts w.parts w.calls asked (w.parts ++ new) w.calls asked l p.member c.key u.call u.chain (h.turns u a);
-            line = λ v a. later w.settings.parts w.parts w.calls asked (w.parts ++ new) w.calls asked l p.member c.key v.call v.chain (h.line v a);
+            queue = λ v a. later w.settings.parts w.parts w.calls asked (w.parts ++ new) w.calls asked l p.member c.key v.call v.chain (h.queue v a);
           })
           | inr j ↦ (let h = In-new_parts m kinds 0 n p j in
               subst (λ (z : PartState). AllHave owner (λ k call chain. WasAsked part_of w.settings.parts (w.parts ++ new) w.calls asked z.member k call chain) z.cells) (sym h.1) (λ c x. absurd x))
@@ -232,7 +232,7 @@ module _ (owner : PlacementTable → ActorKey → Option HostInfo) (part_of : Ac
         let takes = ask_takes owner (λ k call x. WasAsked part_of w.settings.parts parts calls all p.member k call x) n p key least chain w.now (t.all.deep p i)
         (λ c d. let h = t.all.cells p i c d in record {
           turns = λ u a. later w.settings.parts w.parts w.calls asked parts calls all l p.member c.key u.call u.chain (h.turns u a);
-          line = λ v a. later w.settings.parts w.parts w.calls asked parts calls all l p.member c.key v.call v.chain (h.line v a);
+          queue = λ v a. later w.settings.parts w.parts w.calls asked parts calls all l p.member c.key v.call v.chain (h.queue v a);
         }) in
         let has = takes.has (λ c x. record {
           number = number;
@@ -295,7 +295,7 @@ module _ (owner : PlacementTable → ActorKey → Option HostInfo) (part_of : Ac
         fresh : (j : ℕ) (c : CallPlace) → call_at w.calls j ≡ Some c → entry ≡ Some c → ⊥
         fresh j c old new =
             let h = t.all.placed j c old in
-            let takes = (ask_takes owner (λ k call x. Unit {0}) n p key least chain w.now (t.all.deep p (In-slice_get w.parts n p at)) (λ c d. record { turns = λ u a. tt; line = λ v a. tt })).taken c new in
+            let takes = (ask_takes owner (λ k call x. Unit {0}) n p key least chain w.now (t.all.deep p (In-slice_get w.parts n p at)) (λ c d. record { turns = λ u a. tt; queue = λ v a. tt })).taken c new in
             let d : c.call ≡ p.drawn + 1 = ap (λ (z : CallPlace). z.call) takes.0 in
             let f : c.place ≡ n = ap (λ (z : CallPlace). z.place) takes.0 in
             let s : p ≡ h.0 = some_same p h.0 (sym at ∙ subst (λ (k : ℕ). slice_get w.parts k ≡ Some h.0) f h.1) in
@@ -371,7 +371,7 @@ module _ (owner : PlacementTable → ActorKey → Option HostInfo) (part_of : Ac
       record {
         began = t.began;
         open_turns = λ p c u i d a. (t.cells p i c d).turns u a;
-        waiting = λ p c v i d a. (t.cells p i c d).line v a;
+        waiting = λ p c v i d a. (t.cells p i c d).queue v a;
         one_line = t.one_line;
         one_number = t.one_number;
       }

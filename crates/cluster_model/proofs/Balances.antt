@@ -113,7 +113,7 @@ abbrev IsHome : PartState → ActorCell → Type 0
 IsHome p c = (cell_at p.cells c.key ≡ Some c) ⊎ ((cell_at p.cells c.key ≡ None) × (c.inner.turns ≡ []))
 
 idle_cell : (x : ActorCell) → (x.active ≡ false → x.inner.turns ≡ []) → is_kept x ≡ false → turns_in x ≡ 0
-idle_cell x quiet k = ap (λ (z : List Turn). length z) (quiet (or_parts x.active (nat_lt 0 (length x.inner.line)) k).0)
+idle_cell x quiet k = ap (λ (z : List Turn). length z) (quiet (or_parts x.active (nat_lt 0 (length x.inner.queue)) k).0)
 
 one_cell : (p : PartState) (c x : ActorCell) (marks : List PartMark) → AreInOrder p.cells → IsHome p c → x.key ≡ c.key → (x.active ≡ false → x.inner.turns ≡ []) → turns_in x + ended marks ≡ turns_in c + begun marks
     → total turns_in (keep_cell p.cells x) + ended marks ≡ total turns_in p.cells + begun marks
@@ -199,19 +199,19 @@ module _ (owner : PlacementTable → ActorKey → Option HostInfo) where
   poll_balanced p call None f s = refl
   poll_balanced p call (Some c) f s =
       let i = In-cell_of_call p.cells call c f in
-      cond_both (has_turn call c.inner.turns) _ _ (λ (a : PollStep). IsBalanced p (Part.polled_step owner p c call a.cell a.answer)) (λ _. stays p (replies.Begun call (chain_of c.inner.turns))) (λ _. go i (waiter_of call c.inner.line))
+      cond_both (has_turn call c.inner.turns) _ _ (λ (a : PollStep). IsBalanced p (Part.polled_step owner p c call a.cell a.answer)) (λ _. stays p (replies.Begun call (chain_of c.inner.turns))) (λ _. go i (waiter_of call c.inner.queue))
     where
       go : In c p.cells → (w : Option Waiter) → IsBalanced p (Part.polled_step owner p c call (poll_waiter c.inner call w).cell (poll_waiter c.inner call w).answer)
       go i None = stays p replies.AlreadyEnded
       go i (Some w) =
           cond_both w.moved _ _ (λ (a : PollStep). IsBalanced p (Part.polled_step owner p c call a.cell a.answer))
-          (λ _. one_cell p c (record c { inner = record (c.inner) { line = without_waiter call c.inner.line } }) [] s.in_order (home_of p c s i) refl (no_turns c (s.each_sound c i)) refl)
-          (λ _. stays p (replies.Waits call (place_of call c.inner.line)))
+          (λ _. one_cell p c (record c { inner = record (c.inner) { queue = without_waiter call c.inner.queue } }) [] s.in_order (home_of p c s i) refl (no_turns c (s.each_sound c i)) refl)
+          (λ _. stays p (replies.Waits call (place_of call c.inner.queue)))
 
   end_balanced : (p : PartState) (call now : ℕ) (found : Option ActorCell) → cell_of_call p.cells call ≡ found → IsPartSound owner p → IsBalanced p (Part.end_cell owner p call now found)
   end_balanced p call now None f s = refl
   end_balanced p call now (Some c) f s =
-      cond_both (has_turn call c.inner.turns) _ _ (λ (a : EndStep). IsBalanced p (Part.ended_step owner p c call now a.cell a.answer)) ends (λ _. go (waiter_of call c.inner.line))
+      cond_both (has_turn call c.inner.turns) _ _ (λ (a : EndStep). IsBalanced p (Part.ended_step owner p c call now a.cell a.answer)) ends (λ _. go (waiter_of call c.inner.queue))
     where
       go : (w : Option Waiter) → IsBalanced p (Part.ended_step owner p c call now c.inner (not_open w))
       go None = refl

@@ -146,7 +146,7 @@ module _ (owner : PlacementTable → ActorKey → Option HostInfo) where
         | inl e ↦ (let h = same_ended k c.key n call e in let o = turn_of_call call c.inner.turns t in (c, In-cell_of_call p.cells call c f, h.0, (o.0, o.1, o.2 ∙ h.1)))
         | inr j ↦ absurd (not_next k n c.active c.key p.opened (next_call (Part.may_begin owner p c) (without_call c.inner call)) j)
       ])
-      (λ _. go (waiter_of call c.inner.line))
+      (λ _. go (waiter_of call c.inner.queue))
     where
       go : (w : Option Waiter) → EndsOpen p (Part.ended_step owner p c call now c.inner (not_open w))
       go None = λ k n i. absurd i

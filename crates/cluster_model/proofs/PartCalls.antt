@@ -11,7 +11,7 @@ use Rattle.turn_core.specs.declared.cell.Turn.{Turn}
 use Rattle.turn_core.specs.declared.cell.Waiter.{Waiter}
 use Rattle.turn_core.specs.declared.answer.Asked.TheVariants as asked
 use Rattle.turn_core.specs.declared.answer.CellEnd.TheVariants as ending
-use Rattle.turn_core.specs.Cell.{CellState, AskStep, EndStep, PollStep, kept_chain, admit_call, with_turn, with_waiter, begun_next, next_call, without_call, has_turn, waiter_of, not_open, poll_waiter, is_free, is_open_chain, without_waiter, call_of, with_hold, without_hold, all_moved, with_line_moved}
+use Rattle.turn_core.specs.Cell.{CellState, AskStep, EndStep, PollStep, kept_chain, admit_call, with_turn, with_waiter, begun_next, next_call, without_call, has_turn, waiter_of, not_open, poll_waiter, is_free, is_open_chain, without_waiter, call_of, with_hold, without_hold, all_moved, with_queue_moved}
 use Rattle.turn_core.specs.CellSound.{In}
 use Rattle.turn_core.proofs.Elements.{In-push, In-without_turn, In-without_waiter, In-without_first}
 use Rattle.turn_core.proofs.CellSteps.{In-first_unmoved}
@@ -53,7 +53,7 @@ module _ (owner : PlacementTable → ActorKey → Option HostInfo) (Q : ActorKey
   -- it holds for each call of a cell, of each cell, and of each turn that begins in these marks
   pub record HasCalls (k : ActorKey) (c : CellState) : Type 0 where
     pub turns : (t : Turn) → In t c.turns → Q k t.call t.chain
-    pub line : (v : Waiter) → In v c.line → Q k v.call v.chain
+    pub queue : (v : Waiter) → In v c.queue → Q k v.call v.chain
 
   abbrev pub AllHave : List ActorCell → Type 0
   AllHave cs = (c : ActorCell) → In c cs → HasCalls c.key c.inner
@@ -100,37 +100,37 @@ module _ (owner : PlacementTable → ActorKey → Option HostInfo) (Q : ActorKey
 
   -- ---- cells
 
-  has_begun : (k : ActorKey) (c : CellState) (next : Option Waiter) → ((w : Waiter) → next ≡ Some w → In w c.line) → HasCalls k c → HasCalls k (begun_next c next)
+  has_begun : (k : ActorKey) (c : CellState) (next : Option Waiter) → ((w : Waiter) → next ≡ Some w → In w c.queue) → HasCalls k c → HasCalls k (begun_next c next)
   has_begun k c None here h = h
   has_begun k c (Some w) here h =
       record {
         turns = λ t i. elim (In-push c.turns _ t i) [
           | inl old ↦ h.turns t old
-          | inr new ↦ (let a = ap (λ (z : Turn). z.call) new in let b = ap (λ (z : Turn). z.chain) new in rw a (rw b (h.line w (here w refl))))
+          | inr new ↦ (let a = ap (λ (z : Turn). z.call) new in let b = ap (λ (z : Turn). z.chain) new in rw a (rw b (h.queue w (here w refl))))
         ];
-        line = λ v i. h.line v (In-without_first c.line v i);
+        queue = λ v i. h.queue v (In-without_first c.queue v i);
       }
 
-  in_line : (b : Bool) (c : CellState) (w : Waiter) → next_call b c ≡ Some w → In w c.line
-  in_line b c w e = cond_both (b && is_free c) _ _ (λ (r : Option Waiter). r ≡ Some w → In w c.line) (λ _ q. In-first_unmoved c.line w q) (λ _ q. absurd (cc)) e
+  in_queue : (b : Bool) (c : CellState) (w : Waiter) → next_call b c ≡ Some w → In w c.queue
+  in_queue b c w e = cond_both (b && is_free c) _ _ (λ (r : Option Waiter). r ≡ Some w → In w c.queue) (λ _ q. In-first_unmoved c.queue w q) (λ _ q. absurd (cc)) e
 
   next_has : (b : Bool) (k : ActorKey) (c : CellState) → HasCalls k c → (w : Waiter) → next_call b c ≡ Some w → Q k w.call w.chain
-  next_has b k c h w e = h.line w (in_line b c w e)
+  next_has b k c h w e = h.queue w (in_queue b c w e)
 
   less_has : (k : ActorKey) (c : CellState) (call : ℕ) → HasCalls k c → HasCalls k (without_call c call)
-  less_has k c call h = record { turns = λ t i. h.turns t (In-without_turn call c.turns t i); line = h.line }
+  less_has k c call h = record { turns = λ t i. h.turns t (In-without_turn call c.turns t i); queue = h.queue }
 
   moved : (ws : List Waiter) (w : Waiter) → In w (all_moved ws) → (v : Waiter) × In v ws × (v.call ≡ w.call) × (v.chain ≡ w.chain)
   moved [] w i = absurd i
   moved (v ∷ ws) w (inl e) = (v, inl refl, (let q = ap (λ (z : Waiter). z.call) e in sym q), (let q = ap (λ (z : Waiter). z.chain) e in sym q))
   moved (v ∷ ws) w (inr i) = let m = moved ws w i in (m.0, inr m.1, m.2, m.3)
 
-  moved_has : (k : ActorKey) (c : CellState) → HasCalls k c → HasCalls k (with_line_moved c)
+  moved_has : (k : ActorKey) (c : CellState) → HasCalls k c → HasCalls k (with_queue_moved c)
   moved_has k c h =
-      record { turns = h.turns; line = λ v i. let m = moved c.line v i in subst (λ (n : ℕ). Q k n v.chain) m.2 (subst (λ (x : Option (List ℕ)). Q k m.0.call x) m.3 (h.line m.0 m.1)) }
+      record { turns = h.turns; queue = λ v i. let m = moved c.queue v i in subst (λ (n : ℕ). Q k n v.chain) m.2 (subst (λ (x : Option (List ℕ)). Q k m.0.call x) m.3 (h.queue m.0 m.1)) }
 
   found_or_first_has : (p : PartState) (key : ActorKey) (found : Option ActorCell) → cell_at p.cells key ≡ found → AllHave p.cells → HasCalls (found_or_first p key found).key (found_or_first p key found).inner
-  found_or_first_has p key None f h = record { turns = λ t i. absurd i; line = λ v i. absurd i }
+  found_or_first_has p key None f h = record { turns = λ t i. absurd i; queue = λ v i. absurd i }
   found_or_first_has p key (Some c) f h = h c (In-cell_at p.cells key c f)
 
   keep_has : (cs : List ActorCell) (c : ActorCell) → HasCalls c.key c.inner → AllHave cs → AllHave (keep_cell cs c)
@@ -176,7 +176,7 @@ module _ (owner : PlacementTable → ActorKey → Option HostInfo) (Q : ActorKey
                   | inl old ↦ n.turns t old
                   | inr new ↦ (let a = ap (λ (z : Turn). z.call) new in let b = ap (λ (z : Turn). z.chain) new ∙ same in rw a (rw b (q _ refl)))
                 ];
-                line = n.line;
+                queue = n.queue;
               })
               h;
           began = begin_so c.active c.key p.opened (p.drawn + 1) chain (q _ refl);
@@ -192,8 +192,8 @@ module _ (owner : PlacementTable → ActorKey → Option HostInfo) (Q : ActorKey
           cells = keep_has p.cells (record c { inner = with_waiter c.inner (p.drawn + 1) kept })
               (record {
                 turns = n.turns;
-                line = λ v i. elim (In-push c.inner.line _ v i) [
-                  | inl old ↦ n.line v old
+                queue = λ v i. elim (In-push c.inner.queue _ v i) [
+                  | inl old ↦ n.queue v old
                   | inr new ↦ (let a = ap (λ (z : Waiter). z.call) new in let b = ap (λ (z : Waiter). z.chain) new ∙ same in rw a (rw b (q _ refl)))
                 ];
               })
@@ -262,7 +262,7 @@ module _ (owner : PlacementTable → ActorKey → Option HostInfo) (Q : ActorKey
   poll_has : (p : PartState) (call : ℕ) (found : Option ActorCell) → cell_of_call p.cells call ≡ found → AllHave p.cells → StepHas (Part.poll_cell owner p call found)
   poll_has p call None f h = stays_has p _ h
   poll_has p call (Some c) f h =
-      cond_both (has_turn call c.inner.turns) _ _ (λ (a : PollStep). StepHas (Part.polled_step owner p c call a.cell a.answer)) (λ _. stays_has p _ h) (λ _. go (waiter_of call c.inner.line))
+      cond_both (has_turn call c.inner.turns) _ _ (λ (a : PollStep). StepHas (Part.polled_step owner p c call a.cell a.answer)) (λ _. stays_has p _ h) (λ _. go (waiter_of call c.inner.queue))
     where
       go : (w : Option Waiter) → StepHas (Part.polled_step owner p c call (poll_waiter c.inner call w).cell (poll_waiter c.inner call w).answer)
       go None = stays_has p _ h
@@ -271,8 +271,8 @@ module _ (owner : PlacementTable → ActorKey → Option HostInfo) (Q : ActorKey
           (λ _.
           let n = h c (In-cell_of_call p.cells call c f) in
           record {
-            cells = keep_has p.cells (record c { inner = record (c.inner) { line = without_waiter call c.inner.line } })
-                (record { turns = n.turns; line = λ v i. n.line v (In-without_waiter call c.inner.line v i) }) h;
+            cells = keep_has p.cells (record c { inner = record (c.inner) { queue = without_waiter call c.inner.queue } })
+                (record { turns = n.turns; queue = λ v i. n.queue v (In-without_waiter call c.inner.queue v i) }) h;
             began = none_begin;
           })
           (λ _. stays_has p _ h)
@@ -280,7 +280,7 @@ module _ (owner : PlacementTable → ActorKey → Option HostInfo) (Q : ActorKey
   end_has : (p : PartState) (call now : ℕ) (found : Option ActorCell) → cell_of_call p.cells call ≡ found → AllHave p.cells → StepHas (Part.end_cell owner p call now found)
   end_has p call now None f h = stays_has p _ h
   end_has p call now (Some c) f h =
-      cond_both (has_turn call c.inner.turns) _ _ (λ (a : EndStep). StepHas (Part.ended_step owner p c call now a.cell a.answer)) (λ _. ends) (λ _. go (waiter_of call c.inner.line))
+      cond_both (has_turn call c.inner.turns) _ _ (λ (a : EndStep). StepHas (Part.ended_step owner p c call now a.cell a.answer)) (λ _. ends) (λ _. go (waiter_of call c.inner.queue))
     where
       go : (w : Option Waiter) → StepHas (Part.ended_step owner p c call now c.inner (not_open w))
       go None = stays_has p _ h
@@ -298,7 +298,7 @@ module _ (owner : PlacementTable → ActorKey → Option HostInfo) (Q : ActorKey
       ends : StepHas (Part.ended_step owner p c call now (begun_next less next) (ending.Ended (option_map call_of next)))
       ends =
           record {
-            cells = keep_has p.cells (record c { inner = begun_next less next; last = max c.last now }) (has_begun c.key less next (in_line (Part.may_begin owner p c) less) less_so) h;
+            cells = keep_has p.cells (record c { inner = begun_next less next; last = max c.last now }) (has_begun c.key less next (in_queue (Part.may_begin owner p c) less) less_so) h;
             began = both_so (TurnEnded c.key call ∷ []) (marks_of_next c.active c.key p.opened next) (λ k n x i. elim i [ inl e ↦ absurd (cc) | inr j ↦ absurd j ])
                 (next_so c.active c.key p.opened next (next_has (Part.may_begin owner p c) c.key less less_so));
           }
@@ -309,7 +309,7 @@ module _ (owner : PlacementTable → ActorKey → Option HostInfo) (Q : ActorKey
       let n = h c (In-cell_at p.cells key c f) in
       cond_both (c.active && not c.closing) _ _ StepHas
       (λ _. cond_both (is_spent p) _ _ StepHas (λ _. stays_has p _ h)
-      (λ _. record { cells = keep_has p.cells (record c { inner = with_hold c.inner }) (record { turns = n.turns; line = n.line }) h; began = none_begin }))
+      (λ _. record { cells = keep_has p.cells (record c { inner = with_hold c.inner }) (record { turns = n.turns; queue = n.queue }) h; began = none_begin }))
       (λ _. stays_has p _ h)
 
   release_has : (p : PartState) (key : ActorKey) (now : ℕ) (found : Option ActorCell) → cell_at p.cells key ≡ found → AllHave p.cells → StepHas (Part.release_cell owner p now found)
@@ -317,14 +317,14 @@ module _ (owner : PlacementTable → ActorKey → Option HostInfo) (Q : ActorKey
   release_has p key now (Some c) f h =
       let n = h c (In-cell_at p.cells key c f) in
       cond_both (c.inner.holds == 0) _ _ StepHas (λ _. stays_has p _ h)
-      (λ _. record { cells = keep_has p.cells (record c { inner = without_hold c.inner; last = max c.last now }) (record { turns = n.turns; line = n.line }) h; began = none_begin })
+      (λ _. record { cells = keep_has p.cells (record c { inner = without_hold c.inner; last = max c.last now }) (record { turns = n.turns; queue = n.queue }) h; began = none_begin })
 
   unlock_has : (p : PartState) (version : ℕ) → AllHave p.cells → StepHas (Part.unlock_part owner p version)
   unlock_has p version h =
       let q = Part.as_open owner p in
       let each = each_has (Part.open_cell owner q) p.cells
       (λ c n. cond_both (is_own owner q c.key) _ _ (λ (s : CellStep). HasCalls s.cell.key s.cell.inner × BeginSo s.marks)
-      (λ _. (has_begun c.key c.inner (next_call (not c.closing) c.inner) (in_line (not c.closing) c.inner) n, next_so c.active c.key q.opened (next_call (not c.closing) c.inner) (next_has (not c.closing) c.key c.inner n)))
+      (λ _. (has_begun c.key c.inner (next_call (not c.closing) c.inner) (in_queue (not c.closing) c.inner) n, next_so c.active c.key q.opened (next_call (not c.closing) c.inner) (next_has (not c.closing) c.key c.inner n)))
       (λ _. (moved_has c.key c.inner n, none_begin)))
       h in
       cond_both (is_updated p.stage && (version == p.seen)) _ _ StepHas
@@ -337,7 +337,7 @@ module _ (owner : PlacementTable → ActorKey → Option HostInfo) (Q : ActorKey
   tick_has p now h =
       let each = each_has (Part.tick_cell owner p now) p.cells
       (λ c n. cond_both (not (is_free c.inner) && (is_foreign owner p c.key && Part.is_overdue owner p now c)) _ _ (λ (s : CellStep). HasCalls s.cell.key s.cell.inner × BeginSo s.marks)
-      (λ _. (record { turns = λ t i. absurd i; line = n.line }, ends_so c.key c.inner.turns))
+      (λ _. (record { turns = λ t i. absurd i; queue = n.queue }, ends_so c.key c.inner.turns))
       (λ _. (n, none_begin)))
       h in
       cond_both (is_updated p.stage) _ _ StepHas (λ _. record { cells = each.0; began = each.1 }) (λ _. stays_has p _ h)
@@ -355,7 +355,7 @@ module _ (owner : PlacementTable → ActorKey → Option HostInfo) (Q : ActorKey
       let n = h c (In-cell_at p.cells key c f) in
       cond_both c.closing _ _ StepHas
       (λ _. record {
-        cells = keep_has p.cells (record c { inner = begun_next c.inner next; active = is_some next; closing = false }) (has_begun c.key c.inner next (in_line may c.inner) n) h;
+        cells = keep_has p.cells (record c { inner = begun_next c.inner next; active = is_some next; closing = false }) (has_begun c.key c.inner next (in_queue may c.inner) n) h;
         began = both_so (BecameInactive c.key ∷ []) (marks_of_next false c.key p.opened next) (λ k a x i. elim i [ inl e ↦ absurd (cc) | inr j ↦ absurd j ])
             (next_so false c.key p.opened next (next_has may c.key c.inner n));
       })

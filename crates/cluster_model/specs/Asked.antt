@@ -68,7 +68,7 @@ module _ (part_of : ActorKey → ℕ → ℕ) where
   pub record TurnsAreAsked (w : ClusterState) (asked : List AskedCall) : Type 0 where
     pub began : (m : Member) (k : ActorKey) (call : ℕ) (chain : Option (List ℕ)) → In (record { member = m; what = TurnBegan k call chain }) w.marks → IsOfItsLine w asked m k call chain
     pub open_turns : (p : PartState) (c : ActorCell) (t : Turn) → In p w.parts → In c p.cells → In t c.inner.turns → IsOfItsLine w asked p.member c.key t.call t.chain
-    pub waiting : (p : PartState) (c : ActorCell) (v : Waiter) → In p w.parts → In c p.cells → In v c.inner.line → IsOfItsLine w asked p.member c.key v.call v.chain
+    pub waiting : (p : PartState) (c : ActorCell) (v : Waiter) → In p w.parts → In c p.cells → In v c.inner.queue → IsOfItsLine w asked p.member c.key v.call v.chain
     pub one_line : (a b : AskedCall) → In a asked → In b asked → a.number ≡ b.number → a ≡ b
     pub one_number : (i j : ℕ) (c : CallPlace) → call_at w.calls i ≡ Some c → call_at w.calls j ≡ Some c → i ≡ j
 

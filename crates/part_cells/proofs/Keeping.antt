@@ -324,5 +324,5 @@ module _ (at : ℕ → Option ActorCell) (ps : List (ActorKey × ℕ)) (look : �
           }
 
 -- a cell with no turn and an empty queue has no call
-pub empty_has : (c : ActorCell) → c.inner.turns ≡ [] → c.inner.line ≡ [] → (call : ℕ) → is_in_cell call c.inner ≡ false
+pub empty_has : (c : ActorCell) → c.inner.turns ≡ [] → c.inner.queue ≡ [] → (call : ℕ) → is_in_cell call c.inner ≡ false
 empty_has c free none call = λ i. has_turn call (free i) || is_some (waiter_of call (none i))

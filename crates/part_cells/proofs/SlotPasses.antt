@@ -83,9 +83,9 @@ first_short (w ∷ ws) =
 
 pub opened_calls-short : (own : ActorCell → Bool) (c : ActorCell) → length (opened_calls own c) ≤ calls_in c
 opened_calls-short own c =
-    let f = first_short c.inner.line in
+    let f = first_short c.inner.queue in
     cond_both (own c) (next_calls (next_call (not c.closing) c.inner)) [] (λ (l : List ℕ). length l ≤ calls_in c)
-    (λ _. cond_both (not c.closing && is_free c.inner) (first_unmoved c.inner.line) None (λ (r : Option Waiter). length (next_calls r) ≤ calls_in c) (λ _. omega arith) (λ _. omega arith))
+    (λ _. cond_both (not c.closing && is_free c.inner) (first_unmoved c.inner.queue) None (λ (r : Option Waiter). length (next_calls r) ≤ calls_in c) (λ _. omega arith) (λ _. omega arith))
     (λ _. omega arith)
 
 pub unmoved_short : (ws : List Waiter) → unmoved ws ≤ length ws

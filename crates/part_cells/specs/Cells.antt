@@ -24,7 +24,7 @@ put_cell cs x = insert_cell (drop_cell cs x.key) x
 
 -- a cell that isn't active and has no call in its queue is dropped
 abbrev pub is_kept : ActorCell → Bool
-is_kept c = c.active || nat_lt 0 (length c.inner.line)
+is_kept c = c.active || nat_lt 0 (length c.inner.queue)
 
 abbrev pub keep_cell : List ActorCell → ActorCell → List ActorCell
 keep_cell cs x = if is_kept x then put_cell cs x else drop_cell cs x.key
@@ -40,7 +40,7 @@ first_cell key depth = record { key = key; inner = new_cell depth; active = fals
 
 -- how many calls of a cell are open or wait
 abbrev pub calls_in : ActorCell → ℕ
-calls_in c = length c.inner.turns + length c.inner.line
+calls_in c = length c.inner.turns + length c.inner.queue
 
 -- the sum of a number that each cell has
 abbrev pub total : (ActorCell → ℕ) → List ActorCell → ℕ

@@ -9,7 +9,7 @@ use Rattle.turn_core.specs.declared.answer.CellError.{CellError}
 use Rattle.turn_core.specs.declared.answer.CellError.TheVariants as deny
 use Rattle.turn_core.specs.declared.answer.CellEnd.{CellEnd}
 use Rattle.turn_core.specs.declared.answer.CellEnd.TheVariants as ending
-use Rattle.turn_core.specs.Cell.{is_in_cell, AskStep, cell_end, next_call, begun_next, without_turns, with_line_moved, turn_calls, unmoved}
+use Rattle.turn_core.specs.Cell.{is_in_cell, AskStep, cell_end, next_call, begun_next, without_turns, with_queue_moved, turn_calls, unmoved}
 use Rattle.turn_core.specs.declared.cell.Waiter.{Waiter}
 use Rattle.turn_core.specs.CellSound.{In}
 use Rattle.part_cells.specs.declared.actor_cell.ActorCell.{ActorCell}
@@ -144,13 +144,13 @@ abbrev pub begun_cell : ActorCell → Option Waiter → ActorCell
 begun_cell c next = record c { inner = begun_next c.inner next; active = c.active || is_some next }
 
 abbrev pub opened_cell : (ActorCell → Bool) → ActorCell → ActorCell
-opened_cell own c = if own c then begun_cell c (next_call (not c.closing) c.inner) else record c { inner = with_line_moved c.inner }
+opened_cell own c = if own c then begun_cell c (next_call (not c.closing) c.inner) else record c { inner = with_queue_moved c.inner }
 
 abbrev pub opened_calls : (ActorCell → Bool) → ActorCell → List ℕ
 opened_calls own c = if own c then next_calls (next_call (not c.closing) c.inner) else []
 
 abbrev pub opened_moved : (ActorCell → Bool) → ActorCell → ℕ
-opened_moved own c = if own c then 0 else unmoved c.inner.line
+opened_moved own c = if own c then 0 else unmoved c.inner.queue
 
 abbrev pub late_number : (ActorCell → Bool) → ActorCell → ℕ
 late_number test c = if test c then length c.inner.turns else 0

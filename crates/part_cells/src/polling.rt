@@ -11,7 +11,7 @@ use turn_core::CellPoll;
 
 /// Whether the actor isn't active and at most one call waits.
 fn is_last(cell: &ActorCell) -> bool
-    ensures { result ≡ (not cell.now.active && nat_le (length cell.now.inner.line) 1) }
+    ensures { result ≡ (not cell.now.active && nat_le (length cell.now.inner.queue) 1) }
 {
     !cell.active && cell.inner.waiting() <= 1
 }

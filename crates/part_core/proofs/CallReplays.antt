@@ -174,13 +174,13 @@ module _ (owner : PlacementTable → ActorKey → Option HostInfo) where
   poll_replays e p call None f s = stays_replay e p
   poll_replays e p call (Some c) f s =
       let known = known_found e p c s (In-cell_of_call p.cells call c f) in
-      cond_both (has_turn call c.inner.turns) _ _ (λ (a : PollStep). StepReplays e p (Part.polled_step owner p c call a.cell a.answer)) (λ _. stays_replay e p) (λ _. go known (waiter_of call c.inner.line))
+      cond_both (has_turn call c.inner.turns) _ _ (λ (a : PollStep). StepReplays e p (Part.polled_step owner p c call a.cell a.answer)) (λ _. stays_replay e p) (λ _. go known (waiter_of call c.inner.queue))
     where
       go : IsKnown e p c → (w : Option Waiter) → StepReplays e p (Part.polled_step owner p c call (poll_waiter c.inner call w).cell (poll_waiter c.inner call w).answer)
       go known None = stays_replay e p
       go known (Some w) =
           cond_both w.moved _ _ (λ (a : PollStep). StepReplays e p (Part.polled_step owner p c call a.cell a.answer))
-          (λ _. quiet_replays e p c (record c { inner = record (c.inner) { line = without_waiter call c.inner.line } }) p.drawn known refl refl refl refl)
+          (λ _. quiet_replays e p c (record c { inner = record (c.inner) { queue = without_waiter call c.inner.queue } }) p.drawn known refl refl refl refl)
           (λ _. stays_replay e p)
 
   pub end_replays : (e : PartEvent) (p : PartState) (call now : ℕ) (found : Option ActorCell) → cell_of_call p.cells call ≡ found → IsPartSound owner p → StepReplays e p (Part.end_cell owner p call now found)
@@ -189,7 +189,7 @@ module _ (owner : PlacementTable → ActorKey → Option HostInfo) where
       let known = known_found e p c s (In-cell_of_call p.cells call c f) in
       cond_both (has_turn call c.inner.turns) _ _ (λ (a : EndStep). StepReplays e p (Part.ended_step owner p c call now a.cell a.answer))
       (λ t. let h = In-has_turn call c.inner.turns t in ends known (known.sound.open_active h.0 h.1))
-      (λ _. go (waiter_of call c.inner.line))
+      (λ _. go (waiter_of call c.inner.queue))
     where
       go : (w : Option Waiter) → StepReplays e p (Part.ended_step owner p c call now c.inner (not_open w))
       go None = stays_replay e p

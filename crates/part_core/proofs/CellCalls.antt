@@ -4,7 +4,7 @@ use Rattle.std.specs.Prelude.{◌==◌}
 use Rattle.std.proofs.lemmas.Bool.{cond_both, cond-false, eqb-true, true≢false}
 use Rattle.turn_core.specs.declared.cell.Turn.{Turn}
 use Rattle.turn_core.specs.declared.cell.Waiter.{Waiter}
-use Rattle.turn_core.specs.Cell.{CellState, without_turn, without_waiter, first_unmoved, with_turn, with_waiter, begun_next, without_call, without_turns, with_line_moved, is_in_cell}
+use Rattle.turn_core.specs.Cell.{CellState, without_turn, without_waiter, first_unmoved, with_turn, with_waiter, begun_next, without_call, without_turns, with_queue_moved, is_in_cell}
 use Rattle.turn_core.specs.CellSound.{turns_of, waiters_of, times_in}
 use Rattle.turn_core.proofs.Once.{one_of, turns_of-push, waiters_of-push, absent_times}
 use Rattle.turn_core.proofs.Presence.{has_or_not, absent_at_zero, kept_presence}
@@ -36,7 +36,7 @@ turn_joins c call chain n h =
 
 pub waiter_joins : (c : CellState) (call : ℕ) (chain : Option (List ℕ)) (n : ℕ) → is_in_cell n (with_waiter c call chain) ≡ true → (is_in_cell n c ≡ true) ⊎ (n ≡ call)
 waiter_joins c call chain n h =
-    no_other n call c (with_waiter c call chain) (let p = waiters_of-push n c.line (record { call = call; chain = chain; moved = false }) in omega arith) h
+    no_other n call c (with_waiter c call chain) (let p = waiters_of-push n c.queue (record { call = call; chain = chain; moved = false }) in omega arith) h
 
 -- ---- a turn ends, a moved call is polled, every turn ends
 
@@ -55,16 +55,16 @@ fewer_waiters n call (w ∷ ws) =
 pub ended_gets : (c : CellState) (call : ℕ) → GetsNoCall c (without_call c call)
 ended_gets c call n h = no_more n c (without_call c call) (let l = fewer_turns n call c.turns in omega arith) h
 
-pub polled_gets : (c : CellState) (call : ℕ) → GetsNoCall c (record c { line = without_waiter call c.line })
-polled_gets c call n h = no_more n c (record c { line = without_waiter call c.line }) (let l = fewer_waiters n call c.line in omega arith) h
+pub polled_gets : (c : CellState) (call : ℕ) → GetsNoCall c (record c { queue = without_waiter call c.queue })
+polled_gets c call n h = no_more n c (record c { queue = without_waiter call c.queue }) (let l = fewer_waiters n call c.queue in omega arith) h
 
 pub stopped_gets : (c : CellState) → GetsNoCall c (without_turns c)
 stopped_gets c n h = no_more n c (without_turns c) (omega arith) h
 
 -- ---- a waiting call begins, or all are moved
 
-pub begun_gets : (c : CellState) (w : Waiter) → first_unmoved c.line ≡ Some w → GetsNoCall c (begun_next c (Some w))
+pub begun_gets : (c : CellState) (w : Waiter) → first_unmoved c.queue ≡ Some w → GetsNoCall c (begun_next c (Some w))
 begun_gets c w e n h = sym (kept_presence c (begun_next c (Some w)) (next_keeps c (Some w) (inr (sym e))) n) ∙ h
 
-pub moved_gets : (c : CellState) → GetsNoCall c (with_line_moved c)
-moved_gets c n h = sym (kept_presence c (with_line_moved c) (moved_keeps c) n) ∙ h
+pub moved_gets : (c : CellState) → GetsNoCall c (with_queue_moved c)
+moved_gets c n h = sym (kept_presence c (with_queue_moved c) (moved_keeps c) n) ∙ h

@@ -8,7 +8,7 @@ use Rattle.turn_core.specs.declared.cell.Turn.{Turn}
 use Rattle.turn_core.specs.declared.cell.Waiter.{Waiter}
 use Rattle.turn_core.specs.declared.answer.Asked.TheVariants as asked
 use Rattle.turn_core.specs.declared.answer.CellError.TheVariants as deny
-use Rattle.turn_core.specs.Cell.{CellState, AskStep, is_free, is_open_chain, kept_chain, has_turn, first_unmoved, all_moved, with_turn, with_waiter, admit_call, begun_next, next_call, longest_line, is_in_cell}
+use Rattle.turn_core.specs.Cell.{CellState, AskStep, is_free, is_open_chain, kept_chain, has_turn, first_unmoved, all_moved, with_turn, with_waiter, admit_call, begun_next, next_call, longest_queue, is_in_cell}
 use Rattle.turn_core.specs.CellSound.{In, IsCellSound}
 use Rattle.turn_core.proofs.Elements.{In-without_first}
 use Rattle.turn_core.proofs.CellSteps.{free_turns}
@@ -25,7 +25,7 @@ In-cell_of_call (d ∷ cs) call c e =
     let more = In-cell_of_call cs call c in
     cond_both (is_in_cell call d.inner) _ _ (λ r. r ≡ Some c → In c (d ∷ cs)) (λ _ q. inl (cc)) (λ _ q. inr (more q)) e
 
--- ---- turns and lines
+-- ---- turns and queues
 
 pub In-has_turn : (call : ℕ) (ts : List Turn) → has_turn call ts ≡ true → (t : Turn) × In t ts
 In-has_turn call [] e = absurd (false≢true e)
@@ -69,27 +69,27 @@ pub admit_cases : (c : CellState) (call : ℕ) (chain : Option (List ℕ)) (may_
     → (is_open_chain c (kept_chain c chain) ≡ true → length c.turns < c.depth → P (record { cell = with_turn c call (kept_chain c chain); answer = Ok asked.Begun }))
     → (P (record { cell = c; answer = Err (deny.Depth (length c.turns)) }))
     → (c.turns ≡ [] → may_begin ≡ true → P (record { cell = with_turn c call (kept_chain c chain); answer = Ok asked.Begun }))
-    → (is_open_chain c (kept_chain c chain) ≡ false → (is_free c && may_begin) ≡ false → P (record { cell = with_waiter c call (kept_chain c chain); answer = Ok (asked.Waits (length c.line + 1)) }))
-    → (P (record { cell = c; answer = Err (deny.QueueFull (length c.line)) }))
+    → (is_open_chain c (kept_chain c chain) ≡ false → (is_free c && may_begin) ≡ false → P (record { cell = with_waiter c call (kept_chain c chain); answer = Ok (asked.Waits (length c.queue + 1)) }))
+    → (P (record { cell = c; answer = Err (deny.QueueFull (length c.queue)) }))
     → P (admit_call c call chain may_begin)
 admit_cases c call chain may_begin P again deep fresh waits full =
     cond_both (is_open_chain c (kept_chain c chain)) _ _ P
     (λ o. cond_both (nat_lt (length c.turns) c.depth) _ _ P (λ l. again o (ltb-true _ _ l)) (λ _. deep))
     (λ o. cond_both (is_free c && may_begin) _ _ P
     (λ f. let h = and_parts (is_free c) may_begin f in fresh (free_turns c h.0) h.1)
-    (λ f. cond_both (nat_lt (length c.line) longest_line) _ _ P (λ l. waits o f) (λ _. full)))
+    (λ f. cond_both (nat_lt (length c.queue) longest_queue) _ _ P (λ l. waits o f) (λ _. full)))
 
 -- the next call begins, or none does, for one of two reasons
 pub next_cases : (b : Bool) (c : CellState) (P : Option Waiter → Type 0)
-    → ((b && is_free c) ≡ false ⊎ (first_unmoved c.line ≡ None) → P None)
-    → (b ≡ true → c.turns ≡ [] → (w : Waiter) → first_unmoved c.line ≡ Some w → P (Some w))
+    → ((b && is_free c) ≡ false ⊎ (first_unmoved c.queue ≡ None) → P None)
+    → (b ≡ true → c.turns ≡ [] → (w : Waiter) → first_unmoved c.queue ≡ Some w → P (Some w))
     → P (next_call b c)
 next_cases b c P none some =
     cond_both (b && is_free c) _ _ P
-    (λ f. let h = and_parts b (is_free c) f in go h.0 (free_turns c h.1) (first_unmoved c.line) refl)
+    (λ f. let h = and_parts b (is_free c) f in go h.0 (free_turns c h.1) (first_unmoved c.queue) refl)
     (λ f. none (inl f))
   where
-    go : b ≡ true → c.turns ≡ [] → (r : Option Waiter) → first_unmoved c.line ≡ r → P r
+    go : b ≡ true → c.turns ≡ [] → (r : Option Waiter) → first_unmoved c.queue ≡ r → P r
     go t f None e = none (inr e)
     go t f (Some w) e = some t f w e
 
@@ -136,14 +136,14 @@ pub not_closing : (c : ActorCell) → IsActorSound c → (t : Turn) → In t c.i
 not_closing c s t i k = let e = s.closing_free k in absurd (subst (λ (ts : List Turn). In t ts) e i)
 
 -- the call that waited has begun in a free cell
-pub begun_sound : (c : CellState) (w : Waiter) → IsCellSound c → c.turns ≡ [] → first_unmoved c.line ≡ Some w → IsCellSound (begun_next c (Some w))
+pub begun_sound : (c : CellState) (w : Waiter) → IsCellSound c → c.turns ≡ [] → first_unmoved c.queue ≡ Some w → IsCellSound (begun_next c (Some w))
 begun_sound c w s free e = (next_begins c (Some w) s free e).sound
 
 -- ---- waiters
 
-pub fewer_waiters : (c x : CellState) → ((w : Waiter) → In w x.line → In w c.line) → HasNoWaiter c → HasNoWaiter x
+pub fewer_waiters : (c x : CellState) → ((w : Waiter) → In w x.queue → In w c.queue) → HasNoWaiter c → HasNoWaiter x
 fewer_waiters c x among h w i = h w (among w i)
 
 -- if no unmoved call waited before a call began, none waits afterwards
 pub begun_waiters : (c : CellState) (w : Waiter) → HasNoWaiter c → HasNoWaiter (begun_next c (Some w))
-begun_waiters c w h v i = h v (In-without_first c.line v i)
+begun_waiters c w h v i = h v (In-without_first c.queue v i)

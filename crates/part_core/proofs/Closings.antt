@@ -110,7 +110,7 @@ not_early p now q quiet n dry c i = elim (cases_Bool (may_close ring_owner p now
             )
         | inr g ↦ (
             let idle = (λ j. sym g j || is_idle ring_owner p now c) ∙ f.1 in
-            let k = and_parts (unmoved c.inner.line == 0) _ idle in
+            let k = and_parts (unmoved c.inner.queue == 0) _ idle in
             absurd (idle_since (settings_of p.kinds c.key.kind).idle_ms c.last now q moment n (leb-true _ _ k.1))
             )
       ]

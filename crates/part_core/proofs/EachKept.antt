@@ -13,7 +13,7 @@ use Rattle.part_cells.specs.Slots.{each_list, open_calls, late_cell, late_calls,
 use Rattle.part_core.specs.Marks.{marks_of_next, marks_of_ends, marks_of_inactive, marks_of_stop, begun_calls, ended_calls}
 use Rattle.part_core.specs.Part.{PartState, CellStep, each_cell, is_own, is_foreign, is_overdue, open_cell, tick_cell, begin_in, move_in, ring_owner}
 use Rattle.part_core.specs.Actors.{IsNumbered, AreActorsKept}
-use Rattle.part_core.proofs.Numbers.{numbered_next, next_in_line, numbered_moved, numbered_stopped}
+use Rattle.part_core.proofs.Numbers.{numbered_next, next_in_queue, numbered_moved, numbered_stopped}
 use Rattle.part_core.proofs.AskedGives.{begun-marks_of_begin}
 use Rattle.part_core.proofs.PartOrders.{In-each_cell, length-each_cell}
 use Rattle.part_core.proofs.EachCell.{begun-append, ended-append, append_nil}
@@ -152,7 +152,7 @@ pub opening_keeps : (drawn : ℕ) (p : PartState) → KeepsEach drawn (open_cell
 opening_keeps drawn p =
     record {
       numbered = λ c n. cond_both (is_own ring_owner p c.key) _ _ (λ (s : CellStep). IsNumbered drawn s.cell.inner)
-          (λ _. numbered_next drawn c.inner (next_call (not c.closing) c.inner) (next_in_line (not c.closing) c.inner) n) (λ _. numbered_moved drawn c.inner n);
+          (λ _. numbered_next drawn c.inner (next_call (not c.closing) c.inner) (next_in_queue (not c.closing) c.inner) n) (λ _. numbered_moved drawn c.inner n);
       calls = λ c. cond_both (is_own ring_owner p c.key) _ _ (λ (s : CellStep). calls_in s.cell ≤ calls_in c)
           (λ _. let m = (begins_keeps (not c.closing) c.inner).as_many in omega arith)
           (λ _. let l = (moved_keeps c.inner).as_many in omega arith);

@@ -11,7 +11,7 @@ use Rattle.turn_core.proofs.Presence.{JoinsCell}
 use Rattle.turn_core.proofs.Joins.{asked_joins}
 use Rattle.part_cells.specs.declared.actor_cell.ActorCell.{ActorCell}
 use Rattle.part_cells.specs.Slots.{IsSettled}
-use Rattle.part_cells.proofs.Settled.{awake_settled, line_kept}
+use Rattle.part_cells.proofs.Settled.{awake_settled, queue_kept}
 use Rattle.part_core.specs.Actors.{IsFirstCell, IsNumbered, is_begun}
 use Rattle.part_core.proofs.Numbers.{numbered_new, numbered_asked}
 
@@ -40,12 +40,12 @@ settled_by cell call chain b a first =
     free : cell.inner.turns ≡ []
     free = ap (λ (i : CellState). i.turns) first.inner
 
-    waits : (a : Asked) → accepts (asked.Waits (length cell.inner.line + 1)) ≡ accepts a → IsSettled (record cell { inner = with_waiter cell.inner call (kept_chain cell.inner chain); active = is_begun a })
+    waits : (a : Asked) → accepts (asked.Waits (length cell.inner.queue + 1)) ≡ accepts a → IsSettled (record cell { inner = with_waiter cell.inner call (kept_chain cell.inner chain); active = is_begun a })
     waits asked.Begun e = absurd (cc)
     waits (asked.Waits n) e =
         record {
-          kept = line_kept (record cell { inner = with_waiter cell.inner call (kept_chain cell.inner chain); active = false })
-              (let l : length (cell.inner.line ++ record { call = call; chain = kept_chain cell.inner chain; moved = false } ∷ []) ≡ length cell.inner.line + 1 = simp length-append in omega arith);
+          kept = queue_kept (record cell { inner = with_waiter cell.inner call (kept_chain cell.inner chain); active = false })
+              (let l : length (cell.inner.queue ++ record { call = call; chain = kept_chain cell.inner chain; moved = false } ∷ []) ≡ length cell.inner.queue + 1 = simp length-append in omega arith);
           awake = λ _. free;
         }
 
@@ -58,10 +58,10 @@ module _ (cell : ActorCell) (call : ℕ) (chain : Option (List ℕ)) (b : Bool) 
   joins = rw g.1 (asked_joins cell.inner call chain b a (sym g.0))
 
   -- it has this call and no other
-  pub first_one : length new.turns + length new.line ≡ 1
+  pub first_one : length new.turns + length new.queue ≡ 1
   first_one =
       let m = joins.more in
-      let t = ap (λ (i : CellState). length i.turns + length i.line) first.inner in
+      let t = ap (λ (i : CellState). length i.turns + length i.queue) first.inner in
       omega arith
 
 -- and its number is the one drawn

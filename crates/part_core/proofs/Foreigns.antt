@@ -51,7 +51,7 @@ module _ (owner : PlacementTable → ActorKey → Option HostInfo) (p : PartStat
   -- a cell that isn't kept isn't active
   idle : (x : ActorCell) → is_kept x ≡ false → foreign_in owner p x ≡ 0
   idle x e = elim (cases_Bool x.active) [
-    | inl t ↦ absurd (true≢false (sym (ap (λ (b : Bool). b || nat_lt 0 (length x.inner.line)) t) ∙ e))
+    | inl t ↦ absurd (true≢false (sym (ap (λ (b : Bool). b || nat_lt 0 (length x.inner.queue)) t) ∙ e))
     | inr f ↦ ap (λ (b : Bool). if b && is_foreign owner p x.key then 1 else 0) f
   ]
 
@@ -84,13 +84,13 @@ module _ (owner : PlacementTable → ActorKey → Option HostInfo) (p : PartStat
     pub polls_steady : (call : ℕ) (found : Option ActorCell) → cell_of_call p.cells call ≡ found → IsSteady (Part.poll_cell owner p call found)
     polls_steady call None f = refl
     polls_steady call (Some c) f =
-        cond_both (has_turn call c.inner.turns) _ _ (λ (a : PollStep). IsSteady (Part.polled_step owner p c call a.cell a.answer)) (λ _. refl) (λ _. go (waiter_of call c.inner.line))
+        cond_both (has_turn call c.inner.turns) _ _ (λ (a : PollStep). IsSteady (Part.polled_step owner p c call a.cell a.answer)) (λ _. refl) (λ _. go (waiter_of call c.inner.queue))
       where
         go : (w : Option Waiter) → IsSteady (Part.polled_step owner p c call (poll_waiter c.inner call w).cell (poll_waiter c.inner call w).answer)
         go None = refl
         go (Some w) =
             cond_both w.moved _ _ (λ (a : PollStep). IsSteady (Part.polled_step owner p c call a.cell a.answer))
-            (λ _. rewritten c (record c { inner = record (c.inner) { line = without_waiter call c.inner.line } }) (In-cell_of_call p.cells call c f) refl refl)
+            (λ _. rewritten c (record c { inner = record (c.inner) { queue = without_waiter call c.inner.queue } }) (In-cell_of_call p.cells call c f) refl refl)
             (λ _. refl)
 
     pub ends_steady : (call now : ℕ) (found : Option ActorCell) → cell_of_call p.cells call ≡ found → IsSteady (Part.end_cell owner p call now found)
@@ -98,7 +98,7 @@ module _ (owner : PlacementTable → ActorKey → Option HostInfo) (p : PartStat
     ends_steady call now (Some c) f =
         cond_both (has_turn call c.inner.turns) _ _ (λ (a : EndStep). IsSteady (Part.ended_step owner p c call now a.cell a.answer))
         (λ _. rewritten c (record c { inner = begun_next (without_call c.inner call) (next_call (may_begin owner p c) (without_call c.inner call)); last = max c.last now }) (In-cell_of_call p.cells call c f) refl refl)
-        (λ _. go (waiter_of call c.inner.line))
+        (λ _. go (waiter_of call c.inner.queue))
       where
         go : (w : Option Waiter) → IsSteady (Part.ended_step owner p c call now c.inner (not_open w))
         go None = refl

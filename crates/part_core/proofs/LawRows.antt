@@ -67,8 +67,8 @@ no_host_refuses_ask = refl
 no_host_tells_poll : refuses (events.Poll 1) (replies.NoHost 1) ≡ false
 no_host_tells_poll = refl
 
-full_line_refuses : refuses (events.Ask key None 8) (replies.QueueFull 1024) ≡ true
-full_line_refuses = refl
+full_queue_refuses : refuses (events.Ask key None 8) (replies.QueueFull 1024) ≡ true
+full_queue_refuses = refl
 
 waiting_is_no_refusal : refuses (events.Ask key None 8) (replies.Waits 2 1) ≡ false
 waiting_is_no_refusal = refl

@@ -8,7 +8,7 @@ use Rattle.std.specs.declared.result.Result.TheVariants.{Ok, Err}
 use Rattle.turn_core.specs.declared.answer.Asked.{Asked}
 use Rattle.turn_core.specs.declared.answer.CellError.{CellError}
 use Rattle.turn_core.specs.declared.answer.CellError.TheVariants as deny
-use Rattle.turn_core.specs.Cell.{GivesStep, CellState, AskStep, EndStep, PollStep, new_cell, has_turn, is_free, is_in_cell, admit_call, begun_next, next_call, without_call, waiter_of, cell_end, poll_waiter, cell_poll, with_hold, without_hold, with_line_moved, without_turns, all_moved}
+use Rattle.turn_core.specs.Cell.{GivesStep, CellState, AskStep, EndStep, PollStep, new_cell, has_turn, is_free, is_in_cell, admit_call, begun_next, next_call, without_call, waiter_of, cell_end, poll_waiter, cell_poll, with_hold, without_hold, with_queue_moved, without_turns, all_moved}
 use Rattle.turn_core.specs.CellSound.{In}
 use Rattle.turn_core.proofs.Elements.{In-push, In-without_turn, In-without_waiter, In-without_first}
 use Rattle.turn_core.proofs.CellSteps.{In-first_unmoved, ask_cases}
@@ -53,7 +53,7 @@ numbered_gives n old new chain may_begin (Err (deny.QueueFull m)) g k = rw g.1 (
 numbered_gives n old new chain may_begin (Err deny.OutOfMemory) g k = rw g (numbered_more n (n + 1) old (omega arith) k)
 
 -- the first call of the queue begins
-pub numbered_next : (n : ℕ) (c : CellState) (next : Option Waiter) → ((w : Waiter) → next ≡ Some w → In w c.line) → IsNumbered n c → IsNumbered n (begun_next c next)
+pub numbered_next : (n : ℕ) (c : CellState) (next : Option Waiter) → ((w : Waiter) → next ≡ Some w → In w c.queue) → IsNumbered n c → IsNumbered n (begun_next c next)
 numbered_next n c None here k = k
 numbered_next n c (Some w) here k =
     record {
@@ -61,28 +61,28 @@ numbered_next n c (Some w) here k =
         | inl old ↦ k.open_turns t old
         | inr new ↦ (let l = k.waiters w (here w refl) in let e = ap (λ (z : Turn). z.call) new in omega arith)
       ];
-      waiters = λ v i. k.waiters v (In-without_first c.line v i);
+      waiters = λ v i. k.waiters v (In-without_first c.queue v i);
       held = k.held;
     }
 
-pub next_in_line : (may_begin : Bool) (c : CellState) (w : Waiter) → next_call may_begin c ≡ Some w → In w c.line
-next_in_line may_begin c w e = cond_both (may_begin && is_free c) _ _ (λ r. r ≡ Some w → In w c.line) (λ _ q. In-first_unmoved c.line w q) (λ _ q. absurd (cc)) e
+pub next_in_queue : (may_begin : Bool) (c : CellState) (w : Waiter) → next_call may_begin c ≡ Some w → In w c.queue
+next_in_queue may_begin c w e = cond_both (may_begin && is_free c) _ _ (λ r. r ≡ Some w → In w c.queue) (λ _ q. In-first_unmoved c.queue w q) (λ _ q. absurd (cc)) e
 
 pub numbered_end : (n : ℕ) (c : CellState) (call : ℕ) (may_begin : Bool) → IsNumbered n c → IsNumbered n (cell_end c call may_begin).cell
 numbered_end n c call may_begin k =
     cond_both (has_turn call c.turns) _ _ (λ (s : EndStep). IsNumbered n s.cell)
-    (λ _. numbered_next n (without_call c call) (next_call may_begin (without_call c call)) (next_in_line may_begin (without_call c call))
+    (λ _. numbered_next n (without_call c call) (next_call may_begin (without_call c call)) (next_in_queue may_begin (without_call c call))
     (record { open_turns = λ t i. k.open_turns t (In-without_turn call c.turns t i); waiters = k.waiters; held = k.held }))
     (λ _. k)
 
 pub numbered_poll : (n : ℕ) (c : CellState) (call : ℕ) → IsNumbered n c → IsNumbered n (cell_poll c call).cell
-numbered_poll n c call k = cond_both (has_turn call c.turns) _ _ (λ (s : PollStep). IsNumbered n s.cell) (λ _. k) (λ _. in_line (waiter_of call c.line))
+numbered_poll n c call k = cond_both (has_turn call c.turns) _ _ (λ (s : PollStep). IsNumbered n s.cell) (λ _. k) (λ _. in_queue (waiter_of call c.queue))
   where
-    in_line : (found : Option Waiter) → IsNumbered n (poll_waiter c call found).cell
-    in_line None = k
-    in_line (Some w) =
+    in_queue : (found : Option Waiter) → IsNumbered n (poll_waiter c call found).cell
+    in_queue None = k
+    in_queue (Some w) =
         cond_both w.moved _ _ (λ (s : PollStep). IsNumbered n s.cell)
-        (λ _. record { open_turns = k.open_turns; waiters = λ v i. k.waiters v (In-without_waiter call c.line v i); held = k.held })
+        (λ _. record { open_turns = k.open_turns; waiters = λ v i. k.waiters v (In-without_waiter call c.queue v i); held = k.held })
         (λ _. k)
 
 pub numbered_hold : (n : ℕ) (c : CellState) → IsNumbered n c → IsNumbered (n + 1) (with_hold c)
@@ -101,11 +101,11 @@ call-all_moved [] w i = absurd i
 call-all_moved (v ∷ ws) w (inl e) = (v, inl refl, let q = ap (λ (z : Waiter). z.call) e in cc)
 call-all_moved (v ∷ ws) w (inr i) = let m = call-all_moved ws w i in (m.0, inr m.1, m.2)
 
-pub numbered_moved : (n : ℕ) (c : CellState) → IsNumbered n c → IsNumbered n (with_line_moved c)
+pub numbered_moved : (n : ℕ) (c : CellState) → IsNumbered n c → IsNumbered n (with_queue_moved c)
 numbered_moved n c k =
     record {
       open_turns = k.open_turns;
-      waiters = λ w i. let m = call-all_moved c.line w i in let h = k.waiters m.0 m.1 in let e = m.2 in omega arith;
+      waiters = λ w i. let m = call-all_moved c.queue w i in let h = k.waiters m.0 m.1 in let e = m.2 in omega arith;
       held = k.held;
     }
 

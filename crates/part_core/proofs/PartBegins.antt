@@ -148,7 +148,7 @@ module _ (owner : PlacementTable → ActorKey → Option HostInfo) where
   poll_begins : (p : PartState) (call : ℕ) (found : Option ActorCell) → BeginsRightly owner p (Part.poll_cell owner p call found)
   poll_begins p call None = λ _ _ _ i. absurd i
   poll_begins p call (Some c) =
-      cond_both (has_turn call c.inner.turns) _ _ (λ (a : PollStep). BeginsRightly owner p (Part.polled_step owner p c call a.cell a.answer)) (λ _ _ _ _ i. absurd i) (λ _. go (waiter_of call c.inner.line))
+      cond_both (has_turn call c.inner.turns) _ _ (λ (a : PollStep). BeginsRightly owner p (Part.polled_step owner p c call a.cell a.answer)) (λ _ _ _ _ i. absurd i) (λ _. go (waiter_of call c.inner.queue))
     where
       go : (w : Option Waiter) → BeginsRightly owner p (Part.polled_step owner p c call (poll_waiter c.inner call w).cell (poll_waiter c.inner call w).answer)
       go None = λ _ _ _ i. absurd i
@@ -164,7 +164,7 @@ module _ (owner : PlacementTable → ActorKey → Option HostInfo) where
         | inr j ↦ next_begins p p c.active c.key p.opened (next_call (may_begin owner p c) (without_call c.inner call)) k n chain
             (λ w e. let b = begins_where owner p c (next_test (may_begin owner p c) (without_call c.inner call) w e) in (b.0, b.1)) j
       ])
-      (λ _. go (waiter_of call c.inner.line))
+      (λ _. go (waiter_of call c.inner.queue))
     where
       go : (w : Option Waiter) → BeginsRightly owner p (Part.ended_step owner p c call now c.inner (not_open w))
       go None = λ _ _ _ i. absurd i

@@ -11,7 +11,7 @@ use Rattle.turn_core.specs.Cell.{CellState, AskStep, EndStep, PollStep, is_free,
 use Rattle.turn_core.specs.CellSound.{In, FitsDepth}
 use Rattle.turn_core.proofs.Elements.{In-without_waiter}
 use Rattle.turn_core.proofs.CellSteps.{free_turns, first_chain, kept_chain-fits}
-use Rattle.turn_core.proofs.CellKeeps.{line_sound, without_call_sound, turn_begins, enters_free, enters_beside, waits_sound, holds_keep}
+use Rattle.turn_core.proofs.CellKeeps.{queue_sound, without_call_sound, turn_begins, enters_free, enters_beside, waits_sound, holds_keep}
 use Rattle.part_core.specs.declared.stage.Stage.TheVariants.{Open, Stopped}
 use Rattle.part_core.specs.declared.event.PartEvent.{PartEvent}
 use Rattle.part_cells.specs.declared.actor_cell.ActorCell.{ActorCell}
@@ -152,21 +152,21 @@ module _ (owner : PlacementTable → ActorKey → Option HostInfo) where
   poll_stepped p e call (Some c) f s running =
       let at = at_found owner p c s (In-cell_of_call p.cells call c f) in
       cond_both (has_turn call c.inner.turns) _ _ (λ (a : PollStep). Stepped owner p e (Part.polled_step owner p c call a.cell a.answer).part) (λ _. stays owner p e s)
-      (λ _. go at (waiter_of call c.inner.line))
+      (λ _. go at (waiter_of call c.inner.queue))
     where
       go : IsAt owner p c → (w : Option Waiter) → Stepped owner p e (Part.polled_step owner p c call (poll_waiter c.inner call w).cell (poll_waiter c.inner call w).answer).part
       go at None = stays owner p e s
       go at (Some w) =
           cond_both w.moved _ _ (λ (a : PollStep). Stepped owner p e (Part.polled_step owner p c call a.cell a.answer).part)
-          (λ _. one_cell owner p e (record c { inner = record (c.inner) { line = without_waiter call c.inner.line } }) p.drawn s running
+          (λ _. one_cell owner p e (record c { inner = record (c.inner) { queue = without_waiter call c.inner.queue } }) p.drawn s running
           (record {
-            sound = less_sound c _ at.sound (line_sound c.inner _ at.sound.sound (λ v i. at.sound.sound.line_fit v (In-without_waiter call c.inner.line v i))) (λ t i. i) refl (closing_facts c at.sound);
+            sound = less_sound c _ at.sound (queue_sound c.inner _ at.sound.sound (λ v i. at.sound.sound.queue_fit v (In-without_waiter call c.inner.queue v i))) (λ t i. i) refl (closing_facts c at.sound);
             comes = λ a. inl (at.had a);
             done = λ q. record {
-              foreign = λ n v i. (at.done q).foreign n v (In-without_waiter call c.inner.line v i);
-              free = λ z k v i. (at.done q).free z k v (In-without_waiter call c.inner.line v i);
+              foreign = λ n v i. (at.done q).foreign n v (In-without_waiter call c.inner.queue v i);
+              free = λ z k v i. (at.done q).free z k v (In-without_waiter call c.inner.queue v i);
             };
-            limits = less_within p c (record c { inner = record (c.inner) { line = without_waiter call c.inner.line } }) s (In-cell_of_call p.cells call c f) (record { key = refl; depth = refl; calls = polled_gets c.inner call });
+            limits = less_within p c (record c { inner = record (c.inner) { queue = without_waiter call c.inner.queue } }) s (In-cell_of_call p.cells call c f) (record { key = refl; depth = refl; calls = polled_gets c.inner call });
             held = at.held;
             drawn = omega arith;
           }))
@@ -181,12 +181,12 @@ module _ (owner : PlacementTable → ActorKey → Option HostInfo) where
 
   -- no call begins in a free own cell of an open part, so none waits
   pub none_waits : (p : PartState) (key : ActorKey) (b : Bool) (x : CellState) → (is_own owner p key ≡ true → b ≡ true) → (is_own owner p key ≡ false → HasNoWaiter x)
-      → ((b && is_free x) ≡ false ⊎ (first_unmoved x.line ≡ None)) → x.turns ≡ [] → HasNoWaiter x
+      → ((b && is_free x) ≡ false ⊎ (first_unmoved x.queue ≡ None)) → x.turns ≡ [] → HasNoWaiter x
   none_waits p key b x may foreign why z =
       elim (cases_Bool (is_own owner p key)) [
         | inl own ↦ elim why [
           | inl n ↦ absurd (true≢false (sym (and_from b (is_free x) (may own) (free_of_nil x z)) ∙ n))
-          | inr n ↦ moved_of_none x.line n
+          | inr n ↦ moved_of_none x.queue n
         ]
         | inr f ↦ foreign f
       ]
@@ -197,7 +197,7 @@ module _ (owner : PlacementTable → ActorKey → Option HostInfo) where
       let at = at_found owner p c s (In-cell_of_call p.cells call c f) in
       cond_both (has_turn call c.inner.turns) _ _ (λ (a : EndStep). Stepped owner p e (Part.ended_step owner p c call now a.cell a.answer).part)
       (λ t. ends at (In-has_turn call c.inner.turns t))
-      (λ _. go (waiter_of call c.inner.line))
+      (λ _. go (waiter_of call c.inner.queue))
     where
       go : (w : Option Waiter) → Stepped owner p e (Part.ended_step owner p c call now c.inner (not_open w)).part
       go None = stays owner p e s

@@ -119,9 +119,9 @@ module _ (owner : PlacementTable → ActorKey → Option HostInfo) where
         key = refl;
         active = λ a. inl a;
         sound = less_sound d _ s (moves_keep d.inner s.sound).sound (λ t i. i) refl (closing_facts d s);
-        kept = kept_with _ _ _ _ refl (length-all_moved d.inner.line) k;
+        kept = kept_with _ _ _ _ refl (length-all_moved d.inner.queue) k;
         holds = refl;
-        done = record { foreign = λ _. all_moved_moved d.inner.line; free = λ _ _. all_moved_moved d.inner.line };
+        done = record { foreign = λ _. all_moved_moved d.inner.queue; free = λ _ _. all_moved_moved d.inner.queue };
       })
 
   open_key : (p : PartState) (d : ActorCell) → (Part.open_cell owner p d).cell.key ≡ d.key

@@ -82,13 +82,13 @@ module _ (owner : PlacementTable → ActorKey → Option HostInfo) (p : PartStat
   polls_quiet : (call : ℕ) (found : Option ActorCell) → cell_of_call p.cells call ≡ found → StaysQuiet (Part.poll_cell owner p call found)
   polls_quiet call None f = same
   polls_quiet call (Some c) f =
-      cond_both (has_turn call c.inner.turns) _ _ (λ (a : PollStep). StaysQuiet (Part.polled_step owner p c call a.cell a.answer)) (λ _. same) (λ _. go (waiter_of call c.inner.line))
+      cond_both (has_turn call c.inner.turns) _ _ (λ (a : PollStep). StaysQuiet (Part.polled_step owner p c call a.cell a.answer)) (λ _. same) (λ _. go (waiter_of call c.inner.queue))
     where
       go : (w : Option Waiter) → StaysQuiet (Part.polled_step owner p c call (poll_waiter c.inner call w).cell (poll_waiter c.inner call w).answer)
       go None = same
       go (Some w) =
           cond_both w.moved _ _ (λ (a : PollStep). StaysQuiet (Part.polled_step owner p c call a.cell a.answer))
-          (λ _. written (record c { inner = record (c.inner) { line = without_waiter call c.inner.line } }) (same c (In-cell_of_call p.cells call c f)))
+          (λ _. written (record c { inner = record (c.inner) { queue = without_waiter call c.inner.queue } }) (same c (In-cell_of_call p.cells call c f)))
           (λ _. same)
 
   holds_quiet : (key : ActorKey) (found : Option ActorCell) → cell_at p.cells key ≡ found → StaysQuiet (Part.hold_cell owner p found)
@@ -181,7 +181,7 @@ module _ (owner : PlacementTable → ActorKey → Option HostInfo) (p : PartStat
     ends_quiet call (Some c) =
         cond_both (has_turn call c.inner.turns) _ _ (λ (a : EndStep). StaysQuiet (Part.ended_step owner p c call now a.cell a.answer))
         (λ _. let x : ActorCell = record c { inner = begun_next (without_call c.inner call) (next_call (may_begin owner p c) (without_call c.inner call)); last = max c.last now } in written x (λ _. late x (omega arith)))
-        (λ _. go (waiter_of call c.inner.line))
+        (λ _. go (waiter_of call c.inner.queue))
       where
         go : (w : Option Waiter) → StaysQuiet (Part.ended_step owner p c call now c.inner (not_open w))
         go None = same

@@ -81,7 +81,7 @@ pub record IsStandingKept (s : Standing) (a : ActorsState) : Type 0 where
 -- the number of each call of a cell is at most the last number drawn, and so is the count of holds
 pub record IsNumbered (drawn : ℕ) (c : CellState) : Type 0 where
   pub open_turns : (t : Turn) → In t c.turns → t.call ≤ drawn
-  pub waiters : (w : Waiter) → In w c.line → w.call ≤ drawn
+  pub waiters : (w : Waiter) → In w c.queue → w.call ≤ drawn
   pub held : c.holds ≤ drawn
 
 -- What is kept beside the cells: numbers within what was drawn, no more cells than a part holds, and room in the list

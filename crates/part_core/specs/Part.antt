@@ -17,7 +17,7 @@ use Rattle.turn_core.specs.declared.answer.CellEnd.{CellEnd}
 use Rattle.turn_core.specs.declared.answer.CellEnd.TheVariants as ending
 use Rattle.turn_core.specs.declared.answer.CellPoll.{CellPoll}
 use Rattle.turn_core.specs.declared.answer.CellPoll.TheVariants as polling
-use Rattle.turn_core.specs.Cell.{CellState, is_free, is_open_chain, unmoved, next_call, begun_next, call_of, without_call, chain_of, admit_call, cell_end, cell_poll, with_hold, without_hold, with_line_moved, without_turns}
+use Rattle.turn_core.specs.Cell.{CellState, is_free, is_open_chain, unmoved, next_call, begun_next, call_of, without_call, chain_of, admit_call, cell_end, cell_poll, with_hold, without_hold, with_queue_moved, without_turns}
 use Rattle.part_core.specs.declared.settings.TypeSettings.{TypeSettings}
 use Rattle.part_core.specs.declared.receipt.SeenStage.{SeenStage}
 use Rattle.part_core.specs.declared.receipt.SeenStage.TheVariants as seen
@@ -337,7 +337,7 @@ module _ (owner : PlacementTable → ActorKey → Option HostInfo) where
 
   -- every call in the queue of a foreign cell is marked as moved, and those that weren't moved before are counted
   abbrev pub move_in : ActorCell → CellStep
-  move_in c = record { cell = record c { inner = with_line_moved c.inner }; marks = []; first = 0; second = unmoved c.inner.line }
+  move_in c = record { cell = record c { inner = with_queue_moved c.inner }; marks = []; first = 0; second = unmoved c.inner.queue }
 
   -- In an own cell that is free and isn't closing, the first waiting call that isn't moved begins. The waiting calls
   -- of a foreign cell are moved.
@@ -400,7 +400,7 @@ module _ (owner : PlacementTable → ActorKey → Option HostInfo) where
   -- whether no call waits but moved ones, and the idle time of the actor's type has passed since its last turn or
   -- hold ended
   abbrev pub is_idle : PartState → ℕ → ActorCell → Bool
-  is_idle p now c = (unmoved c.inner.line == 0) && nat_le (settings_of p.kinds c.key.kind).idle_ms (now - c.last)
+  is_idle p now c = (unmoved c.inner.queue == 0) && nat_le (settings_of p.kinds c.key.kind).idle_ms (now - c.last)
 
   abbrev pub may_close : PartState → ℕ → ActorCell → Bool
   may_close p now c =

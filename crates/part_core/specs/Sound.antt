@@ -26,7 +26,7 @@ total_holds (c ∷ cs) = c.inner.holds + total_holds cs
 
 -- every call in the queue is moved
 abbrev pub HasNoWaiter : CellState → Type 0
-HasNoWaiter c = (w : Waiter) → In w c.line → w.moved ≡ true
+HasNoWaiter c = (w : Waiter) → In w c.queue → w.moved ≡ true
 
 -- What is true of one cell: its turns are sound; if a turn is open, it is active; if it is closing, it is active and
 -- has no open turn and no hold.

@@ -96,7 +96,7 @@ pub(crate) fn is_served(standing: &Standing, cell: &ActorCell, hash: u64) -> boo
 pub(crate) fn may_hand_over(standing: &Standing, cell: &ActorCell, hash: u64) -> bool
     requires owned { IsOwnIfActive standing.now cell.now }
     requires hashed { hash ≡ key_place cell.now.key.id }
-    ensures { 0 < length cell.now.inner.line → result ≡ ((is_open standing.now.stage && is_owned_by standing.now.member (ring_owner standing.now.table cell.now.key)) && not cell.now.closing) }
+    ensures { 0 < length cell.now.inner.queue → result ≡ ((is_open standing.now.stage && is_owned_by standing.now.member (ring_owner standing.now.table cell.now.key)) && not cell.now.closing) }
 {
     if cell.inner.waiting() == 0 || cell.closing {
         return false;

@@ -25,8 +25,8 @@ pub record WaiterFollows (depths : List TypeDepth) (log : List Said) (key : List
 
 pub record CellFollows (depths : List TypeDepth) (log : List Said) (key : List ℕ) (cell : CellState) : Type 0 where
   pub depth : cell.depth ≡ depth_of (before_slash key) depths
-  pub queue : (v : Waiter) → In v cell.line → WaiterFollows depths log key v
-  pub busy : cell.turns ≡ [] → cell.line ≡ []
+  pub queue : (v : Waiter) → In v cell.queue → WaiterFollows depths log key v
+  pub busy : cell.turns ≡ [] → cell.queue ≡ []
 
 -- a list with one element more isn't empty
 some-last : {A : Type 0} (xs : List A) (x : A) → xs ++ x ∷ [] ≡ [] → ⊥
@@ -42,23 +42,23 @@ kept-chain_for c n chain = by (c.depth == 0)
 
 -- ---- no call waits where nothing is open
 
-free_begins : (depth holds n : ℕ) (queue : List Waiter) (chain : Option (List ℕ)) → (admit_call (record { depth = depth; turns = []; line = queue; holds = holds }) n chain true).cell.turns ≡ [] → ⊥
+free_begins : (depth holds n : ℕ) (queue : List Waiter) (chain : Option (List ℕ)) → (admit_call (record { depth = depth; turns = []; queue = queue; holds = holds }) n chain true).cell.turns ≡ [] → ⊥
 free_begins depth holds n queue chain =
-    let c : CellState = record { depth = depth; turns = []; line = queue; holds = holds } in
+    let c : CellState = record { depth = depth; turns = []; queue = queue; holds = holds } in
     cond_both (is_open_chain c (kept_chain c chain)) _ _ (λ (s : AskStep). s.cell.turns ≡ [] → ⊥)
     (λ o _. false≢true (and_parts _ (is_first_chain [] (kept_chain c chain)) o).1)
     (λ _ e. absurd (cc))
 
-asks_busy : (c : CellState) (n : ℕ) (chain : Option (List ℕ)) → (c.turns ≡ [] → c.line ≡ []) → (admit_call c n chain true).cell.turns ≡ [] → (admit_call c n chain true).cell.line ≡ []
+asks_busy : (c : CellState) (n : ℕ) (chain : Option (List ℕ)) → (c.turns ≡ [] → c.queue ≡ []) → (admit_call c n chain true).cell.turns ≡ [] → (admit_call c n chain true).cell.queue ≡ []
 asks_busy c n chain busy = by c.turns refl
   where
-    by : (ts : List Turn) → c.turns ≡ ts → (admit_call c n chain true).cell.turns ≡ [] → (admit_call c n chain true).cell.line ≡ []
+    by : (ts : List Turn) → c.turns ≡ ts → (admit_call c n chain true).cell.turns ≡ [] → (admit_call c n chain true).cell.queue ≡ []
     by [] e none =
-        let free : CellState = record { depth = c.depth; turns = []; line = c.line; holds = c.holds } in
+        let free : CellState = record { depth = c.depth; turns = []; queue = c.queue; holds = c.holds } in
         let same : c ≡ free = ap (λ (ts : List Turn). record c { turns = ts }) e in
-        absurd (free_begins c.depth c.holds n c.line chain (subst (λ (d : CellState). (admit_call d n chain true).cell.turns ≡ []) same none))
+        absurd (free_begins c.depth c.holds n c.queue chain (subst (λ (d : CellState). (admit_call d n chain true).cell.turns ≡ []) same none))
     by (t ∷ ts) e some =
-        ask_cases c n chain true (λ (s : AskStep). s.cell.turns ≡ [] → s.cell.line ≡ [])
+        ask_cases c n chain true (λ (s : AskStep). s.cell.turns ≡ [] → s.cell.queue ≡ [])
         (λ _ _ none. absurd (some-last c.turns _ none))
         (λ none. absurd (cc))
         (λ _ _ none. absurd (some-last c.turns _ none))
@@ -74,9 +74,9 @@ none_left (v ∷ rest) each e =
     cond_both v.moved _ _ (λ (r : Option Waiter). r ≡ None → v ∷ rest ≡ []) (λ moved _. absurd (false≢true (sym here ∙ moved))) (λ _ found. absurd (cc)) e
 
 -- the call that begins when another ends was waiting
-pub next_in : (c : CellState) (w : Waiter) → next_call true c ≡ Some w → In w c.line
+pub next_in : (c : CellState) (w : Waiter) → next_call true c ≡ Some w → In w c.queue
 next_in c w =
-    cond_both (true && is_free c) _ _ (λ (r : Option Waiter). r ≡ Some w → In w c.line) (λ _ e. In-first_unmoved c.line w e) (λ _ e. absurd (cc))
+    cond_both (true && is_free c) _ _ (λ (r : Option Waiter). r ≡ Some w → In w c.queue) (λ _ e. In-first_unmoved c.queue w e) (λ _ e. absurd (cc))
 
 module _ (depths : List TypeDepth) (log : List Said) (key : List ℕ) where
   pub new_follows : CellFollows depths log key (new_cell (depth_of (before_slash key) depths))
@@ -89,9 +89,9 @@ module _ (depths : List TypeDepth) (log : List Said) (key : List ℕ) where
       let kept = chain_for c.depth n chain in
       record {
         depth = ask_cases c n kept true (λ (s : AskStep). s.cell.depth ≡ depth_of (before_slash key) depths) (λ _ _. f.depth) f.depth (λ _ _. f.depth) (λ _. f.depth) f.depth;
-        queue = ask_cases c n kept true (λ (s : AskStep). (v : Waiter) → In v s.cell.line → WaiterFollows depths log key v)
+        queue = ask_cases c n kept true (λ (s : AskStep). (v : Waiter) → In v s.cell.queue → WaiterFollows depths log key v)
             (λ _ _. f.queue) f.queue (λ _ _. f.queue)
-            (λ _ v i. elim (In-push c.line _ v i) [ inl old ↦ f.queue v old | inr new ↦ subst (λ (w : Waiter). WaiterFollows depths log key w) (sym new) last ])
+            (λ _ v i. elim (In-push c.queue _ v i) [ inl old ↦ f.queue v old | inr new ↦ subst (λ (w : Waiter). WaiterFollows depths log key w) (sym new) last ])
             f.queue;
         busy = asks_busy c n kept f.busy;
       }
@@ -100,14 +100,14 @@ module _ (depths : List TypeDepth) (log : List Said) (key : List ℕ) where
       last = record { unmoved = refl; brought = chain; asked = asked; chain = kept-chain_for c n chain ∙ ap (λ (d : ℕ). chain_for d n chain) f.depth }
 
   -- the first call in the queue begins if nothing is open
-  next_follows : (c : CellState) → c.depth ≡ depth_of (before_slash key) depths → ((v : Waiter) → In v c.line → WaiterFollows depths log key v)
+  next_follows : (c : CellState) → c.depth ≡ depth_of (before_slash key) depths → ((v : Waiter) → In v c.queue → WaiterFollows depths log key v)
       → CellFollows depths log key (begun_next c (next_call true c))
   next_follows c depth queue =
-      cond_both (true && is_free c) _ _ (λ (r : Option Waiter). CellFollows depths log key (begun_next c r)) (λ free. begins (first_unmoved c.line) refl) (λ busy. stays busy)
+      cond_both (true && is_free c) _ _ (λ (r : Option Waiter). CellFollows depths log key (begun_next c r)) (λ free. begins (first_unmoved c.queue) refl) (λ busy. stays busy)
     where
-      begins : (next : Option Waiter) → first_unmoved c.line ≡ next → CellFollows depths log key (begun_next c next)
-      begins None e = record { depth = depth; queue = queue; busy = λ _. none_left c.line (λ v i. (queue v i).unmoved) e }
-      begins (Some w) e = record { depth = depth; queue = λ v i. queue v (In-without_first c.line v i); busy = λ none. absurd (some-last c.turns _ none) }
+      begins : (next : Option Waiter) → first_unmoved c.queue ≡ next → CellFollows depths log key (begun_next c next)
+      begins None e = record { depth = depth; queue = queue; busy = λ _. none_left c.queue (λ v i. (queue v i).unmoved) e }
+      begins (Some w) e = record { depth = depth; queue = λ v i. queue v (In-without_first c.queue v i); busy = λ none. absurd (some-last c.turns _ none) }
 
       stays : (true && is_free c) ≡ false → CellFollows depths log key c
       stays busy = record { depth = depth; queue = queue; busy = λ none. (let free : (length c.turns == 0) ≡ true = ap (λ (ts : List Turn). length ts == 0) none in absurd (false≢true (sym busy ∙ free))) }
@@ -118,13 +118,13 @@ module _ (depths : List TypeDepth) (log : List Said) (key : List ℕ) where
 
   pub poll_follows : (c : CellState) (call : ℕ) → CellFollows depths log key c → CellFollows depths log key (cell_poll c call).cell
   poll_follows c call f =
-      cond_both (has_turn call c.turns) _ _ (λ (s : PollStep). CellFollows depths log key s.cell) (λ _. f) (λ _. by (waiter_of call c.line))
+      cond_both (has_turn call c.turns) _ _ (λ (s : PollStep). CellFollows depths log key s.cell) (λ _. f) (λ _. by (waiter_of call c.queue))
     where
       by : (found : Option Waiter) → CellFollows depths log key (poll_waiter c call found).cell
       by None = f
       by (Some w) =
           cond_both w.moved _ _ (λ (s : PollStep). CellFollows depths log key s.cell)
-          (λ _. record { depth = f.depth; queue = λ v i. f.queue v (In-without_waiter call c.line v i); busy = λ none. ap (λ (ws : List Waiter). without_waiter call ws) (f.busy none) })
+          (λ _. record { depth = f.depth; queue = λ v i. f.queue v (In-without_waiter call c.queue v i); busy = λ none. ap (λ (ws : List Waiter). without_waiter call ws) (f.busy none) })
           (λ _. f)
 
   pub holds_follow : (c : CellState) (holds : ℕ) → CellFollows depths log key c → CellFollows depths log key (record c { holds = holds })

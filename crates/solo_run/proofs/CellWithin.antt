@@ -13,10 +13,10 @@ record IsAbsent (call : ℕ) (turns : List Turn) (queue : List Waiter) : Type 0 
   no_turn : has_turn call turns ≡ false
   no_waiter : is_some (waiter_of call queue) ≡ false
 
-absent : (call : ℕ) (c : CellState) → is_in_cell call c ≡ false → IsAbsent call c.turns c.line
-absent call c h = let p = or_parts (has_turn call c.turns) (is_some (waiter_of call c.line)) h in record { no_turn = p.0; no_waiter = p.1 }
+absent : (call : ℕ) (c : CellState) → is_in_cell call c ≡ false → IsAbsent call c.turns c.queue
+absent call c h = let p = or_parts (has_turn call c.turns) (is_some (waiter_of call c.queue)) h in record { no_turn = p.0; no_waiter = p.1 }
 
-not_in : (call : ℕ) (c : CellState) → IsAbsent call c.turns c.line → is_in_cell call c ≡ false
+not_in : (call : ℕ) (c : CellState) → IsAbsent call c.turns c.queue → is_in_cell call c ≡ false
 not_in call c a = rw (a.no_turn, a.no_waiter)
 
 -- ---- turns
@@ -73,22 +73,22 @@ first_other call (v ∷ ws) w h e =
 
 -- ---- the steps of a cell
 
-begun_absent : (call : ℕ) (c : CellState) (next : Option Waiter) → IsAbsent call c.turns c.line → ((w : Waiter) → next ≡ Some w → eqb call w.call ≡ false) → is_in_cell call (begun_next c next) ≡ false
+begun_absent : (call : ℕ) (c : CellState) (next : Option Waiter) → IsAbsent call c.turns c.queue → ((w : Waiter) → next ≡ Some w → eqb call w.call ≡ false) → is_in_cell call (begun_next c next) ≡ false
 begun_absent call c None a other = not_in call c a
 begun_absent call c (Some w) a other =
-    rw (turn_push call c.turns (record { call = w.call; chain = w.chain }) a.no_turn (other w refl), waiter_next call c.line a.no_waiter)
+    rw (turn_push call c.turns (record { call = w.call; chain = w.chain }) a.no_turn (other w refl), waiter_next call c.queue a.no_waiter)
 
-next_other : (call : ℕ) (c : CellState) (may_begin : Bool) (w : Waiter) → IsAbsent call c.turns c.line → next_call may_begin c ≡ Some w → eqb call w.call ≡ false
+next_other : (call : ℕ) (c : CellState) (may_begin : Bool) (w : Waiter) → IsAbsent call c.turns c.queue → next_call may_begin c ≡ Some w → eqb call w.call ≡ false
 next_other call c may_begin w a e = by (may_begin && eqb (length c.turns) 0) refl
   where
     by : (b : Bool) → (may_begin && eqb (length c.turns) 0) ≡ b → eqb call w.call ≡ false
-    by true f = first_other call c.line w a.no_waiter (rw f at e)
+    by true f = first_other call c.queue w a.no_waiter (rw f at e)
     by false f = let found : ◌≡◌ {A = Option Waiter} None (Some w) = rw f at e in absurd (cc)
 
 pub end_absent : (call ended : ℕ) (may_begin : Bool) (c : CellState) → is_in_cell call c ≡ false → is_in_cell call (cell_end c ended may_begin).cell ≡ false
 end_absent call ended may_begin c h =
     let a = absent call c h in
-    let less : IsAbsent call (without_call c ended).turns (without_call c ended).line = record { no_turn = turn_less call ended c.turns a.no_turn; no_waiter = a.no_waiter } in
+    let less : IsAbsent call (without_call c ended).turns (without_call c ended).queue = record { no_turn = turn_less call ended c.turns a.no_turn; no_waiter = a.no_waiter } in
     cond_both (has_turn ended c.turns) _ _ (λ (s : EndStep). is_in_cell call s.cell ≡ false)
     (λ e. begun_absent call (without_call c ended) (next_call may_begin (without_call c ended)) less (λ w f. next_other call (without_call c ended) may_begin w less f))
     (λ e. h)
@@ -97,14 +97,14 @@ pub poll_absent : (call polled : ℕ) (c : CellState) → is_in_cell call c ≡ 
 poll_absent call polled c h =
     cond_both (has_turn polled c.turns) _ _ (λ (s : PollStep). is_in_cell call s.cell ≡ false)
     (λ e. h)
-    (λ e. by (waiter_of polled c.line))
+    (λ e. by (waiter_of polled c.queue))
   where
     by : (next : Option Waiter) → is_in_cell call (poll_waiter c polled next).cell ≡ false
     by None = h
     by (Some w) =
         let a = absent call c h in
         cond_both w.moved _ _ (λ (s : PollStep). is_in_cell call s.cell ≡ false)
-        (λ e. rw (a.no_turn, waiter_less call polled c.line a.no_waiter))
+        (λ e. rw (a.no_turn, waiter_less call polled c.queue a.no_waiter))
         (λ e. h)
 
 pub ask_absent : (call number : ℕ) (chain : Option (List ℕ)) (may_begin : Bool) (c : CellState) → is_in_cell call c ≡ false → eqb call number ≡ false → is_in_cell call (admit_call c number chain may_begin).cell ≡ false
@@ -115,7 +115,7 @@ ask_absent call number chain may_begin c h other =
     (λ _ _. begun)
     h
     (λ _ _. begun)
-    (λ _. rw (a.no_turn, waiter_push call c.line (record { call = number; chain = kept_chain c chain; moved = false }) a.no_waiter other))
+    (λ _. rw (a.no_turn, waiter_push call c.queue (record { call = number; chain = kept_chain c chain; moved = false }) a.no_waiter other))
     h
 
 -- ---- holds
@@ -130,7 +130,7 @@ end_holds c call may_begin =
 
 poll_holds : (c : CellState) (call : ℕ) → (cell_poll c call).cell.holds ≡ c.holds
 poll_holds c call =
-    cond_both (has_turn call c.turns) _ _ (λ (s : PollStep). s.cell.holds ≡ c.holds) (λ e. refl) (λ e. by (waiter_of call c.line))
+    cond_both (has_turn call c.turns) _ _ (λ (s : PollStep). s.cell.holds ≡ c.holds) (λ e. refl) (λ e. by (waiter_of call c.queue))
   where
     by : (next : Option Waiter) → (poll_waiter c call next).cell.holds ≡ c.holds
     by None = refl

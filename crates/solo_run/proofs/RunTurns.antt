@@ -86,7 +86,7 @@ module _ (depths : List TypeDepth) (log : List Said) (w : SoloState) (f : Follow
           rw t
           (next_told key cell call asked.chain (log ++ said ∷ more) (next_call true (without_call cell call))
           (asked-found call (record { key = key; chain = asked.chain }) log (said ∷ more) asked.asked) (next said))
-      by false t = rw t (not_open_told call (log ++ record { event = End call; outcome = end_outcome call (not_open (waiter_of call cell.line)) } ∷ more) (waiter_of call cell.line))
+      by false t = rw t (not_open_told call (log ++ record { event = End call; outcome = end_outcome call (not_open (waiter_of call cell.queue)) } ∷ more) (waiter_of call cell.queue))
 
   hold_told : (key : List ℕ) (more : List Said) (found : Option CellState) → IsTold (Hold key) more (hold_step w key found)
   hold_told key more None = refl

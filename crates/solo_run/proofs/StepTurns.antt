@@ -40,7 +40,7 @@ end_told w call key cell = by (has_turn call cell.turns) refl
   where
     by : (b : Bool) → has_turn call cell.turns ≡ b → IsTold (End call) (end_at w call key cell)
     by true e = rw e (next_told key call (next_call true (without_call cell call)))
-    by false e = rw e (not_open_told call (waiter_of call cell.line))
+    by false e = rw e (not_open_told call (waiter_of call cell.queue))
 
 -- an event at the cell of a call, if there is one
 at_call_told : (w : SoloState) (event : SoloEvent) (step : List ℕ → CellState → WorldStep) (call : ℕ) → [] ≡ told_turns event out.NotThere → ((key : List ℕ) (cell : CellState) → IsTold event (step key cell)) → IsTold event (at_call w step call)

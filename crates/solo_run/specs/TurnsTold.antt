@@ -120,4 +120,4 @@ open_turns key w = turns_in (cell_at key w.actors)
 
 -- an actor with a waiting call has an open turn
 abbrev pub NoIdleWaiter : SoloState → Type 0
-NoIdleWaiter w = (a : Actor) → In a w.actors → a.cell.turns ≡ [] → a.cell.line ≡ []
+NoIdleWaiter w = (a : Actor) → In a w.actors → a.cell.turns ≡ [] → a.cell.queue ≡ []

@@ -1,7 +1,7 @@
 // What a machine is, and whom its replies concern.
 
 /// Which waiting calls a reply may be news for. A gate wakes these calls. A call that isn't woken polls again by itself
-/// some milliseconds later.
+/// when the gate's pause is over.
 #[derive(Clone, Copy, Debug, PartialEq, Eq)]
 pub enum News {
     /// No waiting call is ready now that wasn't ready before.

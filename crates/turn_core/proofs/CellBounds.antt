@@ -7,15 +7,15 @@ use Rattle.turn_core.specs.declared.cell.Turn.{Turn}
 use Rattle.turn_core.specs.declared.cell.Waiter.{Waiter}
 use Rattle.turn_core.specs.declared.answer.CellEnd.TheVariants as ending
 use Rattle.turn_core.specs.declared.answer.CellPoll.TheVariants as polled
-use Rattle.turn_core.specs.Cell.{CellState, EndStep, PollStep, longest_line, is_in_cell, is_free, is_open_chain, kept_chain, has_turn, without_turn, waiter_of, without_waiter, first_unmoved, without_first_unmoved, all_moved, begun_turns, begun_next, next_call, call_of, without_call, not_open, cell_end, poll_waiter, cell_poll}
+use Rattle.turn_core.specs.Cell.{CellState, EndStep, PollStep, longest_queue, is_in_cell, is_free, is_open_chain, kept_chain, has_turn, without_turn, waiter_of, without_waiter, first_unmoved, without_first_unmoved, all_moved, begun_turns, begun_next, next_call, call_of, without_call, not_open, cell_end, poll_waiter, cell_poll}
 use Rattle.turn_core.specs.CellSound.{FitsDepth, IsCellSound, IsCellKept}
 use Rattle.turn_core.proofs.Elements.{In-without_waiter}
 use Rattle.turn_core.proofs.CellSteps.{kept_chain-fits}
-use Rattle.turn_core.proofs.CellKeeps.{line_sound, turn_begins, enters_beside, enters_free, waits_sound, without_call_sound, next_begins, moves_keep}
+use Rattle.turn_core.proofs.CellKeeps.{queue_sound, turn_begins, enters_beside, enters_free, waits_sound, without_call_sound, next_begins, moves_keep}
 use Rattle.turn_core.proofs.Once.{begun_once, waits_once, ended_once, taken_once, next_once, moved_once}
 use Rattle.turn_core.proofs.Places.{of_waiter, waiter_of-found, waiter_of-missed, without_waiter-found, place_of-found}
 
--- ---- the first call in the line begins
+-- ---- the first call in the queue begins
 
 without_first-none : (ws : List Waiter) → first_unmoved ws ≡ None → without_first_unmoved ws ≡ ws
 without_first-none [] e = refl
@@ -41,23 +41,23 @@ length-all_moved : (ws : List Waiter) → length (all_moved ws) ≡ length ws
 length-all_moved [] = refl
 length-all_moved (w ∷ ws) = let more = length-all_moved ws in omega arith
 
-begun_parts : (c : CellState) (next : Option Waiter) → first_unmoved c.line ≡ next
-    → record c { turns = c.turns ++ begun_turns next; line = without_first_unmoved c.line } ≡ begun_next c next
+begun_parts : (c : CellState) (next : Option Waiter) → first_unmoved c.queue ≡ next
+    → record c { turns = c.turns ++ begun_turns next; queue = without_first_unmoved c.queue } ≡ begun_next c next
 begun_parts c None e =
     let p = append-nil c.turns in
-    let q = without_first-none c.line e in
-    λ i. record c { turns = p i; line = q i }
+    let q = without_first-none c.queue e in
+    λ i. record c { turns = p i; queue = q i }
 begun_parts c (Some w) e = refl
 
-pub begun_cell : (c : CellState) (turns : List Turn) (line : List Waiter) → turns ≡ c.turns ++ begun_turns (first_unmoved c.line) → line ≡ without_first_unmoved c.line
-    → record c { turns = turns; line = line } ≡ begun_next c (first_unmoved c.line)
-begun_cell c turns line p q =
-    let whole : record c { turns = turns; line = line } ≡ record c { turns = c.turns ++ begun_turns (first_unmoved c.line); line = without_first_unmoved c.line } = λ i. record c { turns = p i; line = q i } in
-    whole ∙ begun_parts c (first_unmoved c.line) refl
+pub begun_cell : (c : CellState) (turns : List Turn) (queue : List Waiter) → turns ≡ c.turns ++ begun_turns (first_unmoved c.queue) → queue ≡ without_first_unmoved c.queue
+    → record c { turns = turns; queue = queue } ≡ begun_next c (first_unmoved c.queue)
+begun_cell c turns queue p q =
+    let whole : record c { turns = turns; queue = queue } ≡ record c { turns = c.turns ++ begun_turns (first_unmoved c.queue); queue = without_first_unmoved c.queue } = λ i. record c { turns = p i; queue = q i } in
+    whole ∙ begun_parts c (first_unmoved c.queue) refl
 
-line-begun_next : (c : CellState) (next : Option Waiter) → length (begun_next c next).line ≤ length c.line
-line-begun_next c None = omega arith
-line-begun_next c (Some w) = length-without_first c.line
+queue-begun_next : (c : CellState) (next : Option Waiter) → length (begun_next c next).queue ≤ length c.queue
+queue-begun_next c None = omega arith
+queue-begun_next c (Some w) = length-without_first c.queue
 
 holds-begun_next : (c : CellState) (next : Option Waiter) → (begun_next c next).holds ≡ c.holds
 holds-begun_next c None = refl
@@ -67,21 +67,21 @@ depth-begun_next : (c : CellState) (next : Option Waiter) → (begun_next c next
 depth-begun_next c None = refl
 depth-begun_next c (Some w) = refl
 
-pub begun_kept : (c : CellState) (turns : List Turn) (line : List Waiter) → IsCellKept c → c.turns ≡ [] → turns ≡ c.turns ++ begun_turns (first_unmoved c.line) → line ≡ without_first_unmoved c.line
-    → IsCellKept (record c { turns = turns; line = line })
-begun_kept c turns line k free p q =
-    let d : CellState = begun_next c (first_unmoved c.line) in
-    let b = line-begun_next c (first_unmoved c.line) in
-    let h = holds-begun_next c (first_unmoved c.line) in
-    let e = depth-begun_next c (first_unmoved c.line) in
+pub begun_kept : (c : CellState) (turns : List Turn) (queue : List Waiter) → IsCellKept c → c.turns ≡ [] → turns ≡ c.turns ++ begun_turns (first_unmoved c.queue) → queue ≡ without_first_unmoved c.queue
+    → IsCellKept (record c { turns = turns; queue = queue })
+begun_kept c turns queue k free p q =
+    let d : CellState = begun_next c (first_unmoved c.queue) in
+    let b = queue-begun_next c (first_unmoved c.queue) in
+    let h = holds-begun_next c (first_unmoved c.queue) in
+    let e = depth-begun_next c (first_unmoved c.queue) in
     let kept : IsCellKept d = record {
-      sound = (next_begins c (first_unmoved c.line) k.sound free refl).sound;
-      once = next_once c (first_unmoved c.line) refl k.once;
+      sound = (next_begins c (first_unmoved c.queue) k.sound free refl).sound;
+      once = next_once c (first_unmoved c.queue) refl k.once;
       depth_fits = (let l = k.depth_fits in omega arith);
-      line_fits = (let l = k.line_fits in omega arith);
+      queue_fits = (let l = k.queue_fits in omega arith);
       holds_fit = (let l = k.holds_fit in omega arith);
     } in
-    subst (λ (s : CellState). IsCellKept s) (sym (begun_cell c turns line p q)) kept
+    subst (λ (s : CellState). IsCellKept s) (sym (begun_cell c turns queue p q)) kept
 
 -- ---- ask
 
@@ -91,7 +91,7 @@ asked_kept c call chain kept turns k absent given same o l p =
     let fits : FitsDepth c.depth kept = subst (λ (z : Option (List ℕ)). FitsDepth c.depth z) (sym same) (kept_chain-fits c chain given) in
     let begun = turn_begins c call kept k.sound fits (enters_beside c kept k.sound fits o l) in
     subst (λ (ts : List Turn). IsCellKept (record c { turns = ts })) (sym p)
-    (record { sound = begun.sound; once = begun_once c call kept k.once absent; depth_fits = k.depth_fits; line_fits = k.line_fits; holds_fit = k.holds_fit })
+    (record { sound = begun.sound; once = begun_once c call kept k.once absent; depth_fits = k.depth_fits; queue_fits = k.queue_fits; holds_fit = k.holds_fit })
 
 -- the same for a call that begins in a free cell
 pub freed_kept : (c : CellState) (call : ℕ) (chain kept : Option (List ℕ)) (turns : List Turn) → IsCellKept c → is_in_cell call c ≡ false → (0 < c.depth → IsSome chain) → kept ≡ kept_chain c chain
@@ -100,18 +100,18 @@ freed_kept c call chain kept turns k absent given same free p =
     let fits : FitsDepth c.depth kept = subst (λ (z : Option (List ℕ)). FitsDepth c.depth z) (sym same) (kept_chain-fits c chain given) in
     let begun = turn_begins c call kept k.sound fits (enters_free c.depth c.turns kept free) in
     subst (λ (ts : List Turn). IsCellKept (record c { turns = ts })) (sym p)
-    (record { sound = begun.sound; once = begun_once c call kept k.once absent; depth_fits = k.depth_fits; line_fits = k.line_fits; holds_fit = k.holds_fit })
+    (record { sound = begun.sound; once = begun_once c call kept k.once absent; depth_fits = k.depth_fits; queue_fits = k.queue_fits; holds_fit = k.holds_fit })
 
-pub waits_kept : (c : CellState) (call : ℕ) (chain kept : Option (List ℕ)) (line : List Waiter) → IsCellKept c → is_in_cell call c ≡ false → (0 < c.depth → IsSome chain) → kept ≡ kept_chain c chain
-    → length c.line < longest_line → line ≡ c.line ++ record { call = call; chain = kept; moved = false } ∷ [] → IsCellKept (record c { line = line })
-waits_kept c call chain kept line k absent given same l p =
+pub waits_kept : (c : CellState) (call : ℕ) (chain kept : Option (List ℕ)) (queue : List Waiter) → IsCellKept c → is_in_cell call c ≡ false → (0 < c.depth → IsSome chain) → kept ≡ kept_chain c chain
+    → length c.queue < longest_queue → queue ≡ c.queue ++ record { call = call; chain = kept; moved = false } ∷ [] → IsCellKept (record c { queue = queue })
+waits_kept c call chain kept queue k absent given same l p =
     let fits : FitsDepth c.depth kept = subst (λ (z : Option (List ℕ)). FitsDepth c.depth z) (sym same) (kept_chain-fits c chain given) in
-    subst (λ (ws : List Waiter). IsCellKept (record c { line = ws })) (sym p)
+    subst (λ (ws : List Waiter). IsCellKept (record c { queue = ws })) (sym p)
     (record {
       sound = waits_sound c call kept k.sound fits;
       once = waits_once c call kept k.once absent;
       depth_fits = k.depth_fits;
-      line_fits = (let q : length (c.line ++ record { call = call; chain = kept; moved = false } ∷ []) ≡ length c.line + 1 = simp length-append in omega arith);
+      queue_fits = (let q : length (c.queue ++ record { call = call; chain = kept; moved = false } ∷ []) ≡ length c.queue + 1 = simp length-append in omega arith);
       holds_fit = k.holds_fit;
     })
 
@@ -126,9 +126,9 @@ without_turn-absent call (t ∷ ts) e =
 pub ended_kept : (c : CellState) (call : ℕ) (turns : List Turn) → IsCellKept c → turns ≡ without_turn call c.turns → IsCellKept (record c { turns = turns })
 ended_kept c call turns k p =
     subst (λ (ts : List Turn). IsCellKept (record c { turns = ts })) (sym p)
-    (record { sound = without_call_sound c call k.sound; once = ended_once c call k.once; depth_fits = k.depth_fits; line_fits = k.line_fits; holds_fit = k.holds_fit })
+    (record { sound = without_call_sound c call k.sound; once = ended_once c call k.once; depth_fits = k.depth_fits; queue_fits = k.queue_fits; holds_fit = k.holds_fit })
 
-end_of_absent : (c : CellState) (call : ℕ) (may_begin : Bool) → has_turn call c.turns ≡ false → cell_end c call may_begin ≡ record { cell = c; answer = not_open (waiter_of call c.line) }
+end_of_absent : (c : CellState) (call : ℕ) (may_begin : Bool) → has_turn call c.turns ≡ false → cell_end c call may_begin ≡ record { cell = c; answer = not_open (waiter_of call c.queue) }
 end_of_absent c call may_begin e = cond-false (has_turn call c.turns) _ _ e
 
 pub absent_cell : (c : CellState) (call : ℕ) (may_begin : Bool) (turns : List Turn) → has_turn call c.turns ≡ false → turns ≡ without_turn call c.turns → record c { turns = turns } ≡ (cell_end c call may_begin).cell
@@ -143,65 +143,65 @@ end_of_open c call may_begin next e n =
     cond-true (has_turn call c.turns) _ _ e
     ∙ ap (λ (r : Option Waiter). let s : EndStep = record { cell = begun_next (without_call c call) r; answer = ending.Ended (option_map call_of r) } in s) n
 
-next_first : (c : CellState) (call : ℕ) (may_begin : Bool) → may_begin ≡ true → without_turn call c.turns ≡ [] → next_call may_begin (without_call c call) ≡ first_unmoved c.line
+next_first : (c : CellState) (call : ℕ) (may_begin : Bool) → may_begin ≡ true → without_turn call c.turns ≡ [] → next_call may_begin (without_call c call) ≡ first_unmoved c.queue
 next_first c call may_begin m free =
     let t = ap (λ (b : Bool). b && is_free (without_call c call)) m in
     let f = ap (λ (ts : List Turn). length ts == 0) free in
     cond-true (may_begin && is_free (without_call c call)) _ _ (t ∙ f)
 
-pub next_cell : (c : CellState) (call : ℕ) (may_begin : Bool) (ended turns : List Turn) (line : List Waiter) → has_turn call c.turns ≡ true → may_begin ≡ true → ended ≡ without_turn call c.turns → ended ≡ []
-    → turns ≡ ended ++ begun_turns (first_unmoved c.line) → line ≡ without_first_unmoved c.line
-    → record c { turns = turns; line = line } ≡ (cell_end c call may_begin).cell
-next_cell c call may_begin ended turns line e m same free p q =
-    begun_cell (without_call c call) turns line (p ∙ ap (λ (ts : List Turn). ts ++ begun_turns (first_unmoved c.line)) same) q
-    ∙ sym (ap (λ (s : EndStep). s.cell) (end_of_open c call may_begin (first_unmoved c.line) e (next_first c call may_begin m (sym same ∙ free))))
+pub next_cell : (c : CellState) (call : ℕ) (may_begin : Bool) (ended turns : List Turn) (queue : List Waiter) → has_turn call c.turns ≡ true → may_begin ≡ true → ended ≡ without_turn call c.turns → ended ≡ []
+    → turns ≡ ended ++ begun_turns (first_unmoved c.queue) → queue ≡ without_first_unmoved c.queue
+    → record c { turns = turns; queue = queue } ≡ (cell_end c call may_begin).cell
+next_cell c call may_begin ended turns queue e m same free p q =
+    begun_cell (without_call c call) turns queue (p ∙ ap (λ (ts : List Turn). ts ++ begun_turns (first_unmoved c.queue)) same) q
+    ∙ sym (ap (λ (s : EndStep). s.cell) (end_of_open c call may_begin (first_unmoved c.queue) e (next_first c call may_begin m (sym same ∙ free))))
 
 -- ---- poll
 
-poll_in_line : (c : CellState) (call : ℕ) (found : Option Waiter) → has_turn call c.turns ≡ false → waiter_of call c.line ≡ found → cell_poll c call ≡ poll_waiter c call found
-poll_in_line c call found e w = cond-false (has_turn call c.turns) _ _ e ∙ ap (λ (r : Option Waiter). poll_waiter c call r) w
+poll_in_queue : (c : CellState) (call : ℕ) (found : Option Waiter) → has_turn call c.turns ≡ false → waiter_of call c.queue ≡ found → cell_poll c call ≡ poll_waiter c call found
+poll_in_queue c call found e w = cond-false (has_turn call c.turns) _ _ e ∙ ap (λ (r : Option Waiter). poll_waiter c call r) w
 
-pub poll_gone : (c : CellState) (call : ℕ) → has_turn call c.turns ≡ false → position (of_waiter call) c.line ≡ None → cell_poll c call ≡ record { cell = c; answer = polled.Gone }
-poll_gone c call e p = poll_in_line c call None e (waiter_of-missed call c.line p)
+pub poll_gone : (c : CellState) (call : ℕ) → has_turn call c.turns ≡ false → position (of_waiter call) c.queue ≡ None → cell_poll c call ≡ record { cell = c; answer = polled.Gone }
+poll_gone c call e p = poll_in_queue c call None e (waiter_of-missed call c.queue p)
 
-pub poll_moved : (c : CellState) (call i : ℕ) (w : Waiter) → has_turn call c.turns ≡ false → position (of_waiter call) c.line ≡ Some i → w ≡ get_or c.line i w → w.moved ≡ true
-    → cell_poll c call ≡ record { cell = record c { line = remove c.line i }; answer = polled.Moved }
+pub poll_moved : (c : CellState) (call i : ℕ) (w : Waiter) → has_turn call c.turns ≡ false → position (of_waiter call) c.queue ≡ Some i → w ≡ get_or c.queue i w → w.moved ≡ true
+    → cell_poll c call ≡ record { cell = record c { queue = remove c.queue i }; answer = polled.Moved }
 poll_moved c call i w e p read m =
-    poll_in_line c call (Some w) e (waiter_of-found call c.line i w p ∙ ap (λ (z : Waiter). Some z) (sym read))
+    poll_in_queue c call (Some w) e (waiter_of-found call c.queue i w p ∙ ap (λ (z : Waiter). Some z) (sym read))
     ∙ cond-true w.moved _ _ m
-    ∙ ap (λ (ws : List Waiter). let s : PollStep = record { cell = record c { line = ws }; answer = polled.Moved } in s) (without_waiter-found call c.line i p)
+    ∙ ap (λ (ws : List Waiter). let s : PollStep = record { cell = record c { queue = ws }; answer = polled.Moved } in s) (without_waiter-found call c.queue i p)
 
-pub poll_waits : (c : CellState) (call i : ℕ) (w : Waiter) → has_turn call c.turns ≡ false → position (of_waiter call) c.line ≡ Some i → w ≡ get_or c.line i w → w.moved ≡ false
+pub poll_waits : (c : CellState) (call i : ℕ) (w : Waiter) → has_turn call c.turns ≡ false → position (of_waiter call) c.queue ≡ Some i → w ≡ get_or c.queue i w → w.moved ≡ false
     → cell_poll c call ≡ record { cell = c; answer = polled.Waits (i + 1) }
 poll_waits c call i w e p read m =
-    poll_in_line c call (Some w) e (waiter_of-found call c.line i w p ∙ ap (λ (z : Waiter). Some z) (sym read))
+    poll_in_queue c call (Some w) e (waiter_of-found call c.queue i w p ∙ ap (λ (z : Waiter). Some z) (sym read))
     ∙ cond-false w.moved _ _ m
-    ∙ ap (λ (n : ℕ). let s : PollStep = record { cell = c; answer = polled.Waits n } in s) (place_of-found call c.line i p)
+    ∙ ap (λ (n : ℕ). let s : PollStep = record { cell = c; answer = polled.Waits n } in s) (place_of-found call c.queue i p)
 
-pub polled_kept : (c : CellState) (call i : ℕ) (line : List Waiter) → IsCellKept c → position (of_waiter call) c.line ≡ Some i → line ≡ remove c.line i → IsCellKept (record c { line = line })
-polled_kept c call i line k p q =
-    let same = q ∙ sym (without_waiter-found call c.line i p) in
-    subst (λ (ws : List Waiter). IsCellKept (record c { line = ws })) (sym same)
+pub polled_kept : (c : CellState) (call i : ℕ) (queue : List Waiter) → IsCellKept c → position (of_waiter call) c.queue ≡ Some i → queue ≡ remove c.queue i → IsCellKept (record c { queue = queue })
+polled_kept c call i queue k p q =
+    let same = q ∙ sym (without_waiter-found call c.queue i p) in
+    subst (λ (ws : List Waiter). IsCellKept (record c { queue = ws })) (sym same)
     (record {
       sound = taken_sound;
       once = taken_once c call k.once;
       depth_fits = k.depth_fits;
-      line_fits = (let l = length-without_waiter call c.line in let m = k.line_fits in omega arith);
+      queue_fits = (let l = length-without_waiter call c.queue in let m = k.queue_fits in omega arith);
       holds_fit = k.holds_fit;
     })
   where
-    taken_sound : IsCellSound (record c { line = without_waiter call c.line })
-    taken_sound = line_sound c _ k.sound (λ w j. k.sound.line_fit w (In-without_waiter call c.line w j))
+    taken_sound : IsCellSound (record c { queue = without_waiter call c.queue })
+    taken_sound = queue_sound c _ k.sound (λ w j. k.sound.queue_fit w (In-without_waiter call c.queue w j))
 
--- ---- the line is moved
+-- ---- the queue is moved
 
-pub moved_kept : (c : CellState) (line : List Waiter) → IsCellKept c → line ≡ all_moved c.line → IsCellKept (record c { line = line })
-moved_kept c line k p =
-    subst (λ (ws : List Waiter). IsCellKept (record c { line = ws })) (sym p)
+pub moved_kept : (c : CellState) (queue : List Waiter) → IsCellKept c → queue ≡ all_moved c.queue → IsCellKept (record c { queue = queue })
+moved_kept c queue k p =
+    subst (λ (ws : List Waiter). IsCellKept (record c { queue = ws })) (sym p)
     (record {
       sound = (moves_keep c k.sound).sound;
       once = moved_once c k.once;
       depth_fits = k.depth_fits;
-      line_fits = (let l = length-all_moved c.line in let m = k.line_fits in omega arith);
+      queue_fits = (let l = length-all_moved c.queue in let m = k.queue_fits in omega arith);
       holds_fit = k.holds_fit;
     })

@@ -5,7 +5,7 @@ use Rattle.std.proofs.lemmas.Bool.{and_parts, eq-eqb, ltb-true, cond_both, cond-
 use Rattle.turn_core.specs.declared.cell.Turn.{Turn}
 use Rattle.turn_core.specs.declared.cell.Waiter.{Waiter}
 use Rattle.turn_core.specs.declared.answer.CellEnd.TheVariants as ending
-use Rattle.turn_core.specs.Cell.{CellState, AskStep, EndStep, PollStep, new_cell, is_free, is_first_chain, is_open_chain, kept_chain, has_turn, without_turn, waiter_of, first_unmoved, without_first_unmoved, with_turn, with_waiter, admit_call, begun_next, cell_begin_next, next_call, call_of, without_call, not_open, cell_end, poll_waiter, cell_poll, with_line_moved, without_turns}
+use Rattle.turn_core.specs.Cell.{CellState, AskStep, EndStep, PollStep, new_cell, is_free, is_first_chain, is_open_chain, kept_chain, has_turn, without_turn, waiter_of, first_unmoved, without_first_unmoved, with_turn, with_waiter, admit_call, begun_next, cell_begin_next, next_call, call_of, without_call, not_open, cell_end, poll_waiter, cell_poll, with_queue_moved, without_turns}
 use Rattle.turn_core.specs.CellMarks.{TurnMark, Began, Ended, open_after, asked_marks, ask_marks, next_marks, end_marks, begin_marks, ended_marks, end_all_marks}
 use Rattle.turn_core.specs.CellSound.{In, FitsDepth, IsCellSound}
 use Rattle.turn_core.proofs.Elements.{In-push, In-without_turn, In-without_waiter, In-without_first, chain-all_moved, length-without_turn}
@@ -20,15 +20,15 @@ pub record KeepsTurns (depth : ℕ) (turns : List Turn) (after : CellState) (mar
   pub opens : open_after turns marks ≡ after.turns
 
 pub new_cell_sound : (depth : ℕ) → IsCellSound (new_cell depth)
-new_cell_sound depth = record { one_chain = λ t u i j. absurd i; within = omega arith; turns_fit = λ t i. absurd i; line_fit = λ w i. absurd i }
+new_cell_sound depth = record { one_chain = λ t u i j. absurd i; within = omega arith; turns_fit = λ t i. absurd i; queue_fit = λ w i. absurd i }
 
 -- ---- soundness by parts
 
-pub line_sound : (c : CellState) (line : List Waiter) → IsCellSound c → ((w : Waiter) → In w line → FitsDepth c.depth w.chain) → IsCellSound (record c { line = line })
-line_sound c line s fits = record { one_chain = s.one_chain; within = s.within; turns_fit = s.turns_fit; line_fit = fits }
+pub queue_sound : (c : CellState) (queue : List Waiter) → IsCellSound c → ((w : Waiter) → In w queue → FitsDepth c.depth w.chain) → IsCellSound (record c { queue = queue })
+queue_sound c queue s fits = record { one_chain = s.one_chain; within = s.within; turns_fit = s.turns_fit; queue_fit = fits }
 
 holds_sound : (c : CellState) (holds : ℕ) → IsCellSound c → IsCellSound (record c { holds = holds })
-holds_sound c holds s = record { one_chain = s.one_chain; within = s.within; turns_fit = s.turns_fit; line_fit = s.line_fit }
+holds_sound c holds s = record { one_chain = s.one_chain; within = s.within; turns_fit = s.turns_fit; queue_fit = s.queue_fit }
 
 pub without_call_sound : (c : CellState) (call : ℕ) → IsCellSound c → IsCellSound (without_call c call)
 without_call_sound c call s =
@@ -36,11 +36,11 @@ without_call_sound c call s =
       one_chain = λ t u i j. s.one_chain t u (In-without_turn call c.turns t i) (In-without_turn call c.turns u j);
       within = (let l = length-without_turn call c.turns in let h = s.within in omega arith);
       turns_fit = λ t i. s.turns_fit t (In-without_turn call c.turns t i);
-      line_fit = s.line_fit;
+      queue_fit = s.queue_fit;
     }
 
-without_first-fits : (c : CellState) → IsCellSound c → (w : Waiter) → In w (without_first_unmoved c.line) → FitsDepth c.depth w.chain
-without_first-fits c s w i = s.line_fit w (In-without_first c.line w i)
+without_first-fits : (c : CellState) → IsCellSound c → (w : Waiter) → In w (without_first_unmoved c.queue) → FitsDepth c.depth w.chain
+without_first-fits c s w i = s.queue_fit w (In-without_first c.queue w i)
 
 -- ---- a turn begins, or nothing happens to the turns
 
@@ -59,7 +59,7 @@ turn_begins c call chain s fits e =
         one_chain = λ t u i j. of_chain t i ∙ sym (of_chain u j);
         within = (let h = e.few in simp length-append (omega arith));
         turns_fit = λ t i. subst (λ (z : Option (List ℕ)). FitsDepth c.depth z) (sym (of_chain t i)) fits;
-        line_fit = s.line_fit;
+        queue_fit = s.queue_fit;
       };
       enters = (e, tt);
       opens = refl;
@@ -84,7 +84,7 @@ enters_beside c chain s fits o l =
 
 pub waits_sound : (c : CellState) (call : ℕ) (chain : Option (List ℕ)) → IsCellSound c → FitsDepth c.depth chain → IsCellSound (with_waiter c call chain)
 waits_sound c call chain s fits =
-    line_sound c _ s (λ w i. elim (In-push c.line _ w i) [ inl old ↦ s.line_fit w old | inr new ↦ subst (λ (z : Option (List ℕ)). FitsDepth c.depth z) (sym (ap (λ (z : Waiter). z.chain) new)) fits ])
+    queue_sound c _ s (λ w i. elim (In-push c.queue _ w i) [ inl old ↦ s.queue_fit w old | inr new ↦ subst (λ (z : Option (List ℕ)). FitsDepth c.depth z) (sym (ap (λ (z : Waiter). z.chain) new)) fits ])
 
 pub ask_keeps : (c : CellState) (call : ℕ) (chain : Option (List ℕ)) (may_begin : Bool) → IsCellSound c → (0 < c.depth → IsSome chain)
     → KeepsTurns c.depth c.turns (admit_call c call chain may_begin).cell (ask_marks c call chain may_begin)
@@ -99,17 +99,17 @@ ask_keeps c call chain may_begin s given =
     (stays c s)
 
 -- the next call begins in a free cell
-pub next_begins : (c : CellState) (next : Option Waiter) → IsCellSound c → c.turns ≡ [] → first_unmoved c.line ≡ next
+pub next_begins : (c : CellState) (next : Option Waiter) → IsCellSound c → c.turns ≡ [] → first_unmoved c.queue ≡ next
     → KeepsTurns c.depth c.turns (begun_next c next) (next_marks next)
 next_begins c None s free e = stays c s
 next_begins c (Some w) s free e =
-    turn_begins (record c { line = without_first_unmoved c.line }) w.call w.chain
-    (line_sound c (without_first_unmoved c.line) s (without_first-fits c s))
-    (s.line_fit w (In-first_unmoved c.line w e))
+    turn_begins (record c { queue = without_first_unmoved c.queue }) w.call w.chain
+    (queue_sound c (without_first_unmoved c.queue) s (without_first-fits c s))
+    (s.queue_fit w (In-first_unmoved c.queue w e))
     (enters_free c.depth c.turns w.chain free)
 
 pub begin_keeps : (c : CellState) → IsCellSound c → c.turns ≡ [] → KeepsTurns c.depth c.turns (cell_begin_next c) (begin_marks c)
-begin_keeps c s free = next_begins c (first_unmoved c.line) s free refl
+begin_keeps c s free = next_begins c (first_unmoved c.queue) s free refl
 
 next_keeps : (c : CellState) (may_begin : Bool) → IsCellSound c → KeepsTurns c.depth c.turns (begun_next c (next_call may_begin c)) (next_marks (next_call may_begin c))
 next_keeps c may_begin s =
@@ -122,7 +122,7 @@ end_keeps c call may_begin s =
     let k = next_keeps (without_call c call) may_begin (without_call_sound c call s) in
     elim (has_turn call c.turns) as (λ (open_turn : Bool).
     let ended : EndStep = record { cell = begun_next (without_call c call) (next_call may_begin (without_call c call)); answer = ending.Ended (option_map call_of (next_call may_begin (without_call c call))) } in
-    let kept : EndStep = record { cell = c; answer = not_open (waiter_of call c.line) } in
+    let kept : EndStep = record { cell = c; answer = not_open (waiter_of call c.queue) } in
     let step : EndStep = if open_turn then ended else kept in
     KeepsTurns c.depth c.turns step.cell (if open_turn then Ended call ∷ next_marks (next_call may_begin (without_call c call)) else [])) [
       | true ↦ record { same_depth = k.same_depth; sound = k.sound; enters = k.enters; opens = k.opens }
@@ -131,23 +131,23 @@ end_keeps c call may_begin s =
 
 pub poll_keeps : (c : CellState) (call : ℕ) → IsCellSound c → KeepsTurns c.depth c.turns (cell_poll c call).cell []
 poll_keeps c call s =
-    cond_both (has_turn call c.turns) _ _ (λ (p : PollStep). KeepsTurns c.depth c.turns p.cell []) (λ _. stays c s) (λ _. go (waiter_of call c.line))
+    cond_both (has_turn call c.turns) _ _ (λ (p : PollStep). KeepsTurns c.depth c.turns p.cell []) (λ _. stays c s) (λ _. go (waiter_of call c.queue))
   where
     go : (found : Option Waiter) → KeepsTurns c.depth c.turns (poll_waiter c call found).cell []
     go None = stays c s
     go (Some w) =
         cond_both w.moved _ _ (λ (p : PollStep). KeepsTurns c.depth c.turns p.cell [])
-        (λ _. record { same_depth = refl; sound = line_sound c _ s (λ v i. s.line_fit v (In-without_waiter call c.line v i)); enters = tt; opens = refl })
+        (λ _. record { same_depth = refl; sound = queue_sound c _ s (λ v i. s.queue_fit v (In-without_waiter call c.queue v i)); enters = tt; opens = refl })
         (λ _. stays c s)
 
 pub holds_keep : (c : CellState) (holds : ℕ) → IsCellSound c → KeepsTurns c.depth c.turns (record c { holds = holds }) []
 holds_keep c holds s = record { same_depth = refl; sound = holds_sound c holds s; enters = tt; opens = refl }
 
-pub moves_keep : (c : CellState) → IsCellSound c → KeepsTurns c.depth c.turns (with_line_moved c) []
+pub moves_keep : (c : CellState) → IsCellSound c → KeepsTurns c.depth c.turns (with_queue_moved c) []
 moves_keep c s =
     record {
       same_depth = refl;
-      sound = line_sound c _ s (λ w i. let m = chain-all_moved c.line w i in subst (λ (z : Option (List ℕ)). FitsDepth c.depth z) m.2 (s.line_fit m.0 m.1));
+      sound = queue_sound c _ s (λ w i. let m = chain-all_moved c.queue w i in subst (λ (z : Option (List ℕ)). FitsDepth c.depth z) m.2 (s.queue_fit m.0 m.1));
       enters = tt;
       opens = refl;
     }
@@ -168,7 +168,7 @@ pub end_all_keeps : (c : CellState) → IsCellSound c → KeepsTurns c.depth c.t
 end_all_keeps c s =
     record {
       same_depth = refl;
-      sound = record { one_chain = λ t u i j. absurd i; within = omega arith; turns_fit = λ t i. absurd i; line_fit = s.line_fit };
+      sound = record { one_chain = λ t u i j. absurd i; within = omega arith; turns_fit = λ t i. absurd i; queue_fit = s.queue_fit };
       enters = ended_enter c.depth c.turns c.turns;
       opens = ended_open c.turns;
     }

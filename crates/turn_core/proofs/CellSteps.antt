@@ -8,7 +8,7 @@ use Rattle.turn_core.specs.declared.cell.Turn.{Turn}
 use Rattle.turn_core.specs.declared.cell.Waiter.{Waiter}
 use Rattle.turn_core.specs.declared.answer.Asked.TheVariants as asked
 use Rattle.turn_core.specs.declared.answer.CellError.TheVariants as refused
-use Rattle.turn_core.specs.Cell.{CellState, AskStep, is_free, is_first_chain, is_open_chain, same_chain, kept_chain, first_unmoved, with_turn, with_waiter, admit_call, longest_line}
+use Rattle.turn_core.specs.Cell.{CellState, AskStep, is_free, is_first_chain, is_open_chain, same_chain, kept_chain, first_unmoved, with_turn, with_waiter, admit_call, longest_queue}
 use Rattle.turn_core.specs.CellSound.{In, FitsDepth}
 
 pub nil_of_length : {A : Type 0} (xs : List A) → length xs ≡ 0 → xs ≡ []
@@ -41,15 +41,15 @@ pub ask_cases : (c : CellState) (call : ℕ) (chain : Option (List ℕ)) (may_be
     → (is_open_chain c (kept_chain c chain) ≡ true → length c.turns < c.depth → P (record { cell = with_turn c call (kept_chain c chain); answer = Ok asked.Begun }))
     → (P (record { cell = c; answer = Err (refused.Depth (length c.turns)) }))
     → (c.turns ≡ [] → may_begin ≡ true → P (record { cell = with_turn c call (kept_chain c chain); answer = Ok asked.Begun }))
-    → (length c.line < longest_line → P (record { cell = with_waiter c call (kept_chain c chain); answer = Ok (asked.Waits (length c.line + 1)) }))
-    → (P (record { cell = c; answer = Err (refused.QueueFull (length c.line)) }))
+    → (length c.queue < longest_queue → P (record { cell = with_waiter c call (kept_chain c chain); answer = Ok (asked.Waits (length c.queue + 1)) }))
+    → (P (record { cell = c; answer = Err (refused.QueueFull (length c.queue)) }))
     → P (admit_call c call chain may_begin)
 ask_cases c call chain may_begin P again deep fresh waits full =
     cond_both (is_open_chain c (kept_chain c chain)) _ _ P
     (λ o. cond_both (nat_lt (length c.turns) c.depth) _ _ P (λ l. again o (ltb-true _ _ l)) (λ _. deep))
     (λ o. cond_both (is_free c && may_begin) _ _ P
     (λ f. let h = and_parts (is_free c) may_begin f in fresh (free_turns c h.0) h.1)
-    (λ f. cond_both (nat_lt (length c.line) longest_line) _ _ P (λ l. waits (ltb-true _ _ l)) (λ _. full)))
+    (λ f. cond_both (nat_lt (length c.queue) longest_queue) _ _ P (λ l. waits (ltb-true _ _ l)) (λ _. full)))
 
 pub In-first_unmoved : (ws : List Waiter) (w : Waiter) → first_unmoved ws ≡ Some w → In w ws
 In-first_unmoved [] w e = absurd (cc)

@@ -12,7 +12,7 @@ use Rattle.turn_core.proofs.CellSteps.{ask_cases}
 -- each call in the cell has a number below n
 pub record CallsBelow (n : ℕ) (c : CellState) : Type 0 where
   pub open_turns : (t : Turn) → In t c.turns → t.call < n
-  pub waiters : (w : Waiter) → In w c.line → w.call < n
+  pub waiters : (w : Waiter) → In w c.queue → w.call < n
 
 not_open_above : (n : ℕ) (ts : List Turn) → ((t : Turn) → In t ts → t.call < n) → has_turn n ts ≡ false
 not_open_above n [] below = refl
@@ -29,8 +29,8 @@ not_waiting_above n (w ∷ ws) below =
 
 pub call_above : (n : ℕ) (c : CellState) → CallsBelow n c → is_in_cell n c ≡ false
 call_above n c b =
-    or_from (has_turn n c.turns) (is_some (waiter_of n c.line)) (not_open_above n c.turns b.open_turns)
-    (ap (λ (w : Option Waiter). is_some w) (not_waiting_above n c.line b.waiters))
+    or_from (has_turn n c.turns) (is_some (waiter_of n c.queue)) (not_open_above n c.turns b.open_turns)
+    (ap (λ (w : Option Waiter). is_some w) (not_waiting_above n c.queue b.waiters))
 
 pub ask_below : (n : ℕ) (c : CellState) (chain : Option (List ℕ)) (may_begin : Bool) → CallsBelow n c → CallsBelow (n + 1) (admit_call c n chain may_begin).cell
 ask_below n c chain may_begin b =
@@ -45,8 +45,8 @@ ask_below n c chain may_begin b =
       waiters = as_before.waiters;
     }
 
-    waits : CallsBelow (n + 1) (record c { line = c.line ++ record { call = n; chain = kept_chain c chain; moved = false } ∷ [] })
+    waits : CallsBelow (n + 1) (record c { queue = c.queue ++ record { call = n; chain = kept_chain c chain; moved = false } ∷ [] })
     waits = record {
       open_turns = as_before.open_turns;
-      waiters = λ w i. elim (In-push c.line _ w i) [ inl old ↦ (let l = b.waiters w old in omega arith) | inr new ↦ (let l = ap (λ (z : Waiter). z.call) new in omega arith) ];
+      waiters = λ w i. elim (In-push c.queue _ w i) [ inl old ↦ (let l = b.waiters w old in omega arith) | inr new ↦ (let l = ap (λ (z : Waiter). z.call) new in omega arith) ];
     }

@@ -17,7 +17,7 @@ module _ (c : CellState) (call : ℕ) (chain : Option (List ℕ)) (may_begin : B
       (λ _ _ a e. (let p = turns_of-push n c.turns (record { call = call; chain = kept_chain c chain }) in omega arith))
       (λ a e. absurd (cc))
       (λ _ _ a e. (let p = turns_of-push n c.turns (record { call = call; chain = kept_chain c chain }) in omega arith))
-      (λ _ a e. (let p = waiters_of-push n c.line (record { call = call; chain = kept_chain c chain; moved = false }) in omega arith))
+      (λ _ a e. (let p = waiters_of-push n c.queue (record { call = call; chain = kept_chain c chain; moved = false }) in omega arith))
       (λ a e. absurd (cc))
 
   asked_calls : (a : Asked) → (admit_call c call chain may_begin).answer ≡ Ok a → calls_of (admit_call c call chain may_begin).cell ≡ calls_of c + 1
@@ -26,7 +26,7 @@ module _ (c : CellState) (call : ℕ) (chain : Option (List ℕ)) (may_begin : B
       (λ _ _ a e. (let p : length (c.turns ++ record { call = call; chain = kept_chain c chain } ∷ []) ≡ length c.turns + 1 = simp length-append in omega arith))
       (λ a e. absurd (cc))
       (λ _ _ a e. (let p : length (c.turns ++ record { call = call; chain = kept_chain c chain } ∷ []) ≡ length c.turns + 1 = simp length-append in omega arith))
-      (λ _ a e. (let p : length (c.line ++ record { call = call; chain = kept_chain c chain; moved = false } ∷ []) ≡ length c.line + 1 = simp length-append in omega arith))
+      (λ _ a e. (let p : length (c.queue ++ record { call = call; chain = kept_chain c chain; moved = false } ∷ []) ≡ length c.queue + 1 = simp length-append in omega arith))
       (λ a e. absurd (cc))
 
   -- an accepted call joins the cell

@@ -6,7 +6,7 @@ use Rattle.turn_core.specs.declared.cell.Turn.{Turn}
 use Rattle.turn_core.specs.declared.cell.Waiter.{Waiter}
 use Rattle.turn_core.specs.declared.answer.CellEnd.TheVariants as ending
 use Rattle.turn_core.specs.declared.answer.CellPoll.TheVariants as polled
-use Rattle.turn_core.specs.Cell.{CellState, EndStep, PollStep, has_turn, without_turn, waiter_of, without_waiter, first_unmoved, without_first_unmoved, all_moved, is_free, next_call, begun_next, call_of, without_call, not_open, cell_end, poll_waiter, cell_poll, is_in_cell, without_turns, with_line_moved}
+use Rattle.turn_core.specs.Cell.{CellState, EndStep, PollStep, has_turn, without_turn, waiter_of, without_waiter, first_unmoved, without_first_unmoved, all_moved, is_free, next_call, begun_next, call_of, without_call, not_open, cell_end, poll_waiter, cell_poll, is_in_cell, without_turns, with_queue_moved}
 use Rattle.turn_core.specs.CellSound.{turns_of, waiters_of, times_in, HasCallsOnce}
 use Rattle.turn_core.proofs.Once.{one_of, turns_of-push, waiters_of-first, waiters_of-all_moved}
 use Rattle.turn_core.proofs.Presence.{calls_of, LeavesCell, KeepsCalls, open_only}
@@ -22,25 +22,25 @@ length-first (v ∷ ws) w e =
     (λ f q. (let step' : without_first_unmoved (v ∷ ws) ≡ ws = cond-false v.moved _ _ f in rw step' (omega arith)))
     e
 
-pub next_keeps : (c : CellState) (next : Option Waiter) → (next ≡ None) ⊎ (next ≡ first_unmoved c.line) → KeepsCalls c (begun_next c next)
+pub next_keeps : (c : CellState) (next : Option Waiter) → (next ≡ None) ⊎ (next ≡ first_unmoved c.queue) → KeepsCalls c (begun_next c next)
 next_keeps c None h = record { times = λ n. refl; as_many = refl }
 next_keeps c (Some w) (inl e) = absurd (cc)
 next_keeps c (Some w) (inr e) =
     record {
       times = λ n. (
           let p = turns_of-push n c.turns (record { call = w.call; chain = w.chain }) in
-          let q = waiters_of-first n c.line w (sym e) in
+          let q = waiters_of-first n c.queue w (sym e) in
           omega arith
           );
       as_many = (
-          let l = length-first c.line w (sym e) in
+          let l = length-first c.queue w (sym e) in
           let t : length (c.turns ++ record { call = w.call; chain = w.chain } ∷ []) ≡ length c.turns + 1 = simp length-append in
           omega arith
           );
     }
 
-next_cases : (b : Bool) (c : CellState) → (next_call b c ≡ None) ⊎ (next_call b c ≡ first_unmoved c.line)
-next_cases b c = cond_both (b && is_free c) _ _ (λ (r : Option Waiter). (r ≡ None) ⊎ (r ≡ first_unmoved c.line)) (λ _. inr refl) (λ _. inl refl)
+next_cases : (b : Bool) (c : CellState) → (next_call b c ≡ None) ⊎ (next_call b c ≡ first_unmoved c.queue)
+next_cases b c = cond_both (b && is_free c) _ _ (λ (r : Option Waiter). (r ≡ None) ⊎ (r ≡ first_unmoved c.queue)) (λ _. inr refl) (λ _. inl refl)
 
 pub begins_keeps : (b : Bool) (c : CellState) → KeepsCalls c (begun_next c (next_call b c))
 begins_keeps b c = next_keeps c (next_call b c) (next_cases b c)
@@ -51,11 +51,11 @@ length-all_moved : (ws : List Waiter) → length (all_moved ws) ≡ length ws
 length-all_moved [] = refl
 length-all_moved (w ∷ ws) = let more = length-all_moved ws in omega arith
 
-pub moved_keeps : (c : CellState) → KeepsCalls c (with_line_moved c)
+pub moved_keeps : (c : CellState) → KeepsCalls c (with_queue_moved c)
 moved_keeps c =
     record {
-      times = λ n. (let p = waiters_of-all_moved n c.line in omega arith);
-      as_many = (let l = length-all_moved c.line in omega arith);
+      times = λ n. (let p = waiters_of-all_moved n c.queue in omega arith);
+      as_many = (let l = length-all_moved c.queue in omega arith);
     }
 
 -- ---- an end
@@ -80,7 +80,7 @@ not_ended (Some w) next e = cc
 module _ (c : CellState) (call : ℕ) (b : Bool) (next : Option ℕ) (e : (cell_end c call b).answer ≡ ending.Ended next) where
   -- the turn was open
   pub ended_open : has_turn call c.turns ≡ true
-  ended_open = cond_both (has_turn call c.turns) _ _ (λ (s : EndStep). s.answer ≡ ending.Ended next → has_turn call c.turns ≡ true) (λ h _. h) (λ _ q. absurd (not_ended (waiter_of call c.line) next q)) e
+  ended_open = cond_both (has_turn call c.turns) _ _ (λ (s : EndStep). s.answer ≡ ending.Ended next → has_turn call c.turns ≡ true) (λ h _. h) (λ _ q. absurd (not_ended (waiter_of call c.queue) next q)) e
 
   step : cell_end c call b ≡ record { cell = begun_next (without_call c call) (next_call b (without_call c call)); answer = ending.Ended (option_map call_of (next_call b (without_call c call))) }
   step = cond-true (has_turn call c.turns) _ _ ended_open
@@ -133,32 +133,32 @@ length-polled call (v ∷ ws) w e =
     (λ s _. (let rest = ap (λ (us : List Waiter). length us) (cond-true (call == v.call) ws (v ∷ without_waiter call ws) s) in omega arith))
     (λ f q. (let rest = ap (λ (us : List Waiter). length us) (cond-false (call == v.call) ws (v ∷ without_waiter call ws) f) in let m = more q in omega arith)) e
 
-polled_at : (c : CellState) (call : ℕ) (found : Option Waiter) → waiter_of call c.line ≡ found → (poll_waiter c call found).answer ≡ polled.Moved → (w : Waiter) × (waiter_of call c.line ≡ Some w) × ((poll_waiter c call found).cell ≡ record c { line = without_waiter call c.line })
+polled_at : (c : CellState) (call : ℕ) (found : Option Waiter) → waiter_of call c.queue ≡ found → (poll_waiter c call found).answer ≡ polled.Moved → (w : Waiter) × (waiter_of call c.queue ≡ Some w) × ((poll_waiter c call found).cell ≡ record c { queue = without_waiter call c.queue })
 polled_at c call None e h = absurd (cc)
 polled_at c call (Some w) e h =
-    cond_both w.moved (record { cell = record c { line = without_waiter call c.line }; answer = polled.Moved }) _
-    (λ (s : PollStep). s.answer ≡ polled.Moved → (v : Waiter) × (waiter_of call c.line ≡ Some v) × (s.cell ≡ record c { line = without_waiter call c.line }))
+    cond_both w.moved (record { cell = record c { queue = without_waiter call c.queue }; answer = polled.Moved }) _
+    (λ (s : PollStep). s.answer ≡ polled.Moved → (v : Waiter) × (waiter_of call c.queue ≡ Some v) × (s.cell ≡ record c { queue = without_waiter call c.queue }))
     (λ _ _. (w, e, refl)) (λ _ q. absurd (cc)) h
 
 module _ (c : CellState) (call : ℕ) (e : (cell_poll c call).answer ≡ polled.Moved) where
   -- the call waited, and the queue is shorter by it
-  pub polled_waits : (w : Waiter) × (waiter_of call c.line ≡ Some w) × ((cell_poll c call).cell ≡ record c { line = without_waiter call c.line })
+  pub polled_waits : (w : Waiter) × (waiter_of call c.queue ≡ Some w) × ((cell_poll c call).cell ≡ record c { queue = without_waiter call c.queue })
   polled_waits =
-      cond_both (has_turn call c.turns) (record { cell = c; answer = polled.Begun }) (poll_waiter c call (waiter_of call c.line))
-      (λ (s : PollStep). s.answer ≡ polled.Moved → (w : Waiter) × (waiter_of call c.line ≡ Some w) × (s.cell ≡ record c { line = without_waiter call c.line }))
-      (λ _ q. absurd (cc)) (λ _ q. polled_at c call (waiter_of call c.line) refl q) e
+      cond_both (has_turn call c.turns) (record { cell = c; answer = polled.Begun }) (poll_waiter c call (waiter_of call c.queue))
+      (λ (s : PollStep). s.answer ≡ polled.Moved → (w : Waiter) × (waiter_of call c.queue ≡ Some w) × (s.cell ≡ record c { queue = without_waiter call c.queue }))
+      (λ _ q. absurd (cc)) (λ _ q. polled_at c call (waiter_of call c.queue) refl q) e
 
   pub polled_leaves : LeavesCell call c (cell_poll c call).cell
   polled_leaves =
       let p = polled_waits in
       record {
         times = λ n. (
-            let l = waiters_of-polled n call c.line p.0 p.1 in
+            let l = waiters_of-polled n call c.queue p.0 p.1 in
             let q = ap (λ (d : CellState). times_in n d) p.2 in
             omega arith
             );
         fewer = (
-            let l = length-polled call c.line p.0 p.1 in
+            let l = length-polled call c.queue p.0 p.1 in
             let q = ap (λ (d : CellState). calls_of d) p.2 in
             omega arith
             );
@@ -169,8 +169,8 @@ module _ (c : CellState) (call : ℕ) (e : (cell_poll c call).answer ≡ polled.
 
 -- ---- every turn ends
 
-pub stopped_line : (n : ℕ) (c : CellState) → HasCallsOnce c → has_turn n c.turns ≡ true → is_in_cell n (without_turns c) ≡ false
-stopped_line n c once h = open_only n c once h
+pub stopped_queue : (n : ℕ) (c : CellState) → HasCallsOnce c → has_turn n c.turns ≡ true → is_in_cell n (without_turns c) ≡ false
+stopped_queue n c once h = open_only n c once h
 
 pub stopped_others : (n : ℕ) (c : CellState) → has_turn n c.turns ≡ false → is_in_cell n (without_turns c) ≡ is_in_cell n c
-stopped_others n c f = λ i. sym f i || is_some (waiter_of n c.line)
+stopped_others n c f = λ i. sym f i || is_some (waiter_of n c.queue)

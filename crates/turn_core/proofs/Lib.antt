@@ -1,6 +1,6 @@
 mod CellBounds
 pub mod Once
-mod MovedLine
+mod MovedQueue
 pub mod Places
 pub mod Elements
 pub mod Overlaps

@@ -38,9 +38,9 @@ no_waiter n (w ∷ ws) e =
 -- a call that isn't in the cell is there zero times
 pub absent_times : (n : ℕ) (c : CellState) → is_in_cell n c ≡ false → times_in n c ≡ 0
 absent_times n c e =
-    let h = or_parts (has_turn n c.turns) (is_some (waiter_of n c.line)) e in
+    let h = or_parts (has_turn n c.turns) (is_some (waiter_of n c.queue)) e in
     let t = no_turn n c.turns h.0 in
-    let w = no_waiter n c.line h.1 in
+    let w = no_waiter n c.queue h.1 in
     omega arith
 
 turns_of-without : (n call : ℕ) (ts : List Turn) → turns_of n (without_turn call ts) ≤ turns_of n ts
@@ -83,21 +83,21 @@ begun_once c call chain k absent n =
 
 pub waits_once : (c : CellState) (call : ℕ) (chain : Option (List ℕ)) → HasCallsOnce c → is_in_cell call c ≡ false → HasCallsOnce (with_waiter c call chain)
 waits_once c call chain k absent n =
-    joined c call n _ k absent (let p = waiters_of-push n c.line (record { call = call; chain = chain; moved = false }) in omega arith)
+    joined c call n _ k absent (let p = waiters_of-push n c.queue (record { call = call; chain = chain; moved = false }) in omega arith)
 
 pub ended_once : (c : CellState) (call : ℕ) → HasCallsOnce c → HasCallsOnce (record c { turns = without_turn call c.turns })
 ended_once c call k n = let l = k n in let p = turns_of-without n call c.turns in omega arith
 
-pub taken_once : (c : CellState) (call : ℕ) → HasCallsOnce c → HasCallsOnce (record c { line = without_waiter call c.line })
-taken_once c call k n = let l = k n in let p = waiters_of-without n call c.line in omega arith
+pub taken_once : (c : CellState) (call : ℕ) → HasCallsOnce c → HasCallsOnce (record c { queue = without_waiter call c.queue })
+taken_once c call k n = let l = k n in let p = waiters_of-without n call c.queue in omega arith
 
-pub next_once : (c : CellState) (next : Option Waiter) → first_unmoved c.line ≡ next → HasCallsOnce c → HasCallsOnce (begun_next c next)
+pub next_once : (c : CellState) (next : Option Waiter) → first_unmoved c.queue ≡ next → HasCallsOnce c → HasCallsOnce (begun_next c next)
 next_once c None e k n = k n
 next_once c (Some w) e k n =
     let l = k n in
     let p = turns_of-push n c.turns (record { call = w.call; chain = w.chain }) in
-    let q = waiters_of-first n c.line w e in
+    let q = waiters_of-first n c.queue w e in
     omega arith
 
-pub moved_once : (c : CellState) → HasCallsOnce c → HasCallsOnce (record c { line = all_moved c.line })
-moved_once c k n = let l = k n in let p = waiters_of-all_moved n c.line in omega arith
+pub moved_once : (c : CellState) → HasCallsOnce c → HasCallsOnce (record c { queue = all_moved c.queue })
+moved_once c k n = let l = k n in let p = waiters_of-all_moved n c.queue in omega arith

@@ -66,7 +66,7 @@ without_turn-found call ts i e = taken_found (without_turn call) (of_turn call) 
 pub without_turn-missed : (call : ℕ) (ts : List Turn) → position (of_turn call) ts ≡ None → without_turn call ts ≡ ts
 without_turn-missed call ts e = taken_missed (without_turn call) (of_turn call) refl (λ _ _. refl) ts e
 
--- ---- calls in the line
+-- ---- calls in the queue
 
 abbrev pub of_waiter : ℕ → Waiter → Bool
 of_waiter call w = call == w.call

@@ -14,7 +14,7 @@ has_or_not false = inr refl
 
 -- how many calls of a cell are open or wait
 abbrev pub calls_of : CellState → ℕ
-calls_of c = length c.turns + length c.line
+calls_of c = length c.turns + length c.queue
 
 no_turns : (n : ℕ) (ts : List Turn) → turns_of n ts ≡ 0 → has_turn n ts ≡ false
 no_turns n [] e = refl
@@ -33,7 +33,7 @@ no_waiters n (w ∷ ws) e =
 
 -- a call that is there zero times isn't in the cell
 pub absent_at_zero : (n : ℕ) (c : CellState) → times_in n c ≡ 0 → is_in_cell n c ≡ false
-absent_at_zero n c e = λ i. no_turns n c.turns (omega (arith, e)) i || no_waiters n c.line (omega (arith, e)) i
+absent_at_zero n c e = λ i. no_turns n c.turns (omega (arith, e)) i || no_waiters n c.queue (omega (arith, e)) i
 
 -- as often in one cell as in the other
 pub same_presence : (n : ℕ) (c d : CellState) → times_in n d ≡ times_in n c → is_in_cell n d ≡ is_in_cell n c
@@ -109,13 +109,13 @@ some_waiter n (w ∷ ws) e =
     (λ _ q. (let m = more q in omega arith)) e
 
 -- a call with an open turn doesn't wait
-pub open_only : (n : ℕ) (c : CellState) → HasCallsOnce c → has_turn n c.turns ≡ true → is_some (waiter_of n c.line) ≡ false
+pub open_only : (n : ℕ) (c : CellState) → HasCallsOnce c → has_turn n c.turns ≡ true → is_some (waiter_of n c.queue) ≡ false
 open_only n c once h =
-    elim (has_or_not (is_some (waiter_of n c.line))) [
+    elim (has_or_not (is_some (waiter_of n c.queue))) [
       | inl w ↦ (
           let o = once n in
           let a = some_turn n c.turns h in
-          let b = some_waiter n c.line w in
+          let b = some_waiter n c.queue w in
           absurd (omega arith)
           )
       | inr f ↦ f

@@ -19,18 +19,18 @@ use Rattle.turn_core.specs.declared.answer.CellPoll.TheVariants as polled
 pub record CellState : Type 0 where
   pub depth : ℕ
   pub turns : List Turn
-  pub line : List Waiter
+  pub queue : List Waiter
   pub holds : ℕ
 
-abbrev pub longest_line : ℕ
-longest_line = 1024
+abbrev pub longest_queue : ℕ
+longest_queue = 1024
 
 -- the upper end of the depth's range
 abbrev pub greatest_depth : ℕ
 greatest_depth = 1024
 
 abbrev pub new_cell : ℕ → CellState
-new_cell depth = record { depth = depth; turns = []; line = []; holds = 0 }
+new_cell depth = record { depth = depth; turns = []; queue = []; holds = 0 }
 
 abbrev pub same_chain : Option (List ℕ) → Option (List ℕ) → Bool
 same_chain None None = true
@@ -96,7 +96,7 @@ abbrev pub with_turn : CellState → ℕ → Option (List ℕ) → CellState
 with_turn c call chain = record c { turns = c.turns ++ record { call = call; chain = chain } ∷ [] }
 
 abbrev pub with_waiter : CellState → ℕ → Option (List ℕ) → CellState
-with_waiter c call chain = record c { line = c.line ++ record { call = call; chain = chain; moved = false } ∷ [] }
+with_waiter c call chain = record c { queue = c.queue ++ record { call = call; chain = chain; moved = false } ∷ [] }
 
 -- the cell after a call on it, and what the call answers
 pub record AskStep : Type 0 where
@@ -113,8 +113,8 @@ admit_call c call chain may_begin =
     record { cell = c; answer = Err (refused.Depth (length c.turns)) }
     ) else (
     if is_free c && may_begin then record { cell = with_turn c call kept; answer = Ok asked.Begun } else (
-    if nat_lt (length c.line) longest_line then record { cell = with_waiter c call kept; answer = Ok (asked.Waits (length c.line + 1)) } else
-    record { cell = c; answer = Err (refused.QueueFull (length c.line)) }
+    if nat_lt (length c.queue) longest_queue then record { cell = with_waiter c call kept; answer = Ok (asked.Waits (length c.queue + 1)) } else
+    record { cell = c; answer = Err (refused.QueueFull (length c.queue)) }
     )
     )
 
@@ -125,15 +125,15 @@ begun_turns (Some w) = record { call = w.call; chain = w.chain } ∷ []
 
 abbrev pub begun_next : CellState → Option Waiter → CellState
 begun_next c None = c
-begun_next c (Some w) = record c { turns = c.turns ++ record { call = w.call; chain = w.chain } ∷ []; line = without_first_unmoved c.line }
+begun_next c (Some w) = record c { turns = c.turns ++ record { call = w.call; chain = w.chain } ∷ []; queue = without_first_unmoved c.queue }
 
 -- the first call in the queue that isn't moved begins
 abbrev pub cell_begin_next : CellState → CellState
-cell_begin_next c = begun_next c (first_unmoved c.line)
+cell_begin_next c = begun_next c (first_unmoved c.queue)
 
 -- the call that begins if the cell is free and a new chain may begin
 abbrev pub next_call : Bool → CellState → Option Waiter
-next_call may_begin c = if may_begin && is_free c then first_unmoved c.line else None
+next_call may_begin c = if may_begin && is_free c then first_unmoved c.queue else None
 
 abbrev pub call_of : Waiter → ℕ
 call_of w = w.call
@@ -157,7 +157,7 @@ abbrev pub cell_end : CellState → ℕ → Bool → EndStep
 cell_end c call may_begin =
     if has_turn call c.turns then
     record { cell = begun_next (without_call c call) (next_call may_begin (without_call c call)); answer = ending.Ended (option_map call_of (next_call may_begin (without_call c call))) }
-    else record { cell = c; answer = not_open (waiter_of call c.line) }
+    else record { cell = c; answer = not_open (waiter_of call c.queue) }
 
 pub record PollStep : Type 0 where
   pub cell : CellState
@@ -167,11 +167,11 @@ pub record PollStep : Type 0 where
 abbrev pub poll_waiter : CellState → ℕ → Option Waiter → PollStep
 poll_waiter c call None = record { cell = c; answer = polled.Gone }
 poll_waiter c call (Some w) =
-    if w.moved then record { cell = record c { line = without_waiter call c.line }; answer = polled.Moved } else
-    record { cell = c; answer = polled.Waits (place_of call c.line) }
+    if w.moved then record { cell = record c { queue = without_waiter call c.queue }; answer = polled.Moved } else
+    record { cell = c; answer = polled.Waits (place_of call c.queue) }
 
 abbrev pub cell_poll : CellState → ℕ → PollStep
-cell_poll c call = if has_turn call c.turns then record { cell = c; answer = polled.Begun } else poll_waiter c call (waiter_of call c.line)
+cell_poll c call = if has_turn call c.turns then record { cell = c; answer = polled.Begun } else poll_waiter c call (waiter_of call c.queue)
 
 -- one hold more, and one less if there is one
 abbrev pub with_hold : CellState → CellState
@@ -181,8 +181,8 @@ abbrev pub without_hold : CellState → CellState
 without_hold c = record c { holds = c.holds - 1 }
 
 -- every call in the queue is marked as moved
-abbrev pub with_line_moved : CellState → CellState
-with_line_moved c = record c { line = all_moved c.line }
+abbrev pub with_queue_moved : CellState → CellState
+with_queue_moved c = record c { queue = all_moved c.queue }
 
 -- every open turn has ended, and none begins
 abbrev pub without_turns : CellState → CellState
@@ -200,7 +200,7 @@ turn_calls (t ∷ ts) = t.call ∷ turn_calls ts
 
 -- whether the call is open or in the queue
 abbrev pub is_in_cell : ℕ → CellState → Bool
-is_in_cell call c = has_turn call c.turns || is_some (waiter_of call c.line)
+is_in_cell call c = has_turn call c.turns || is_some (waiter_of call c.queue)
 
 -- what an ask gives: the step of the rule, or out of memory with the cell as before
 abbrev pub GivesStep : Result Asked CellError → CellState → CellState → AskStep → Type 0

@@ -8,7 +8,7 @@ use Rattle.turn_core.specs.declared.cell.Waiter.{Waiter}
 use Rattle.turn_core.specs.declared.answer.Asked.{Asked}
 use Rattle.turn_core.specs.declared.answer.Asked.TheVariants as asked
 use Rattle.turn_core.specs.declared.answer.CellError.{CellError}
-use Rattle.turn_core.specs.Cell.{CellState, kept_chain, has_turn, without_turn, first_unmoved, is_in_cell, next_call, without_call, admit_call, cell_end, cell_poll, cell_begin_next, with_hold, without_hold, with_line_moved, without_turns}
+use Rattle.turn_core.specs.Cell.{CellState, kept_chain, has_turn, without_turn, first_unmoved, is_in_cell, next_call, without_call, admit_call, cell_end, cell_poll, cell_begin_next, with_hold, without_hold, with_queue_moved, without_turns}
 
 -- a call's turn began with this chain, or ended
 pub data TurnMark : Type 0 where
@@ -60,7 +60,7 @@ abbrev pub end_marks : CellState → ℕ → Bool → List TurnMark
 end_marks c call may_begin = if has_turn call c.turns then Ended call ∷ next_marks (next_call may_begin (without_call c call)) else []
 
 abbrev pub begin_marks : CellState → List TurnMark
-begin_marks c = next_marks (first_unmoved c.line)
+begin_marks c = next_marks (first_unmoved c.queue)
 
 abbrev pub ended_marks : List Turn → List TurnMark
 ended_marks [] = []
@@ -91,7 +91,7 @@ cell_step c (Polls call) = (cell_poll c call).cell
 cell_step c BeginsNext = cell_begin_next c
 cell_step c Holds = with_hold c
 cell_step c Releases = without_hold c
-cell_step c MovesWaiting = with_line_moved c
+cell_step c MovesWaiting = with_queue_moved c
 cell_step c EndsAll = without_turns c
 
 -- the marks that the call adds

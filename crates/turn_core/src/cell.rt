@@ -1,12 +1,12 @@
 // The cell of one actor: which call begins, which waits and which is refused.
 ghost use Rattle.std.specs.Prelude.{◌≡◌, ℕ, ◌+◌, ◌^◌, ◌<◌, ◌≤◌, ◌↔◌, ◌++◌, max, length, vec_len, vec_capacity, false, [], IfOk, IfErr, IsSome, OnOk, OnErr, option_map};
 ghost use Rattle.std.specs.Option.{option_copied};
-ghost use Rattle.turn_core.specs.Cell.{new_cell, greatest_depth, longest_line, admit_call, cell_end, cell_poll, cell_begin_next, first_unmoved, call_of, unmoved, turn_calls, chain_of, is_in_cell, with_hold, without_hold, with_line_moved, without_turns, GivesStep};
+ghost use Rattle.turn_core.specs.Cell.{new_cell, greatest_depth, longest_queue, admit_call, cell_end, cell_poll, cell_begin_next, first_unmoved, call_of, unmoved, turn_calls, chain_of, is_in_cell, with_hold, without_hold, with_queue_moved, without_turns, GivesStep};
 ghost use Rattle.turn_core.specs.CellSound.{HasCallsOnce, IsCellSound};
 
 use crate::answer::{Asked, CellEnd, CellError, CellPoll, NotHeld};
-use crate::line::{
-    begin_first, count_unmoved, end_in_line, is_waiting, join_line, move_line, take_at,
+use crate::queue::{
+    begin_first, count_unmoved, end_in_queue, is_waiting, join_queue, move_queue, take_at,
     waiter_place,
 };
 use crate::turns::{carry_chain, chain_at, end_turn, is_open, list_calls, open_turn};
@@ -35,12 +35,12 @@ pub(crate) struct Waiter {
 pub struct Cell {
     depth: u32,
     turns: Vec<Turn>,
-    line: VecDeque<Waiter>,
+    queue: VecDeque<Waiter>,
     holds: u64,
 }
 
 /// The greatest length of a queue.
-const LONGEST_LINE: usize = 1024;
+const LONGEST_QUEUE: usize = 1024;
 
 impl Model for Cell {
     ghost use Rattle.std.specs.Prelude.{◌<◌, vec_capacity};
@@ -49,9 +49,9 @@ impl Model for Cell {
 
     ghost Value = { CellState };
 
-    ghost view = { λ a. record { depth = a.depth; turns = a.turns.items; line = a.line.items; holds = a.holds } };
+    ghost view = { λ a. record { depth = a.depth; turns = a.turns.items; queue = a.queue.items; holds = a.holds } };
 
-    ghost invariant = { λ a. IsCellKept (record { depth = a.depth; turns = a.turns.items; line = a.line.items; holds = a.holds }) × (0 < vec_capacity a.turns) };
+    ghost invariant = { λ a. IsCellKept (record { depth = a.depth; turns = a.turns.items; queue = a.queue.items; holds = a.holds }) × (0 < vec_capacity a.turns) };
 }
 
 impl Cell {
@@ -66,7 +66,7 @@ impl Cell {
             Ok(turns) => Ok(Cell {
                 depth,
                 turns,
-                line: VecDeque::new(alloc),
+                queue: VecDeque::new(alloc),
                 holds: 0,
             }),
             Err(_) => Err(CellError::OutOfMemory),
@@ -101,14 +101,14 @@ impl Cell {
             open_turn(alloc, &mut self.turns, call, chain)?;
             return Ok(Asked::Begun);
         }
-        if self.line.len() >= LONGEST_LINE {
+        if self.queue.len() >= LONGEST_QUEUE {
             return Err(CellError::QueueFull {
-                n: self.line.len() as u64,
+                n: self.queue.len() as u64,
             });
         }
-        join_line(alloc, &mut self.line, call, chain)?;
+        join_queue(alloc, &mut self.queue, call, chain)?;
         Ok(Asked::Waits {
-            place: self.line.len() as u64,
+            place: self.queue.len() as u64,
         })
     }
 
@@ -128,13 +128,13 @@ impl Cell {
         if may_begin && self.turns.is_empty() {
             return Ok(Asked::Begun);
         }
-        if LONGEST_LINE <= self.line.len() {
+        if LONGEST_QUEUE <= self.queue.len() {
             return Err(CellError::QueueFull {
-                n: self.line.len() as u64,
+                n: self.queue.len() as u64,
             });
         }
         Ok(Asked::Waits {
-            place: self.line.len() as u64 + 1,
+            place: self.queue.len() as u64 + 1,
         })
     }
 
@@ -146,13 +146,13 @@ impl Cell {
         ensures once { HasCallsOnce self.old }
     {
         if !end_turn(&mut self.turns, call) {
-            return end_in_line(&self.line, call);
+            return end_in_queue(&self.queue, call);
         }
         if !may_begin || !self.turns.is_empty() {
             return CellEnd::Ended { next: None };
         }
         CellEnd::Ended {
-            next: begin_first(&mut self.turns, &mut self.line),
+            next: begin_first(&mut self.turns, &mut self.queue),
         }
     }
 
@@ -165,11 +165,11 @@ impl Cell {
         if is_open(&self.turns, call) {
             return CellPoll::Begun;
         }
-        match waiter_place(&self.line, call) {
+        match waiter_place(&self.queue, call) {
             None => CellPoll::Gone,
             Some(at) => {
-                if self.line[at].moved {
-                    let _moved = take_at(&mut self.line, at);
+                if self.queue[at].moved {
+                    let _moved = take_at(&mut self.queue, at);
                     return CellPoll::Moved;
                 }
                 CellPoll::Waits {
@@ -186,10 +186,10 @@ impl Cell {
         if is_open(&self.turns, call) {
             return CellPoll::Begun;
         }
-        match waiter_place(&self.line, call) {
+        match waiter_place(&self.queue, call) {
             None => CellPoll::Gone,
             Some(at) => {
-                if self.line[at].moved {
+                if self.queue[at].moved {
                     return CellPoll::Moved;
                 }
                 CellPoll::Waits {
@@ -203,16 +203,16 @@ impl Cell {
     pub fn has(&self, call: u64) -> bool
         ensures { result ≡ is_in_cell call self.now }
     {
-        is_open(&self.turns, call) || is_waiting(&self.line, call)
+        is_open(&self.turns, call) || is_waiting(&self.queue, call)
     }
 
     /// Begins the first call in the queue that isn't moved and returns its number, or `None` if there is none.
     pub fn begin_next(&mut self) -> Option<u64>
         requires { self.old.turns ≡ [] }
-        ensures answer { result ≡ option_map call_of (first_unmoved self.old.line) }
+        ensures answer { result ≡ option_map call_of (first_unmoved self.old.queue) }
         ensures cell { self.new ≡ cell_begin_next self.old }
     {
-        begin_first(&mut self.turns, &mut self.line)
+        begin_first(&mut self.turns, &mut self.queue)
     }
 
     /// Adds one hold of the actor.
@@ -238,10 +238,10 @@ impl Cell {
 
     /// Marks every call in the queue as moved, and returns how many weren't moved before.
     pub fn move_waiting(&mut self) -> u32
-        ensures answer { result ≡ unmoved self.old.line }
-        ensures cell { self.new ≡ with_line_moved self.old }
+        ensures answer { result ≡ unmoved self.old.queue }
+        ensures cell { self.new ≡ with_queue_moved self.old }
     {
-        move_line(&mut self.line)
+        move_queue(&mut self.queue)
     }
 
     /// Ends every open turn, and returns how many there were. No call begins.
@@ -295,17 +295,17 @@ impl Cell {
 
     /// How many calls are in the queue, moved ones included: at most 1,024.
     pub fn waiting(&self) -> u32
-        ensures count { result ≡ length self.now.line }
-        ensures within { result ≤ longest_line }
+        ensures count { result ≡ length self.now.queue }
+        ensures within { result ≤ longest_queue }
     {
-        self.line.len() as u32
+        self.queue.len() as u32
     }
 
     /// How many calls in the queue aren't moved: at most 1,024.
     pub fn unmoved(&self) -> u32
-        ensures { result ≡ unmoved self.now.line }
+        ensures { result ≡ unmoved self.now.queue }
     {
-        count_unmoved(&self.line)
+        count_unmoved(&self.queue)
     }
 
     /// How many holds there are, at most 2^62.

@@ -8,7 +8,7 @@
 mod answer;
 mod cell;
 mod law;
-mod line;
+mod queue;
 mod turns;
 
 pub use answer::{Asked, CellEnd, CellError, CellPoll, NotHeld};

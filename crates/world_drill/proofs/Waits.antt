@@ -55,7 +55,7 @@ begin_begun false key v call chain = refl
 
 -- the calls that wait in a cell
 abbrev pub waits_in : ActorCell → ℕ
-waits_in c = length c.inner.line
+waits_in c = length c.inner.queue
 
 fewer_waiting : (call : ℕ) (ws : List Waiter) → length (without_waiter call ws) ≤ length ws
 fewer_waiting call [] = omega arith
@@ -77,12 +77,12 @@ first_leaves (x ∷ ws) w e = go (λ f. first_leaves ws w f) x.moved e
     go more false f = omega arith
 
 -- the call that begins next waited
-next_begun : (a : Bool) (key : ActorKey) (v : ℕ) (may : Bool) (c : CellState) → length (begun_next c (next_call may c)).line + begun (marks_of_next a key v (next_call may c)) ≡ length c.line
-next_begun a key v may c = cond_both (may && is_free c) _ _ (λ (o : Option Waiter). length (begun_next c o).line + begun (marks_of_next a key v o) ≡ length c.line) (λ _. go (first_unmoved c.line) refl) (λ _. omega arith)
+next_begun : (a : Bool) (key : ActorKey) (v : ℕ) (may : Bool) (c : CellState) → length (begun_next c (next_call may c)).queue + begun (marks_of_next a key v (next_call may c)) ≡ length c.queue
+next_begun a key v may c = cond_both (may && is_free c) _ _ (λ (o : Option Waiter). length (begun_next c o).queue + begun (marks_of_next a key v o) ≡ length c.queue) (λ _. go (first_unmoved c.queue) refl) (λ _. omega arith)
   where
-    go : (o : Option Waiter) → first_unmoved c.line ≡ o → length (begun_next c o).line + begun (marks_of_next a key v o) ≡ length c.line
+    go : (o : Option Waiter) → first_unmoved c.queue ≡ o → length (begun_next c o).queue + begun (marks_of_next a key v o) ≡ length c.queue
     go None e = omega arith
-    go (Some w) e = let f = first_leaves c.line w e in let b = begin_begun a key v w.call w.chain in omega arith
+    go (Some w) e = let f = first_leaves c.queue w e in let b = begin_begun a key v w.call w.chain in omega arith
 
 -- ---- cells
 
@@ -139,7 +139,7 @@ module _ (owner : PlacementTable → ActorKey → Option HostInfo) where
   asked_begins p c chain may s home =
       let kept = kept_chain c.inner chain in
       let a = begin_begun c.active c.key p.opened (p.drawn + 1) chain in
-      let l = length-append c.inner.line ((let w : Waiter = record { call = p.drawn + 1; chain = kept; moved = false } in w) ∷ []) in
+      let l = length-append c.inner.queue ((let w : Waiter = record { call = p.drawn + 1; chain = kept; moved = false } in w) ∷ []) in
       let begun_now = one_cell p 1 c (record c { inner = with_turn c.inner (p.drawn + 1) kept; active = true }) (marks_of_begin c.active c.key p.opened (p.drawn + 1) chain) s.in_order home refl (omega arith) in
       admit_cases c.inner (p.drawn + 1) chain may (λ (x : AskStep). BeginsWaiting p 1 (asked_step p c chain x.cell x.answer))
       (λ _ _. begun_now) (omega arith) (λ _ _. begun_now)
@@ -169,21 +169,21 @@ module _ (owner : PlacementTable → ActorKey → Option HostInfo) where
   poll_begins p call None f s = omega arith
   poll_begins p call (Some c) f s =
       let i = In-cell_of_call p.cells call c f in
-      cond_both (has_turn call c.inner.turns) _ _ (λ (a : PollStep). BeginsWaiting p 0 (Part.polled_step owner p c call a.cell a.answer)) (λ _. stays p 0 (replies.Begun call (chain_of c.inner.turns))) (λ _. go i (waiter_of call c.inner.line))
+      cond_both (has_turn call c.inner.turns) _ _ (λ (a : PollStep). BeginsWaiting p 0 (Part.polled_step owner p c call a.cell a.answer)) (λ _. stays p 0 (replies.Begun call (chain_of c.inner.turns))) (λ _. go i (waiter_of call c.inner.queue))
     where
       go : In c p.cells → (w : Option Waiter) → BeginsWaiting p 0 (Part.polled_step owner p c call (poll_waiter c.inner call w).cell (poll_waiter c.inner call w).answer)
       go i None = stays p 0 replies.AlreadyEnded
       go i (Some w) =
           cond_both w.moved _ _ (λ (a : PollStep). BeginsWaiting p 0 (Part.polled_step owner p c call a.cell a.answer))
           (λ _.
-          let less = fewer_waiting call c.inner.line in
-          one_cell p 0 c (record c { inner = record (c.inner) { line = without_waiter call c.inner.line } }) [] s.in_order (home_of p c s i) refl (omega arith))
-          (λ _. stays p 0 (replies.Waits call (place_of call c.inner.line)))
+          let less = fewer_waiting call c.inner.queue in
+          one_cell p 0 c (record c { inner = record (c.inner) { queue = without_waiter call c.inner.queue } }) [] s.in_order (home_of p c s i) refl (omega arith))
+          (λ _. stays p 0 (replies.Waits call (place_of call c.inner.queue)))
 
   end_begins : (p : PartState) (call now : ℕ) (found : Option ActorCell) → cell_of_call p.cells call ≡ found → IsPartSound owner p → BeginsWaiting p 0 (Part.end_cell owner p call now found)
   end_begins p call now None f s = omega arith
   end_begins p call now (Some c) f s =
-      cond_both (has_turn call c.inner.turns) _ _ (λ (a : EndStep). BeginsWaiting p 0 (Part.ended_step owner p c call now a.cell a.answer)) (λ _. ends) (λ _. go (waiter_of call c.inner.line))
+      cond_both (has_turn call c.inner.turns) _ _ (λ (a : EndStep). BeginsWaiting p 0 (Part.ended_step owner p c call now a.cell a.answer)) (λ _. ends) (λ _. go (waiter_of call c.inner.queue))
     where
       go : (w : Option Waiter) → BeginsWaiting p 0 (Part.ended_step owner p c call now c.inner (not_open w))
       go None = omega arith
@@ -222,7 +222,7 @@ module _ (owner : PlacementTable → ActorKey → Option HostInfo) where
       let each = each_begins (Part.open_cell owner q) p.cells
       (λ c. cond_both (is_own owner q c.key) _ _ (λ (x : CellStep). waits_in x.cell + begun x.marks ≤ waits_in c)
       (λ _. let a = next_begun c.active c.key q.opened (not c.closing) c.inner in omega arith)
-      (λ _. let a = same_moved c.inner.line in omega arith)) in
+      (λ _. let a = same_moved c.inner.queue in omega arith)) in
       cond_both (is_updated p.stage && (version == p.seen)) _ _ (BeginsWaiting p 0) (λ _. cond_both (is_drained owner p) _ _ (BeginsWaiting p 0) (λ _. omega arith) (λ _. omega arith)) (λ _. omega arith)
 
   tick_begins : (p : PartState) (now : ℕ) → BeginsWaiting p 0 (Part.tick_part owner p now)

@@ -4,7 +4,7 @@ use Rattle.std.specs.Option.{option_copied_mut}
 use Rattle.std.proofs.lemmas.Bool.{or_left}
 use Rattle.slab.specs.Slab.{get}
 use Rattle.turn_core.specs.Cell.{has_turn, waiter_of, turn_calls, without_turns}
-use Rattle.turn_core.proofs.Leaves.{stopped_line, stopped_others}
+use Rattle.turn_core.proofs.Leaves.{stopped_queue, stopped_others}
 use Rattle.part_cells.specs.declared.actor_cell.ActorCell.{ActorCell}
 use Rattle.part_cells.specs.Cells.{calls_in}
 use Rattle.part_cells.specs.Slots.{slot_of, is_among, number_at}
@@ -41,8 +41,8 @@ returns-clause-kept g c =
     rw c.end_all-ended.ensures.cell (write_kept c.args.slots.now c.args._places.now.entries (slot_of c.args.calls.now) c.args.count.now k c.args.slot cell e x refl (late_settled cell c.max-hashed-inside.result (k.settled c.args.slot cell e))
     (λ m. has_turn m inner.turns) (slot_of c.forget.new.self) (c.args.count.now - c.turns-over.result)
     (λ m h. (
-      or_left (has_turn m inner.turns) (is_some (waiter_of m inner.line)) h,
-      stopped_line m inner c.turns-over.ensures.once h,
+      or_left (has_turn m inner.turns) (is_some (waiter_of m inner.queue)) h,
+      stopped_queue m inner c.turns-over.ensures.once h,
     ))
     (λ m h. stopped_others m inner h)
     (λ m. c.forget.ensures m ∙ ap (λ b. if b then None else slot_of c.args.calls.now m) (ap (is_among m) (behind _ c.args.ended.now.items (turn_calls inner.turns) _ _ (c.as_slice.ensures.value ∙ c.list_turns.ensures.items) (omega arith) (omega arith)) ∙ among-turns m inner.turns))

@@ -35,7 +35,7 @@ invariant_of-self-then-waiting-eq0 c =
     let w = written S ps look n k c.args.slot cell e cell refl in
     let u = c.drop_at.ensures.slots in
     let places : c.drop_at.new.places.entries ≡ remove_entry (is_at (key_cmp cell.key)) ps = rw w.changed at c.drop_at.ensures.places in
-    let none : cell.inner.line ≡ [] = nil_of_length cell.inner.line (let a = c.waiting.ensures.count ∙ ap (λ (z : ActorCell). length z.inner.line) c.hashed.view_is in omega arith) in
+    let none : cell.inner.queue ≡ [] = nil_of_length cell.inner.queue (let a = c.waiting.ensures.count ∙ ap (λ (z : ActorCell). length z.inner.queue) c.hashed.view_is in omega arith) in
     let free = closing_free cell (k.settled c.args.slot cell e) closing in
     let a = ap (λ ts. length ts) free in
     let b = ap (λ ws. length ws) none in
@@ -59,7 +59,7 @@ returns-then-waiting-eq0 c =
     let w = written S ps look n k c.args.slot cell e cell refl in
     let u = c.drop_at.ensures.slots in
     let places : c.drop_at.new.places.entries ≡ remove_entry (is_at (key_cmp cell.key)) ps = rw w.changed at c.drop_at.ensures.places in
-    let none : cell.inner.line ≡ [] = nil_of_length cell.inner.line (let a = c.waiting.ensures.count ∙ ap (λ (z : ActorCell). length z.inner.line) c.hashed.view_is in omega arith) in
+    let none : cell.inner.queue ≡ [] = nil_of_length cell.inner.queue (let a = c.waiting.ensures.count ∙ ap (λ (z : ActorCell). length z.inner.queue) c.hashed.view_is in omega arith) in
     rw (← c.self.view_is, e) (
       sym (ap (option_map call_of) (closed_none cell c.args.may_begin s closing none)),
       ap (cells_in (get c.drop_at.new.slots)) places
@@ -76,7 +76,7 @@ invariant_of-self-2 c =
     let e : get c.self.inside.slots c.args.slot ≡ Some cell = sym c.get_mut.ensures.value ∙ ap (λ o. option_copied_mut o) c.in-Some.is ∙ ap (λ z. Some z) (sym c.hashed.view_is) in
     let closing = rw e at (rw (← c.self.view_is) at c.requires) in
     let active : c.is_some-hashed-inside.result ≡ is_some next = c.is_some-hashed-inside.ensures ∙ ap (λ (z : Option ℕ). is_some z) c.begin_if-next.ensures.answer ∙ some_call next in
-    let some : 0 < length cell.inner.line = (let a = c.waiting.ensures.count in omega arith) in
+    let some : 0 < length cell.inner.queue = (let a = c.waiting.ensures.count in omega arith) in
     rw (c.begin_if-next.ensures.cell, active) (write_with_calls c.self.inside.slots c.self.inside.places.entries (slot_of c.self.inside.calls) c.self.inside.count k c.args.slot cell e x refl
     (closed_settled cell c.args.may_begin (k.settled c.args.slot cell e) closing some) (begins_keeps c.args.may_begin cell.inner))
 
@@ -89,7 +89,7 @@ returns c =
     let e : get c.self.inside.slots c.args.slot ≡ Some cell = sym c.get_mut.ensures.value ∙ ap (λ o. option_copied_mut o) c.in-Some.is ∙ ap (λ z. Some z) (sym c.hashed.view_is) in
     let closing = rw e at (rw (← c.self.view_is) at c.requires) in
     let active : c.is_some-hashed-inside.result ≡ is_some next = c.is_some-hashed-inside.ensures ∙ ap (λ (z : Option ℕ). is_some z) c.begin_if-next.ensures.answer ∙ some_call next in
-    let some : 0 < length cell.inner.line = (let a = c.waiting.ensures.count in omega arith) in
+    let some : 0 < length cell.inner.queue = (let a = c.waiting.ensures.count in omega arith) in
     rw (← c.self.view_is, e, c.begin_if-next.ensures.cell, active) (
       c.begin_if-next.ensures.answer,
       write_keeps c.self.inside.slots c.self.inside.places.entries (slot_of c.self.inside.calls) c.self.inside.count k c.args.slot cell e x refl (closed_settled cell c.args.may_begin (k.settled c.args.slot cell e) closing some),

@@ -7,8 +7,8 @@ use Rattle.part_cells.specs.Slots.{closed_cell}
 use Rattle.part_cells.proofs.Elements.{In-cell_at}
 use Rattle.part_cells.proofs.Sizes.{within_total}
 use Rattle.part_core.specs.Actors.{ActorsState, begun_next_in}
-use Rattle.part_core.proofs.Counts.{begun-in_line}
-use Rattle.part_core.proofs.Numbers.{numbered_next, next_in_line}
+use Rattle.part_core.proofs.Counts.{begun-in_queue}
+use Rattle.part_core.proofs.Numbers.{numbered_next, next_in_queue}
 use Rattle.part_core.proofs.Kept.{found_numbered, kept_within}
 use Rattle.part_core.proofs.HoldGives.{closed_gives}
 use Rattle.part_core.proofs.Owned.{own_if_active}
@@ -27,7 +27,7 @@ note_next-requires c =
     let a = k.has_room in
     let d = c.clear.ensures.capacity in
     let e = ap (λ (ns : List ℕ). length ns) c.clear.ensures.items in
-    let b = begun-in_line cell.inner c.is_served-may_begin.result in
+    let b = begun-in_queue cell.inner c.is_served-may_begin.result in
     let q = ap (λ (n : Option ℕ). length (begun_next_in n)) h.0 in
     omega arith
 
@@ -44,7 +44,7 @@ invariant_of-self-2 c =
     let r = c.note_next.ensures.room in
     let m = (begins_keeps b cell.inner).as_many in
     rw h (kept_within c.self.inside.drawn c.self.inside.cells (vec_capacity c.self.inside.recent) k c.in-Some.slot cell f x _ refl
-    (numbered_next c.self.inside.drawn cell.inner (next_call b cell.inner) (next_in_line b cell.inner) n) (omega arith) (omega arith))
+    (numbered_next c.self.inside.drawn cell.inner (next_call b cell.inner) (next_in_queue b cell.inner) n) (omega arith) (omega arith))
 
 pub returns : goal.returns
 returns c =

@@ -12,7 +12,7 @@ copied_some (Some x) h = h
 
 pub invariant_of-self-then-carry_chain : goal.invariant_of-self-then-carry_chain
 invariant_of-self-then-carry_chain c =
-    let s : CellState = record { depth = c.self.inside.depth; turns = c.self.inside.turns.items; line = c.self.inside.line.items; holds = c.self.inside.holds } in
+    let s : CellState = record { depth = c.self.inside.depth; turns = c.self.inside.turns.items; queue = c.self.inside.queue.items; holds = c.self.inside.holds } in
     let kept : Option (List ℕ) = option_copied c.chain_at-chain.result in
     let given : 0 < c.self.inside.depth → IsSome (option_copied c.args.chain) = λ deep. copied_some c.args.chain ((rw (← c.self.view_is) at c.requires.chained) deep) in
     let carried = rw c.deref.ensures.value at (sym c.if-carry_chain.ensures) in
@@ -21,13 +21,13 @@ invariant_of-self-then-carry_chain c =
 
 pub invariant_of-self-2 : goal.invariant_of-self-2
 invariant_of-self-2 c =
-    let s : CellState = record { depth = c.self.inside.depth; turns = c.self.inside.turns.items; line = c.self.inside.line.items; holds = c.self.inside.holds } in
+    let s : CellState = record { depth = c.self.inside.depth; turns = c.self.inside.turns.items; queue = c.self.inside.queue.items; holds = c.self.inside.holds } in
     let given : 0 < c.self.inside.depth → IsSome (option_copied c.args.chain) = λ deep. copied_some c.args.chain ((rw (← c.self.view_is) at c.requires.chained) deep) in
-    (waits_kept s c.args.call (option_copied c.args.chain) (option_copied c.chain_at-chain.result) c.join_line.new.line.items c.self.invariant.0 (rw (← c.self.view_is) at c.requires.absent) given c.chain_at-chain.ensures (omega arith) c.in_ok-join_line.ensures.ok, c.self.invariant.1)
+    (waits_kept s c.args.call (option_copied c.args.chain) (option_copied c.chain_at-chain.result) c.join_queue.new.queue.items c.self.invariant.0 (rw (← c.self.view_is) at c.requires.absent) given c.chain_at-chain.ensures (omega arith) c.in_ok-join_queue.ensures.ok, c.self.invariant.1)
 
 pub invariant_of-self-then-may_begin : goal.invariant_of-self-then-may_begin
 invariant_of-self-then-may_begin c =
-    let s : CellState = record { depth = c.self.inside.depth; turns = c.self.inside.turns.items; line = c.self.inside.line.items; holds = c.self.inside.holds } in
+    let s : CellState = record { depth = c.self.inside.depth; turns = c.self.inside.turns.items; queue = c.self.inside.queue.items; holds = c.self.inside.holds } in
     let given : 0 < c.self.inside.depth → IsSome (option_copied c.args.chain) = λ deep. copied_some c.args.chain ((rw (← c.self.view_is) at c.requires.chained) deep) in
     let none = eqb-true (vec_len c.self.inside.turns) 0 (sym c.if-is_empty.ensures) in
     let free : c.self.inside.turns.items ≡ [] = nil_of_length c.self.inside.turns.items (omega arith) in
