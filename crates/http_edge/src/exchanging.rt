@@ -7,13 +7,13 @@ ghost use Rattle.http_edge.specs.Settled.{Decides};
 ghost use Rattle.http_edge.specs.Texts.{request_text};
 
 use crate::arrivals::Arrivals;
-use crate::bytes::Bytes;
 use crate::content::read_body;
 use crate::error::EdgeError;
 use crate::message::{HttpRequest, HttpResponse};
 use crate::replies::await_reply;
 use crate::writing::write_request;
 use actor_ports::Conn;
+use lists_and_limits::Bytes;
 use std::alloc::Global;
 
 // Reads a reply to its end.

@@ -5,11 +5,10 @@ ghost use Rattle.http_edge.specs.Fields.{is_same_word, values_of, length_of, at_
 ghost use Rattle.http_edge.specs.Steps.{IsTold, option_span};
 ghost use Rattle.http_edge.specs.Requests.{pair_of};
 
-use crate::bytes::Bytes;
 use crate::error::EdgeError;
 use crate::message::{HttpField, HttpFields};
 use httparse::spans::{HeaderSpan, Span};
-use lists_and_limits::OutOfMemory;
+use lists_and_limits::{Bytes, OutOfMemory};
 use std::alloc::Global;
 
 const MOST_BODY: u64 = 4_194_304;

@@ -5,13 +5,12 @@ ghost use Rattle.http_edge.specs.Fields.{body_told, says_close, most_head};
 ghost use Rattle.http_edge.specs.Requests.{pair_of};
 ghost use Rattle.http_edge.specs.Steps.{Looks};
 
-use crate::bytes::Bytes;
 use crate::error::EdgeError;
 use crate::fields::{body_length, copy_fields, says_close};
 use crate::message::HttpFields;
 use httparse::spans::{EMPTY_HEADER_SPAN, HeaderSpan, RequestSpans, parse_request};
 use httparse::{Error, Status};
-use lists_and_limits::OutOfMemory;
+use lists_and_limits::{Bytes, OutOfMemory};
 use std::alloc::Global;
 
 const MOST_FIELDS: usize = 64;

@@ -5,7 +5,6 @@
 #![tactic(auto)]
 
 mod arrivals;
-mod bytes;
 mod carry;
 mod content;
 mod error;
@@ -20,10 +19,10 @@ mod reader;
 mod replies;
 mod writing;
 
-pub use bytes::Bytes;
 pub use error::EdgeError;
 pub use exchanging::exchange;
 pub use law::{reply_law, request_law};
+pub use lists_and_limits::Bytes;
 pub use message::{HttpField, HttpFields, HttpRequest, HttpResponse};
 pub use reader::RequestReader;
 pub use writing::write_response;

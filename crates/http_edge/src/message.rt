@@ -1,7 +1,7 @@
 // Messages and their fields.
 ghost use Rattle.std.specs.Prelude.{◌≡◌};
 
-use crate::bytes::Bytes;
+use lists_and_limits::Bytes;
 use std::marker::Model;
 
 /// A field of a head: its name as it was written, and its value without the white space around it.

@@ -6,13 +6,12 @@ ghost use Rattle.http_edge.specs.Inputs.{IsAnswerTo};
 ghost use Rattle.http_edge.specs.Requests.{ReadsNext, EdgeCause, ReaderState, new_reader, pair_of};
 ghost use Rattle.http_edge.specs.Steps.{IsHeadOf, AwaitsHead, FillsOver, EndsAt};
 
-use crate::bytes::Bytes;
 use crate::carry::receive;
 use crate::error::{EdgeError, edge_error};
 use crate::head::{Head, look_at_head};
 use crate::message::HttpRequest;
 use actor_ports::Conn;
-use lists_and_limits::OutOfMemory;
+use lists_and_limits::{Bytes, OutOfMemory};
 use std::alloc::Global;
 use std::marker::Model;
 

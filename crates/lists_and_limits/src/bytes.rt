@@ -1,11 +1,11 @@
-// A sequence of bytes.
+// A sequence of bytes, as it was given.
 ghost use Rattle.std.specs.Prelude.{◌≡◌, IfOk, refl};
 
-use lists_and_limits::OutOfMemory;
+use crate::memory::OutOfMemory;
 use std::alloc::Global;
 use std::marker::Model;
 
-/// Bytes of a message; contracts see them as a list.
+/// Bytes of a value or a message; contracts see them as a list.
 #[derive(Debug, Drop)]
 pub struct Bytes {
     bytes: Vec<u8>,
@@ -20,7 +20,7 @@ impl Model for Bytes {
 }
 
 impl Bytes {
-    /// The bytes of a vector.
+    /// The bytes of a vector. It takes no memory.
     pub fn from_vec(bytes: Vec<u8>) -> Bytes
         ensures { result ≡ bytes.items }
     {
