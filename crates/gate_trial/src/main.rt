@@ -2,7 +2,7 @@
 //
 //     gate THREADS STEPS     THREADS threads make STEPS steps each at one gate of a counter
 //     mutex THREADS STEPS    the same under a plain mutex
-//     line CALLS MILLIS      CALLS calls of one actor, each from its own thread, with turns of MILLIS milliseconds
+//     queue CALLS MILLIS     CALLS calls of one actor, each from its own thread, with turns of MILLIS milliseconds
 //
 // It prints how many steps or turns there were. It promises nothing of its own. Depends on step_gate, part_core,
 // timer_book, schedule_text, place_table and actor_names.
@@ -10,13 +10,13 @@
 
 mod counter;
 mod counting;
-mod line;
 mod parts;
+mod queue;
 #[cfg(test)]
 mod tests;
 
 use counting::{count_at_gate, count_under_mutex};
-use line::take_turns;
+use queue::take_turns;
 use std::rt::Env;
 use std::sync::Wait;
 use std::thread::Threads;
@@ -26,7 +26,7 @@ use std::{env, io};
 fn main(rt: HostRuntime) -> io::Result<()> {
     match run(&rt)? {
         Some(count) => println!(rt; "{count}"),
-        None => println!(rt; "gate_trial gate|mutex THREADS STEPS, or line CALLS MILLIS"),
+        None => println!(rt; "gate_trial gate|mutex THREADS STEPS, or queue CALLS MILLIS"),
     }
 }
 
@@ -47,7 +47,7 @@ fn run<R: Env + AllocGlobal + Threads + Wait + Clock + Sync>(rt: &R) -> io::Resu
     Ok(match mode.as_str() {
         "gate" => count_at_gate(rt, alloc, first, second),
         "mutex" => Some(count_under_mutex(rt, first, second)),
-        "line" => take_turns(rt, alloc, first, Duration::from_millis(second as u64)),
+        "queue" => take_turns(rt, alloc, first, Duration::from_millis(second as u64)),
         _ => None,
     })
 }
