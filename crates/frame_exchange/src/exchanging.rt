@@ -3,11 +3,11 @@ ghost use Rattle.std.specs.Prelude.{◌≡◌};
 ghost use Rattle.http_edge.specs.Carry.{Carried, Over};
 ghost use Rattle.frame_exchange.specs.Exchanges.{ExchangesFrame, EndCause};
 
-use crate::carry::send;
 use crate::end::{FrameEnd, end_of};
 use crate::reading::read_frame;
 use actor_ports::Conn;
 use frame_wire::Frame;
+use http_edge::send;
 use std::alloc::Global;
 
 /// Writes a text, which is a frame's spelling, and reads one frame, and no byte behind it. A frame's fault is answered

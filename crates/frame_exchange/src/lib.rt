@@ -5,7 +5,6 @@
 // `http_edge`.
 #![tactic(auto)]
 
-mod carry;
 mod end;
 mod exchanging;
 mod front;

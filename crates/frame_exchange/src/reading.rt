@@ -5,11 +5,11 @@ ghost use Rattle.http_edge.specs.Carry.{Over, AtEnd};
 ghost use Rattle.frame_wire.specs.Streams.{look, end_look};
 ghost use Rattle.frame_exchange.specs.Exchanges.{ReadsFrame, EndCause};
 
-use crate::carry::receive;
 use crate::end::{FrameEnd, end_of};
 use crate::front::{Front, frame_len, look_front};
 use actor_ports::{Conn, PortError};
 use frame_wire::Frame;
+use http_edge::receive;
 use std::alloc::Global;
 
 /// The most bytes of one read.

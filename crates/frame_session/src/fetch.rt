@@ -3,9 +3,9 @@ ghost use Rattle.std.specs.Prelude.{◌≡◌, None};
 ghost use Rattle.actor_ports.specs.Port.{HasCause};
 ghost use Rattle.frame_session.specs.Turns.{Fetches};
 
-use crate::carry::receive;
 use actor_ports::{Conn, PortError};
 use frame_wire::{FrameError, FrameReader};
+use http_edge::receive;
 
 /// The most bytes of one read.
 const PIECE: usize = 65_536;

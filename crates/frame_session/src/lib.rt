@@ -6,7 +6,6 @@
 #![tactic(auto)]
 
 mod answers;
-mod carry;
 mod ends;
 mod fetch;
 mod session;

@@ -9,9 +9,9 @@ ghost use Rattle.frame_session.specs.Rounds.{IsReply};
 ghost use Rattle.frame_session.specs.Turns.{Replies, Turns, TurnCause};
 
 use crate::answers::AnswersFrames;
-use crate::carry::send;
 use actor_ports::{Clock, Conn, PortError};
 use frame_wire::{Frame, write_frame};
+use http_edge::send;
 use std::sync::Wait;
 use step_gate::{Gate, Machine, Seat};
 

@@ -1,4 +1,7 @@
 // Why the store refuses a command.
+ghost use Rattle.std.specs.Prelude.{◌≡◌};
+ghost use Rattle.frame_wire.specs.StoreParts.{store_refusal_tag};
+
 use schedule_text::Moment;
 
 /// Why the store refuses a command. `op` is the index of an operation, counted from 0.
@@ -31,4 +34,27 @@ pub enum StoreRefusal {
     OutOfMemory,
     /// The command has `n` bytes in the journal, more than a record may have.
     CommandTooLong { n: u64 },
+}
+
+impl StoreRefusal {
+    /// The number that the refusal has in frames.
+    pub fn code(self) -> u8
+        ensures { result ≡ store_refusal_tag self }
+    {
+        match self {
+            StoreRefusal::OtherBoot { .. } => 1,
+            StoreRefusal::OldSeq { .. } => 2,
+            StoreRefusal::NodesFull { .. } => 3,
+            StoreRefusal::Spent => 4,
+            StoreRefusal::TooManyOps { .. } => 5,
+            StoreRefusal::KeyTooLong { .. } => 6,
+            StoreRefusal::ValueTooLong { .. } => 7,
+            StoreRefusal::OtherMoment { .. } => 8,
+            StoreRefusal::Full { .. } => 9,
+            StoreRefusal::DiskFault => 10,
+            StoreRefusal::Reopen => 11,
+            StoreRefusal::OutOfMemory => 12,
+            StoreRefusal::CommandTooLong { .. } => 13,
+        }
+    }
 }

@@ -6,7 +6,7 @@ ghost use Rattle.http_edge.specs.Carry.{Over, Writes, Reads};
 use actor_ports::{Conn, PortError};
 
 /// Writes all of the bytes.
-pub(crate) fn send<C: Conn>(conn: &mut C, bytes: &[u8]) -> Result<(), PortError>
+pub fn send<C: Conn>(conn: &mut C, bytes: &[u8]) -> Result<(), PortError>
     ensures writes { Writes (C.read_traffic conn.old) (C.read_traffic conn.new) bytes.now result }
     ensures cause { HasCause (C.read_faults conn.old) (C.read_faults conn.new) result }
 {
@@ -14,7 +14,7 @@ pub(crate) fn send<C: Conn>(conn: &mut C, bytes: &[u8]) -> Result<(), PortError>
 }
 
 /// Appends the next bytes, at most `most`, and answers how many; 0 only at the end of the input.
-pub(crate) fn receive<C: Conn>(
+pub fn receive<C: Conn>(
     conn: &mut C,
     into: &mut Vec<u8>,
     most: usize,

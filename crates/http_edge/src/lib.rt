@@ -19,6 +19,7 @@ mod reader;
 mod replies;
 mod writing;
 
+pub use carry::{receive, send};
 pub use error::EdgeError;
 pub use exchanging::exchange;
 pub use law::{reply_law, request_law};

@@ -40,7 +40,7 @@ fn sent(alloc: Global, response: HttpResponse, last: bool) -> Result<HttpRespons
 }
 
 /// Writes a response, with `Connection: close` if it is the last one.
-pub(crate) fn write_sent<C: Conn>(
+pub fn write_sent<C: Conn>(
     alloc: Global,
     response: HttpResponse,
     last: bool,

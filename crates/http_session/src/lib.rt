@@ -11,5 +11,6 @@ mod server;
 mod session;
 mod turn;
 
+pub use closing::write_sent;
 pub use server::AnswersHttp;
 pub use session::http_session;

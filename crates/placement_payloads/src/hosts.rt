@@ -1,42 +1,16 @@
 // Hosts of a space that was named before.
-ghost use Rattle.std.specs.Prelude.{◌≡◌, ◌++◌, ◌∷◌, None, OnOk};
-ghost use Rattle.wire_fields.specs.Fields.{many_at, spell_all, in_any_order, maybe, maybe_tag, maybe_fields, MaybeFits, AllFit};
+ghost use Rattle.std.specs.Prelude.{◌≡◌, ◌++◌, ◌∷◌, OnOk};
+ghost use Rattle.wire_fields.specs.Fields.{maybe, maybe_tag, maybe_fields, MaybeFits};
 ghost use Rattle.wire_fields.specs.Gives.{Gives};
-ghost use Rattle.wire_fields.specs.Parts.{type_name, types};
 ghost use Rattle.placement_payloads.specs.Payloads.{local_app, local_host, host_local};
 
 use crate::members::{local_member_at, put_local_member};
-use actor_names::{ActorType, Address, OutOfMemory, Space};
-use place_table::{ActorTypes, HostInfo, MOST_TYPES};
+use actor_names::{Address, OutOfMemory, Space};
+use place_table::HostInfo;
 use std::alloc::Global;
 use wire_fields::{
-    Fault, app_at, byte_at, put_app, put_byte, put_tag, put_type, put_u16, put_u32, type_at,
-    u16_at, u32_at,
+    Fault, app_at, put_app, put_tag, put_types, put_u16, put_u32, types_at, u16_at, u32_at,
 };
-
-fn type_list_at(alloc: Global, count: u8, rest: &mut &[u8]) -> Result<Vec<ActorType>, Fault>
-    ensures { Gives (λ x. (x.items, rest.new.now)) result (many_at (in_any_order type_name) None count rest.old.now) }
-{
-    let mut types = Vec::new(alloc);
-    for _ in 0..count {
-        let kind = type_at(alloc, rest)?;
-        types.push(kind)?;
-    }
-    Ok(types)
-}
-
-#[tactic(auto, unfolding(wire_fields::specs::Parts::types))]
-fn types_at(alloc: Global, rest: &mut &[u8]) -> Result<ActorTypes, Fault>
-    ensures { Gives (λ x. (x, rest.new.now)) result (types.at rest.old.now) }
-{
-    let left = rest.len();
-    let count = byte_at(rest)?;
-    if count as usize > MOST_TYPES {
-        return Err(Fault::Field { left });
-    }
-    let items = type_list_at(alloc, count, rest)?;
-    Ok(ActorTypes::from_vec(items))
-}
 
 #[tactic(auto, unfolding(crate::specs::Payloads::local_host, crate::specs::Payloads::local_app, crate::specs::Payloads::local_member, wire_fields::specs::Parts::host_app))]
 fn local_host_at(alloc: Global, space: &Space, rest: &mut &[u8]) -> Result<HostInfo, Fault>
@@ -75,26 +49,6 @@ pub(crate) fn joined_at(
         }
         _ => Err(Fault::Field { left: rest.len() }),
     }
-}
-
-fn put_type_list(out: &mut Vec<u8>, types: &[ActorType]) -> Result<(), OutOfMemory>
-    requires { AllFit (in_any_order type_name) None types.now }
-    ensures { OnOk result (out.new.items ≡ out.old.items ++ spell_all type_name.spell types.now) }
-{
-    for kind in types {
-        put_type(out, kind)?;
-    }
-    Ok(())
-}
-
-#[tactic(auto, unfolding(wire_fields::specs::Parts::types, wire_fields::specs::Fields::byte))]
-fn put_types(out: &mut Vec<u8>, kinds: &ActorTypes) -> Result<(), OutOfMemory>
-    requires { types.Fits kinds.now }
-    ensures { OnOk result (out.new.items ≡ out.old.items ++ types.spell kinds.now) }
-{
-    let kinds = kinds.as_slice();
-    put_byte(out, kinds.len() as u8)?;
-    put_type_list(out, kinds)
 }
 
 #[tactic(auto, unfolding(crate::specs::Payloads::local_app, wire_fields::specs::Parts::host_app))]

@@ -1,11 +1,10 @@
 // What replies of parts, of books of timers and of the store come to.
 ghost use Rattle.std.specs.Prelude.{◌≡◌};
-ghost use Rattle.frame_wire.specs.StoreParts.{store_refusal_tag};
 ghost use Rattle.sidecar_records.specs.Outcomes.{refused, refusal_of, done_answer, missing_answer, told_answer, store_answer, released_answer, held_answer, book_answer, kept_answer, timer_answer};
 
 use crate::ask::Wanted;
 use actors_api::{ApiRefusal, ApiReply};
-use frame_wire::{StoreAnswer, StoreRefusal};
+use frame_wire::StoreAnswer;
 use part_core::PartReply;
 use step_gate::Spent;
 use store_exchange::StoreEnd;
@@ -27,27 +26,6 @@ pub(crate) fn refusal_of(reply: PartReply) -> ApiRefusal
         PartReply::Spent { .. } => ApiRefusal::Spent,
         PartReply::Stopped => ApiRefusal::Stopped,
         _ => ApiRefusal::OutOfMemory,
-    }
-}
-
-// The code of a refusal in its frame.
-fn store_code(refusal: StoreRefusal) -> u8
-    ensures { result ≡ store_refusal_tag refusal }
-{
-    match refusal {
-        StoreRefusal::OtherBoot { .. } => 1,
-        StoreRefusal::OldSeq { .. } => 2,
-        StoreRefusal::NodesFull { .. } => 3,
-        StoreRefusal::Spent => 4,
-        StoreRefusal::TooManyOps { .. } => 5,
-        StoreRefusal::KeyTooLong { .. } => 6,
-        StoreRefusal::ValueTooLong { .. } => 7,
-        StoreRefusal::OtherMoment { .. } => 8,
-        StoreRefusal::Full { .. } => 9,
-        StoreRefusal::DiskFault => 10,
-        StoreRefusal::Reopen => 11,
-        StoreRefusal::OutOfMemory => 12,
-        StoreRefusal::CommandTooLong { .. } => 13,
     }
 }
 
@@ -96,7 +74,7 @@ fn told_answer(wanted: Wanted, answer: StoreAnswer) -> ApiReply
             payload,
         },
         StoreAnswer::Refused { refusal } => refused(ApiRefusal::StoreRefused {
-            code: store_code(refusal),
+            code: refusal.code(),
         }),
         StoreAnswer::Booted { .. } => refused(ApiRefusal::StoreReply),
         StoreAnswer::DueList { .. } => refused(ApiRefusal::StoreReply),

@@ -4,11 +4,11 @@ ghost use Rattle.http_edge.specs.Carry.{Over};
 ghost use Rattle.http_session.specs.Sessions.{IsRefusal, EndsUnread, cut_end};
 ghost use Rattle.sidecar_sessions.specs.Sessions.{edge_response};
 
-use crate::closing::write_sent;
 use crate::edge::edge_response;
 use actor_ports::{Conn, SessionEnd};
 use actors_api::Side;
 use http_edge::EdgeError;
+use http_session::write_sent;
 use std::alloc::Global;
 
 // Writes the response to bytes that have no reading, if there is one.

@@ -7,7 +7,6 @@
 // `sidecar_records`, `served_request`, `actors_api`, `sidecar_node`, `link_exchange`, `http_edge` and `actor_ports`.
 #![tactic(auto)]
 
-mod closing;
 mod edge;
 mod ends;
 mod serving;

@@ -5,11 +5,11 @@ ghost use Rattle.http_session.specs.Rounds.{Turns};
 ghost use Rattle.sidecar_node.specs.Nodes.{IsSeatsOf};
 ghost use Rattle.sidecar_sessions.specs.Sessions.{IsAnswered, standing};
 
-use crate::closing::write_sent;
 use crate::serving::serve_one;
 use actor_ports::{Clock, Conn, Dial};
 use actors_api::{Side, write_api};
 use http_edge::{EdgeError, HttpRequest};
+use http_session::write_sent;
 use link_exchange::Links;
 use sidecar_node::{Seats, SidecarNode};
 use std::alloc::Global;

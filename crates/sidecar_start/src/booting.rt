@@ -1,7 +1,6 @@
 // The boot that the store draws.
 ghost use Rattle.std.specs.Prelude.{◌≡◌, ◌≤◌, List, IfOk, Ok};
 ghost use Rattle.frame_wire.specs.Frames.{frame_bytes, payload};
-ghost use Rattle.frame_wire.specs.StoreParts.{store_refusal_tag};
 ghost use Rattle.link_exchange.specs.Exchanges.{Exchange, Dialling};
 ghost use Rattle.link_exchange.specs.Replies.{place_at};
 ghost use Rattle.sidecar_start.specs.Tries.{IsTry, IsRun};
@@ -12,7 +11,7 @@ use crate::fits::fits_place;
 use crate::words::StartWords;
 use actor_ports::{Clock, Dial, PortError};
 use frame_exchange::{FrameEnd, exchange_frame};
-use frame_wire::{Frame, StoreAnswer, StoreCommand, StoreRefusal, frame_law, write_frame};
+use frame_wire::{Frame, StoreAnswer, StoreCommand, frame_law, write_frame};
 use lists_and_limits::OutOfMemory;
 use std::alloc::Global;
 use std::sync::Wait;
@@ -47,27 +46,6 @@ fn boot_text(alloc: Global, words: &StartWords) -> Result<Vec<u8>, OutOfMemory>
     }
 }
 
-/// The code of a refusal in its frame.
-fn store_code(refusal: StoreRefusal) -> u8
-    ensures { result ≡ store_refusal_tag refusal }
-{
-    match refusal {
-        StoreRefusal::OtherBoot { .. } => 1,
-        StoreRefusal::OldSeq { .. } => 2,
-        StoreRefusal::NodesFull { .. } => 3,
-        StoreRefusal::Spent => 4,
-        StoreRefusal::TooManyOps { .. } => 5,
-        StoreRefusal::KeyTooLong { .. } => 6,
-        StoreRefusal::ValueTooLong { .. } => 7,
-        StoreRefusal::OtherMoment { .. } => 8,
-        StoreRefusal::Full { .. } => 9,
-        StoreRefusal::DiskFault => 10,
-        StoreRefusal::Reopen => 11,
-        StoreRefusal::OutOfMemory => 12,
-        StoreRefusal::CommandTooLong { .. } => 13,
-    }
-}
-
 /// What the store's answer comes to.
 fn answer_in(answer: &StoreAnswer) -> Result<Option<u64>, StartEnd>
     ensures { result ≡ boot_in (Ok (Frame.Answer answer.now)) }
@@ -75,7 +53,7 @@ fn answer_in(answer: &StoreAnswer) -> Result<Option<u64>, StartEnd>
     match answer {
         StoreAnswer::Booted { boot } => Ok(Some(*boot)),
         StoreAnswer::Refused { refusal } => Err(StartEnd::StoreRefused {
-            code: store_code(*refusal),
+            code: refusal.code(),
         }),
         _ => Ok(None),
     }

@@ -20,7 +20,7 @@ pub use actors::{actor_at, due_key_at, put_actor, put_due_key};
 pub use fault::{Fault, name_fault};
 pub use members::{
     host_at, hosts_at, member_at, node_place_at, put_host, put_hosts, put_member, put_node_place,
-    put_stage, stage_at,
+    put_stage, put_types, stage_at, types_at,
 };
 pub use names::{
     app_at, id_at, node_at, put_app, put_id, put_node, put_record_name, put_space, put_type,

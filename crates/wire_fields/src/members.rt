@@ -43,8 +43,9 @@ fn type_list_at(alloc: Global, count: u8, rest: &mut &[u8]) -> Result<Vec<ActorT
     Ok(types)
 }
 
+/// Reads at most 32 types, in any order, behind their count of one byte.
 #[tactic(auto, unfolding(crate::specs::Parts::types))]
-fn types_at(alloc: Global, rest: &mut &[u8]) -> Result<ActorTypes, Fault>
+pub fn types_at(alloc: Global, rest: &mut &[u8]) -> Result<ActorTypes, Fault>
     ensures { Gives (λ x. (x, rest.new.now)) result (types.at rest.old.now) }
 {
     let left = rest.len();
@@ -187,8 +188,9 @@ fn put_type_list(out: &mut Vec<u8>, types: &[ActorType]) -> Result<(), OutOfMemo
     Ok(())
 }
 
+/// Appends types behind their count of one byte.
 #[tactic(auto, unfolding(crate::specs::Parts::types, crate::specs::Fields::byte))]
-fn put_types(out: &mut Vec<u8>, kinds: &ActorTypes) -> Result<(), OutOfMemory>
+pub fn put_types(out: &mut Vec<u8>, kinds: &ActorTypes) -> Result<(), OutOfMemory>
     requires { types.Fits kinds.now }
     ensures { OnOk result (out.new.items ≡ out.old.items ++ types.spell kinds.now) }
 {
