@@ -1,7 +1,7 @@
 // One case and its answer.
-use crate::bytes::bytes_of;
 use crate::streams::{again, cuts};
 use crate::told::{command, frame};
+use case_texts::hex_bytes;
 use std::alloc::Global;
 
 /// The answer to a case; `None` if it is none, or memory ran out.
@@ -13,7 +13,7 @@ pub(crate) fn answer(alloc: Global, line: &str) -> Option<String> {
 
 fn add_answer(alloc: Global, line: &str, text: &mut String) -> Option<()> {
     let (word, rest) = line.split_once(' ')?;
-    let bytes = bytes_of(alloc, rest)?;
+    let bytes = hex_bytes(alloc, rest)?;
     let bytes = bytes.as_slice();
     match word {
         "again" => again(alloc, bytes, text),

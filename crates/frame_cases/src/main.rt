@@ -6,10 +6,9 @@
 //     frame BYTES                the first frame, as it is shown for debugging
 //     command BYTES              whether the bytes are a command without its length, or why not
 //
-// It has no contracts of its own. Depends on frame_wire.
+// It has no contracts of its own. Depends on frame_wire and case_texts.
 #![tactic(auto)]
 
-mod bytes;
 mod case;
 mod streams;
 mod told;

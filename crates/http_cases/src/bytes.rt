@@ -1,49 +1,10 @@
 // Bytes as the cases write them.
+use case_texts::add_escaped;
 use std::alloc::Global;
 
-/// The bytes that a text writes; `None` if it writes none, or memory runs out.
-pub(crate) fn bytes_of(alloc: Global, text: &str) -> Option<Vec<u8>> {
-    let mut bytes = Vec::new(alloc);
-    let mut parts = text.split('\\');
-    bytes.extend_from_slice(parts.next()?.as_bytes()).ok()?;
-    for part in parts {
-        add_escape(part, &mut bytes)?;
-    }
-    Some(bytes)
-}
-
-// What stands behind a backslash, up to the next one.
-fn add_escape(part: &str, bytes: &mut Vec<u8>) -> Option<()> {
-    let (word, rest) = part.split_at_checked(1)?;
-    let (byte, rest) = match word {
-        "r" => (b'\r', rest),
-        "n" => (b'\n', rest),
-        "x" => {
-            let (digits, rest) = rest.split_at_checked(2)?;
-            (u8::from_str_radix(digits, 16).ok()?, rest)
-        }
-        _ => return None,
-    };
-    bytes.push(byte).ok()?;
-    bytes.extend_from_slice(rest.as_bytes()).ok()
-}
-
-fn add_shown(alloc: Global, byte: u8, text: &mut String) -> Option<()> {
-    match byte {
-        b'\r' => text.push_str("\\r").ok(),
-        b'\n' => text.push_str("\\n").ok(),
-        b' '..=b'[' | b']'..=b'~' => text.push(byte as char).ok(),
-        _ => text
-            .push_str(format!(in alloc; "\\x{byte:02X}").ok()?.as_str())
-            .ok(),
-    }
-}
-
-/// The bytes as a case writes them.
+/// The bytes as a case writes them; `None` if memory runs out.
 pub(crate) fn shown(alloc: Global, bytes: &[u8]) -> Option<String> {
     let mut text = String::new(alloc);
-    for byte in bytes {
-        add_shown(alloc, *byte, &mut text)?;
-    }
+    add_escaped(alloc, bytes, &mut text)?;
     Some(text)
 }

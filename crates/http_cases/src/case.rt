@@ -1,21 +1,22 @@
 // One case and its answer.
-use crate::bytes::{bytes_of, shown};
+use crate::bytes::shown;
 use crate::replies::{exchanged, reply, unwritten, written};
 use crate::{replies, requests};
+use case_texts::escaped_bytes;
 use std::alloc::Global;
 
 /// The answer to a case; `None` if it is none, or memory ran out.
 pub(crate) fn answer(alloc: Global, line: &str) -> Option<String> {
     let (word, rest) = line.split_once(' ')?;
     match word {
-        "request" => requests::at_every_cut(alloc, bytes_of(alloc, rest)?.as_slice()),
+        "request" => requests::at_every_cut(alloc, escaped_bytes(alloc, rest)?.as_slice()),
         "head" => head(alloc, rest.parse::<u64>().ok()?),
         "fields" => fields(alloc, rest.parse::<u64>().ok()?),
         "stream" => stream(alloc, rest, &[]),
         "fault" => fault(alloc, rest),
         "response" => response(alloc, rest),
         "unwritten" => unwritten(alloc, rest.parse::<u64>().ok()?),
-        "reply" => replies::at_every_cut(alloc, bytes_of(alloc, rest)?.as_slice()),
+        "reply" => replies::at_every_cut(alloc, escaped_bytes(alloc, rest)?.as_slice()),
         "ended" => ended(alloc, rest),
         "exchange" => exchange(alloc, rest),
         "broken" => broken(alloc, rest),
@@ -45,7 +46,7 @@ fn fields(alloc: Global, count: u64) -> Option<String> {
 // `COUNT BYTES`
 fn stream(alloc: Global, text: &str, failing: &[u64]) -> Option<String> {
     let (count, input) = text.split_once(' ')?;
-    let input = bytes_of(alloc, input)?;
+    let input = escaped_bytes(alloc, input)?;
     requests::reads(alloc, count.parse::<u64>().ok()?, input.as_slice(), failing)
 }
 
@@ -72,20 +73,20 @@ fn response(alloc: Global, text: &str) -> Option<String> {
 
 // What an exchange answers to these bytes.
 fn ended(alloc: Global, text: &str) -> Option<String> {
-    let input = bytes_of(alloc, text)?;
+    let input = escaped_bytes(alloc, text)?;
     shown(alloc, reply(alloc, input.as_slice(), &[])?.as_slice())
 }
 
 // `BODY|BYTES`
 fn exchange(alloc: Global, text: &str) -> Option<String> {
     let (body, input) = text.split_once('|')?;
-    exchanged(alloc, body.as_bytes(), bytes_of(alloc, input)?.as_slice())
+    exchanged(alloc, body.as_bytes(), escaped_bytes(alloc, input)?.as_slice())
 }
 
 // `CALL BYTES`
 fn broken(alloc: Global, text: &str) -> Option<String> {
     let (call, input) = text.split_once(' ')?;
-    let input = bytes_of(alloc, input)?;
+    let input = escaped_bytes(alloc, input)?;
     let failing = [call.parse::<u64>().ok()?];
     shown(alloc, reply(alloc, input.as_slice(), &failing)?.as_slice())
 }

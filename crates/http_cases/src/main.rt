@@ -14,7 +14,7 @@
 //     broken CALL BYTES                  what an exchange answers if this call of the connection fails
 //
 // A request is told as `METHOD TARGET [NAME=VALUE;..] BODY`, with ` close` if no request follows; a reply as
-// `STATUS [NAME=VALUE;..] BODY`. It has no contracts of its own. Depends on http_edge and actor_ports.
+// `STATUS [NAME=VALUE;..] BODY`. It has no contracts of its own. Depends on http_edge, actor_ports and case_texts.
 #![tactic(auto)]
 
 mod bytes;

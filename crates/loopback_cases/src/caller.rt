@@ -1,7 +1,7 @@
 // What calls the server.
-use crate::bytes::add_bytes;
 use crate::link::{read_frame, send};
 use actor_ports::{Dial, StreamConn, TcpDial};
+use case_texts::add_hex;
 use std::alloc::Global;
 use std::net::{Net, TcpStream};
 
@@ -29,7 +29,7 @@ fn dial_all<N: Net<Stream = TcpStream> + Copy + Send>(
 fn ask(alloc: Global, link: &mut Link, bytes: &[u8], text: &mut String) -> Option<()> {
     send(link, bytes)?;
     let frame = read_frame(alloc, link)?;
-    add_bytes(alloc, frame.as_slice(), text)
+    add_hex(alloc, frame.as_slice(), text)
 }
 
 // Asks over each link, from the last one on; each is closed then.

@@ -1,8 +1,8 @@
 // One case and its answer.
-use crate::bytes::{add, bytes_of};
 use crate::caller::{HERE, answers};
 use crate::outside::{CaseOutside, add_returned, outside};
 use actors_top::run;
+use case_texts::{add, hex_bytes};
 use std::alloc::Global;
 use std::net::{IpAddr, Ipv4Addr, Net, SocketAddr, TcpListener, TcpStream};
 use std::sync::Wait;
@@ -124,7 +124,7 @@ pub(crate) fn answer<
     let (command, rest) = rest.split_once(' ')?;
     let (count, bytes) = rest.split_once(' ')?;
     let count = count.parse::<u64>().ok()?;
-    let bytes = bytes_of(alloc, bytes)?;
+    let bytes = hex_bytes(alloc, bytes)?;
     let mut text = format!(in alloc; "{name} ").ok()?;
     add_served(rt, alloc, command, count, bytes.as_slice(), &mut text)?;
     Some(text)

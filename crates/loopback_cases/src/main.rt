@@ -8,10 +8,9 @@
 //                                first one, and reads a frame. Told are the frames in this order, the status of the
 //                                command, and how many disks and ports were given back.
 //
-// It has no contracts of its own. Depends on actors_top, host_ports, disk_model and actor_ports.
+// It has no contracts of its own. Depends on actors_top, host_ports, disk_model, actor_ports and case_texts.
 #![tactic(auto)]
 
-mod bytes;
 mod caller;
 mod case;
 mod link;

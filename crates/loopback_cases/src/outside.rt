@@ -1,7 +1,7 @@
 // The outside of a command: disks in memory, and one port of TCP.
-use crate::bytes::add;
 use actor_ports::{MemSink, MemSource, SystemClock, TcpDial, TcpListen};
 use actors_top::Outside;
+use case_texts::add;
 use disk_model::MemDisk;
 use host_ports::MemHost;
 use std::alloc::Global;

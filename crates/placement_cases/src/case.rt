@@ -1,7 +1,7 @@
 // One case and its answer.
-use crate::bytes::{add, bytes_of};
 use crate::nodes::{Memory, disk, open};
 use crate::steps::add_steps;
+use case_texts::{add, hex_bytes};
 use placement_node::PlacementOpenError;
 use std::alloc::Global;
 use std::sync::Wait;
@@ -38,7 +38,7 @@ fn opened(
     call: u64,
     bytes: &str,
 ) -> Option<Result<Memory, PlacementOpenError>> {
-    let bytes = bytes_of(alloc, bytes)?;
+    let bytes = hex_bytes(alloc, bytes)?;
     let disk = disk(alloc, bytes.as_slice(), call)?;
     Some(open(alloc, disk, create))
 }

@@ -12,10 +12,9 @@
 //     again                  the placement is closed and opened again
 //
 // It has no contracts that another crate needs. Depends on control_serve, placement_node, step_gate, disk_model and
-// actor_ports.
+// actor_ports and case_texts.
 #![tactic(auto)]
 
-mod bytes;
 mod case;
 mod nodes;
 mod sessions;

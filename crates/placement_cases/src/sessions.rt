@@ -3,9 +3,9 @@ ghost use Rattle.std.specs.Prelude.{IfSome};
 ghost use Rattle.step_gate.specs.Gates.{IsSeatOf};
 ghost use Rattle.placement_node.specs.Node.{NodeAllows};
 
-use crate::bytes::{add, add_bytes, add_lines};
 use crate::nodes::Memory;
 use actor_ports::{MemClock, MemConn, SessionEnd};
+use case_texts::{add, add_hex};
 use control_serve::{placement_session, placement_state_session};
 use std::alloc::Global;
 use std::sync::Wait;
@@ -54,6 +54,18 @@ fn state_served<R: Wait>(
     (gate.close(rt, seat), end)
 }
 
+// Appends the lines of a text, each with `|` at its end.
+fn add_lines(bytes: &[u8], text: &mut String) -> Option<()> {
+    for byte in bytes {
+        match *byte {
+            b'\r' => text.push('|').ok()?,
+            b'\n' => {}
+            byte => text.push(byte as char).ok()?,
+        }
+    }
+    Some(())
+}
+
 // Appends how a session ended and a space.
 fn add_end(alloc: Global, end: SessionEnd, text: &mut String) -> Option<()> {
     add(format!(in alloc; "{end:?} ").ok()?.as_str(), text)
@@ -72,7 +84,7 @@ pub(crate) fn session<R: Wait>(
     let (gate, seat) = gate_of(alloc, node)?;
     let (node, end) = served(rt, alloc, gate, seat, &mut conn, &mut clock);
     add_end(alloc, end, text)?;
-    add_bytes(alloc, conn.written(), text)?;
+    add_hex(alloc, conn.written(), text)?;
     Some(node)
 }
 

@@ -1,7 +1,7 @@
 // The steps of a case.
-use crate::bytes::{add, bytes_of, cut};
 use crate::nodes::{Memory, reopened};
 use crate::sessions::{session, state_session};
+use case_texts::{add, cut, hex_bytes};
 use std::alloc::Global;
 use std::sync::Wait;
 
@@ -20,7 +20,7 @@ fn frames<R: Wait>(
     bytes: &str,
     text: &mut String,
 ) -> Option<Memory> {
-    let bytes = bytes_of(alloc, bytes)?;
+    let bytes = hex_bytes(alloc, bytes)?;
     session(rt, alloc, node, bytes.as_slice(), text)
 }
 

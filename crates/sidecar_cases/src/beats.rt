@@ -3,10 +3,10 @@ ghost use Rattle.frame_wire.specs.declared.frame.Frame.TheVariants as frames;
 ghost use Rattle.frame_wire.specs.Frames.{payload};
 ghost use Rattle.sidecar_node.specs.Nodes.{host_of, IsSeatsOf};
 
-use crate::bytes::{add, add_bytes};
 use crate::links::conn_of;
 use crate::node::{clock, new_node};
 use actor_ports::MemConn;
+use case_texts::{add, add_escaped};
 use placement_beats::{PlacementBook, TurnEnd, leave_turn, placement_turn};
 use sidecar_node::{Seats, SidecarNode};
 use std::alloc::Global;
@@ -35,7 +35,7 @@ fn add_turn<R: Wait>(
     };
     let (_seats, end) = placement_turn(rt, alloc, node, seats, &mut book, conn, &mut clock);
     add_end(alloc, end, text)?;
-    add_bytes(alloc, conn.written(), text)
+    add_escaped(alloc, conn.written(), text)
 }
 
 /// How a turn of a new sidecar ends with a placement that answers so, and what it sent.

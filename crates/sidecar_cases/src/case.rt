@@ -1,8 +1,8 @@
 // One case and its answer.
 use crate::beats::{beat, leave};
-use crate::bytes::{add, bytes_of};
 use crate::sessions::{Then, cuts, sessions};
 use crate::turn::turn;
+use case_texts::{add, escaped_bytes};
 use std::alloc::Global;
 use std::sync::Wait;
 
@@ -23,9 +23,9 @@ fn add_answer<R: Wait>(rt: &R, alloc: Global, case: &str, text: &mut String) -> 
         "turns" => sessions(rt, alloc, rest, Then::Turns, text),
         "idle" => sessions(rt, alloc, rest, Then::LateTick, text),
         "turn" => turn(rt, alloc, rest.as_bytes(), text),
-        "cuts" => cuts(rt, alloc, bytes_of(alloc, rest)?.as_slice(), text),
-        "beat" => beat(rt, alloc, bytes_of(alloc, rest)?.as_slice(), text),
-        "leave" => leave(rt, alloc, bytes_of(alloc, rest)?.as_slice(), text),
+        "cuts" => cuts(rt, alloc, escaped_bytes(alloc, rest)?.as_slice(), text),
+        "beat" => beat(rt, alloc, escaped_bytes(alloc, rest)?.as_slice(), text),
+        "leave" => leave(rt, alloc, escaped_bytes(alloc, rest)?.as_slice(), text),
         _ => None,
     }
 }

@@ -2,9 +2,9 @@
 ghost use Rattle.std.specs.Prelude.{◌≡◌, IfSome};
 ghost use Rattle.actor_ports.specs.Memory.{AreFaultless};
 
-use crate::bytes::{add, add_bytes, bytes_of, cut};
 use crate::node::address;
 use actor_ports::{MemConn, MemDial};
+use case_texts::{add, add_escaped, cut, escaped_bytes};
 use link_exchange::Links;
 use std::alloc::Global;
 
@@ -42,7 +42,7 @@ pub(crate) fn conn(alloc: Global, text: &str) -> Option<MemConn>
 {
     let (failing, text) = number_of(text, '!')?;
     let (more, text) = number_of(text, '+')?;
-    let mut bytes = bytes_of(alloc, text)?;
+    let mut bytes = escaped_bytes(alloc, text)?;
     for _ in 0..more {
         bytes.push(b'a').ok()?;
     }
@@ -87,7 +87,7 @@ pub(crate) fn links_of(
 fn add_sent(alloc: Global, dialler: &MemDial, text: &mut String) -> Option<()> {
     add("|", text)?;
     for link in dialler.links() {
-        add_bytes(alloc, link.written(), text)?;
+        add_escaped(alloc, link.written(), text)?;
         add(";", text)?;
     }
     Some(())

@@ -2,11 +2,11 @@
 ghost use Rattle.std.specs.Prelude.{IfSome};
 ghost use Rattle.sidecar_node.specs.Nodes.{IsSeatsOf};
 
-use crate::bytes::{add, add_bytes, cut};
 use crate::links::{add_links, conn, conn_of, links_of};
 use crate::node::{clock, later_clock, open_node};
 use actor_ports::{MemClock, MemConn, MemDial};
 use actors_api::Side;
+use case_texts::{add, add_escaped, cut};
 use link_exchange::Links;
 use reminder_turns::reminder_turn;
 use sidecar_node::{Seats, SidecarNode};
@@ -42,7 +42,7 @@ fn serve<R: Wait>(
     let side = Side::Caller;
     let (seats, end) = sidecar_session(rt, alloc, node, seats, side, conn, links, clock);
     add(format!(in alloc; "{end:?}|").ok()?.as_str(), text)?;
-    add_bytes(alloc, conn.written(), text)?;
+    add_escaped(alloc, conn.written(), text)?;
     Some(seats)
 }
 

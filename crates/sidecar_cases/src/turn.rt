@@ -1,9 +1,9 @@
 // A turn of an actor, begun and ended without a call.
 ghost use Rattle.sidecar_node.specs.Nodes.{IsSeatsOf};
 
-use crate::bytes::{add, add_bytes};
 use crate::node::{clock, open_node};
 use actor_names::{ChainId, read_key};
+use case_texts::{add, add_escaped};
 use part_core::PartReply;
 use sidecar_node::{begin_turn, end_turn};
 use std::alloc::Global;
@@ -21,7 +21,7 @@ fn add_begun(alloc: Global, reply: PartReply, text: &mut String) -> Option<u64> 
 
 fn add_chain(alloc: Global, chain: Option<&ChainId>, text: &mut String) -> Option<()> {
     match chain {
-        Some(chain) => add_bytes(alloc, chain.as_slice(), text),
+        Some(chain) => add_escaped(alloc, chain.as_slice(), text),
         None => add("without a chain", text),
     }
 }

@@ -1,8 +1,8 @@
 // One case and its answer.
-use crate::bytes::{add, bytes_of};
 use crate::cuts::add_cuts;
 use crate::steps::add_steps;
 use crate::stores::{disk, open_both};
+use case_texts::{add, hex_bytes};
 use disk_model::MemDisk;
 use std::alloc::Global;
 use std::sync::Wait;
@@ -56,7 +56,7 @@ fn add_store<R: Wait>(
 
 // A disk with the bytes that a text writes, whose call of this number is to fail.
 fn disk_of(alloc: Global, text: &str, failing: u64) -> Option<MemDisk> {
-    let bytes = bytes_of(alloc, text)?;
+    let bytes = hex_bytes(alloc, text)?;
     disk(alloc, bytes.as_slice(), failing)
 }
 

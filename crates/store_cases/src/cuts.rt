@@ -1,8 +1,8 @@
 // Sessions that are cut at every byte.
-use crate::bytes::{add, bytes_of};
 use crate::frames::wanted;
 use crate::sessions::session;
 use crate::stores::{Kept, new_store};
+use case_texts::{add, hex_bytes};
 use std::alloc::Global;
 use std::sync::Wait;
 
@@ -67,9 +67,9 @@ pub(crate) fn add_cuts<R: Wait>(
 ) -> Option<()> {
     let (first, rest) = rest.split_once(' ')?;
     let (bytes, answers) = rest.split_once(' ')?;
-    let first = bytes_of(alloc, first)?;
-    let bytes = bytes_of(alloc, bytes)?;
-    let answers = bytes_of(alloc, answers)?;
+    let first = hex_bytes(alloc, first)?;
+    let bytes = hex_bytes(alloc, bytes)?;
+    let answers = hex_bytes(alloc, answers)?;
     let mut kept = new_store(alloc);
     add_good(
         rt,

@@ -1,7 +1,7 @@
 // Frames that are cut, and what is said of a session of them.
-use crate::bytes::add_bytes;
 use crate::sessions::add_end;
 use actor_ports::SessionEnd;
+use case_texts::add_hex;
 use std::alloc::Global;
 
 // What a number is after one digit more; a digit is a byte.
@@ -50,6 +50,6 @@ pub(crate) fn wanted(alloc: Global, input: &[u8], answers: &[u8]) -> Option<Stri
     };
     let mut text = String::new(alloc);
     add_end(alloc, end, &mut text)?;
-    add_bytes(alloc, first_frames(answers, requests)?, &mut text)?;
+    add_hex(alloc, first_frames(answers, requests)?, &mut text)?;
     Some(text)
 }

@@ -18,10 +18,9 @@
 //     first, second      the bytes of a file
 //
 // It has no contracts that another crate needs. Depends on store_serve, store_core, step_gate, tx_journal, disk_model and
-// actor_ports.
+// actor_ports and case_texts.
 #![tactic(auto)]
 
-mod bytes;
 mod case;
 mod cuts;
 mod frames;

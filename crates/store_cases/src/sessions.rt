@@ -3,9 +3,9 @@ ghost use Rattle.std.specs.Prelude.{IfSome};
 ghost use Rattle.step_gate.specs.Gates.{IsSeatOf};
 ghost use Rattle.store_core.specs.Events.{Allows};
 
-use crate::bytes::{add, add_bytes};
 use crate::stores::{Kept, Memory};
 use actor_ports::{MemClock, MemConn, SessionEnd};
+use case_texts::{add, add_hex};
 use std::alloc::Global;
 use std::sync::Wait;
 use step_gate::{Gate, Seat};
@@ -71,5 +71,5 @@ pub(crate) fn session<R: Wait>(
     let mut clock = clock_at(alloc, now)?;
     let end = serve(rt, alloc, kept, &mut conn, &mut clock)?;
     add_end(alloc, end, text)?;
-    add_bytes(alloc, conn.written(), text)
+    add_hex(alloc, conn.written(), text)
 }

@@ -1,8 +1,8 @@
 // The steps of a case.
-use crate::bytes::{add, add_bytes, bytes_of, cut};
 use crate::sessions::session;
 use crate::stores;
 use crate::stores::{Kept, Memory, crash, reopen};
+use case_texts::{add, add_hex, cut, hex_bytes};
 use std::alloc::Global;
 use std::sync::Wait;
 
@@ -16,7 +16,7 @@ fn at<R: Wait>(
 ) -> Option<()> {
     let (now, bytes) = rest.split_once(' ')?;
     let now = now.parse::<u32>().ok()?;
-    let bytes = bytes_of(alloc, bytes)?;
+    let bytes = hex_bytes(alloc, bytes)?;
     session(rt, alloc, kept, now, bytes.as_slice(), text)
 }
 
@@ -48,12 +48,12 @@ fn image(alloc: Global, kept: &mut Kept, rest: &str, text: &mut String) -> Optio
 
 // `first`
 fn add_first(alloc: Global, kept: &Kept, text: &mut String) -> Option<()> {
-    add_bytes(alloc, kept.as_ref()?.disk().bytes(), text)
+    add_hex(alloc, kept.as_ref()?.disk().bytes(), text)
 }
 
 // `second`
 fn add_second(alloc: Global, kept: &Kept, text: &mut String) -> Option<()> {
-    add_bytes(alloc, kept.as_ref()?.second()?.bytes(), text)
+    add_hex(alloc, kept.as_ref()?.second()?.bytes(), text)
 }
 
 // Makes a step, and appends what it tells.

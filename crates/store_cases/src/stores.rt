@@ -1,5 +1,5 @@
 // A store in memory: how it is opened, compacted and closed.
-use crate::bytes::add;
+use case_texts::add;
 use disk_model::MemDisk;
 use std::alloc::Global;
 use store_core::{CompactEnd, Store};

@@ -1,4 +1,5 @@
-// Bytes as the cases write them.
+// Bytes in hexadecimal digits.
+use crate::pieces::add;
 use std::alloc::Global;
 
 fn byte_of(digits: &str) -> Option<u8> {
@@ -35,18 +36,14 @@ fn add_piece(piece: &str, bytes: &mut Vec<u8>) -> Option<()> {
     }
 }
 
-/// The bytes that a text writes; `None` if it writes none, or memory runs out.
-pub(crate) fn bytes_of(alloc: Global, text: &str) -> Option<Vec<u8>> {
+/// The bytes that a text writes: pieces between `.`, each digits, or the digits of a byte that stands there COUNT times,
+/// `HH*COUNT`. `None` if it writes none, or memory runs out.
+pub fn hex_bytes(alloc: Global, text: &str) -> Option<Vec<u8>> {
     let mut bytes = Vec::new(alloc);
     for piece in text.split('.') {
         add_piece(piece, &mut bytes)?;
     }
     Some(bytes)
-}
-
-/// Appends a text.
-pub(crate) fn add(piece: &str, text: &mut String) -> Option<()> {
-    text.push_str(piece).ok()
 }
 
 // How many bytes equal to this one the bytes begin with.
@@ -85,8 +82,9 @@ fn add_first<'a>(alloc: Global, bytes: &'a [u8], text: &mut String) -> Option<&'
     Some(rest)
 }
 
-/// Appends bytes as the cases write them; more than 64 equal ones in a row are a piece `HH*COUNT`.
-pub(crate) fn add_bytes(alloc: Global, bytes: &[u8], text: &mut String) -> Option<()> {
+/// Appends bytes as `hex_bytes` reads them; more than 64 equal ones in a row are a piece `HH*COUNT`. `None` if memory runs
+/// out.
+pub fn add_hex(alloc: Global, bytes: &[u8], text: &mut String) -> Option<()> {
     let mut rest = bytes;
     for _ in 0..bytes.len() {
         if rest.is_empty() {
@@ -95,12 +93,4 @@ pub(crate) fn add_bytes(alloc: Global, bytes: &[u8], text: &mut String) -> Optio
         rest = add_first(alloc, rest, text)?;
     }
     Some(())
-}
-
-/// The text before the first such character, and the text behind it: nothing if there is none.
-pub(crate) fn cut(text: &str, at: char) -> (&str, &str) {
-    match text.split_once(at) {
-        Some(parts) => parts,
-        None => (text, ""),
-    }
 }

@@ -1,8 +1,9 @@
-// Bytes as the cases write them.
+// Bytes as text with escapes: `\r`, `\n` and `\xHH`.
+use crate::pieces::add;
 use std::alloc::Global;
 
 /// The bytes that a text writes; `None` if it writes none, or memory runs out.
-pub(crate) fn bytes_of(alloc: Global, text: &str) -> Option<Vec<u8>> {
+pub fn escaped_bytes(alloc: Global, text: &str) -> Option<Vec<u8>> {
     let mut bytes = Vec::new(alloc);
     let mut parts = text.split('\\');
     bytes.extend_from_slice(parts.next()?.as_bytes()).ok()?;
@@ -28,11 +29,6 @@ fn add_escape(part: &str, bytes: &mut Vec<u8>) -> Option<()> {
     bytes.extend_from_slice(rest.as_bytes()).ok()
 }
 
-/// Appends a text.
-pub(crate) fn add(piece: &str, text: &mut String) -> Option<()> {
-    text.push_str(piece).ok()
-}
-
 fn add_shown(alloc: Global, byte: u8, text: &mut String) -> Option<()> {
     match byte {
         b'\r' => add("\\r", text),
@@ -42,18 +38,10 @@ fn add_shown(alloc: Global, byte: u8, text: &mut String) -> Option<()> {
     }
 }
 
-/// Appends the bytes as a case writes them.
-pub(crate) fn add_bytes(alloc: Global, bytes: &[u8], text: &mut String) -> Option<()> {
+/// Appends bytes as `escaped_bytes` reads them. `None` if memory runs out.
+pub fn add_escaped(alloc: Global, bytes: &[u8], text: &mut String) -> Option<()> {
     for byte in bytes {
         add_shown(alloc, *byte, text)?;
     }
     Some(())
-}
-
-/// The text before the first such character, and the text behind it: nothing if there is none.
-pub(crate) fn cut(text: &str, at: char) -> (&str, &str) {
-    match text.split_once(at) {
-        Some(parts) => parts,
-        None => (text, ""),
-    }
 }
