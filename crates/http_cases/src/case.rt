@@ -80,7 +80,11 @@ fn ended(alloc: Global, text: &str) -> Option<String> {
 // `BODY|BYTES`
 fn exchange(alloc: Global, text: &str) -> Option<String> {
     let (body, input) = text.split_once('|')?;
-    exchanged(alloc, body.as_bytes(), escaped_bytes(alloc, input)?.as_slice())
+    exchanged(
+        alloc,
+        body.as_bytes(),
+        escaped_bytes(alloc, input)?.as_slice(),
+    )
 }
 
 // `CALL BYTES`

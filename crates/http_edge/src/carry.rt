@@ -14,11 +14,7 @@ pub fn send<C: Conn>(conn: &mut C, bytes: &[u8]) -> Result<(), PortError>
 }
 
 /// Appends the next bytes, at most `most`, and answers how many; 0 only at the end of the input.
-pub fn receive<C: Conn>(
-    conn: &mut C,
-    into: &mut Vec<u8>,
-    most: usize,
-) -> Result<usize, PortError>
+pub fn receive<C: Conn>(conn: &mut C, into: &mut Vec<u8>, most: usize) -> Result<usize, PortError>
     requires { 0 < most }
     ensures most { IfOk result (λ n. n ≤ most) }
     ensures reads { Reads (C.read_traffic conn.old) (C.read_traffic conn.new) into.old.items into.new.items result }

@@ -1,5 +1,5 @@
 -- What one dial, one exchange over its link and the link given back come to; exchanges add up.
-use Rattle.std.proofs.Common.{sym, refl, ap, ap₂, append_assoc, subst, ◌∙◌, ◌≡◌, ◌<◌, ◌≤◌, ◌-◌, ℕ, ◌+◌, List, [], ◌∷◌, ◌++◌, map, Option, Some, None, Result, Ok, Err, arith}
+use Rattle.std.proofs.Common.{sym, refl, ap, ap₂, append_assoc, subst, ◌∙◌, ◌≡◌, ◌<◌, ◌≤◌, ◌-◌, ℕ, ◌+◌, List, [], ◌∷◌, ◌++◌, map, Option, Some, None, Ok, Err, arith}
 use Rattle.std.proofs.lemmas.List.{append-nil}
 use Rattle.actor_ports.specs.declared.port.PortError.TheVariants as ports
 use Rattle.actor_ports.specs.Traffic.{Place, Traffic, Dialled, Returned, Dials, IsNewLink, TakesBack, Counts, returned}
@@ -20,11 +20,15 @@ none_told (Some d) = rw (append-nil d.places, append-nil d.links) refl
 same_told : (t u : Option Dialled) → u ≡ t → Tells [] t u
 same_told t u e = subst (λ (m : Option Dialled). Tells [] t m) (sym e) (none_told t)
 
+-- there was no memory for a dial
+pub none_dialled : {L : Type 0} (look : L → Option Traffic) (t0 t1 : Option Dialled) (at : Place) → Dials look t0 t1 at (Err ports.OutOfMemory) → Tells [] t0 t1
+none_dialled look None t1 at dials = tt
+none_dialled look (Some d) t1 at dials = same_told (Some d) t1 dials
+
 -- a dial for which there was no memory
 pub no_dial : {L : Type 0} (look : L → Option Traffic) (text : List ℕ) (t0 t1 : Option Dialled) (at : Place) (f0 f1 : ℕ) → Dials look t0 t1 at (Err ports.OutOfMemory) → f0 ≤ f1
     → (xs : List Exchange) × IsHttpExchange text at xs (Err OutOfMemory) × Dialling xs t0 t1 f0 f1
-no_dial look text None t1 at f0 f1 dials up = ([], refl, record { told = tt; counted = omega arith })
-no_dial look text (Some d) t1 at f0 f1 dials up = ([], refl, record { told = same_told (Some d) t1 dials; counted = omega arith })
+no_dial look text t0 t1 at f0 f1 dials up = ([], refl, record { told = none_dialled look t0 t1 at dials; counted = omega arith })
 
 -- no exchange was to be made
 pub none_made : (t : Option Dialled) (f : ℕ) → Dialling [] t t f f
@@ -48,7 +52,7 @@ linked d t1 t2 (Some t) m at c e new over back =
     q ∙ ap (λ (x : Returned). Some (record { places = d.places ++ at ∷ []; links = d.links ++ x ∷ [] })) r
 
 -- a link was dialled, used and given back
-link_told :
+pub link_told :
     {L : Type 0} (look : L → Option Traffic) (t0 t1 t2 : Option Dialled) (link after : L) (at : Place) (c : Carried) (rise : ℕ)
     → Dials look t0 t1 at (Ok link) → Over (look link) (look after) c → TakesBack t1 t2 (look after)
     → Tells (record { at = at; link = Some c; rise = rise } ∷ []) t0 t2
@@ -79,7 +83,8 @@ one_exchange look text t0 t1 t2 link after at got f0 f1 f2 l0 l1 dials up z x ca
       record { told = link_told look t0 t1 t2 link after at x.0 (f2 - f0) dials x.1 back; counted = omega arith },
     )
 
-failed_told : {L : Type 0} (look : L → Option Traffic) (t0 t1 : Option Dialled) (at : Place) (rise : ℕ) → Dials look t0 t1 at (Err ports.Failed) → Tells (record { at = at; link = None; rise = rise } ∷ []) t0 t1
+-- a dial that failed left no link
+pub failed_told : {L : Type 0} (look : L → Option Traffic) (t0 t1 : Option Dialled) (at : Place) (rise : ℕ) → Dials look t0 t1 at (Err ports.Failed) → Tells (record { at = at; link = None; rise = rise } ∷ []) t0 t1
 failed_told look None t1 at rise dials = tt
 failed_told look (Some d) t1 at rise dials = dials ∙ ap (λ (l : List Returned). Some (record { places = d.places ++ at ∷ []; links = l })) (sym (append-nil d.links))
 

@@ -1,10 +1,11 @@
 // The members and the table that was fixed last.
-ghost use Rattle.std.specs.Prelude.{◌≡◌, ◌==◌, ◌+◌, ◌<◌, ◌≤◌, ◌↔◌, [], ◌∷◌, ◌++◌, None, false, length, map, IfOk, OnOk, OnErr, IsTrue, IsFalse, Some, max, option_map};
+ghost use Rattle.std.specs.Prelude.{◌≡◌, ◌==◌, ◌+◌, ◌<◌, ◌≤◌, ◌↔◌, [], ◌∷◌, ◌++◌, None, false, length, map, IfOk, IfSome, OnOk, OnErr, IsTrue, IsFalse, List, Ok, Some, is_some, max, option_map};
 ghost use Rattle.member_roster.specs.Members.{heard_at, acked_at, restarted_at, new_joined, boot_of, hosts_of, of_node, is_here, is_pending, with_node, without_node, put_joined, Joined, is_late, late_of, heard_of, any_pending, entered, targeted, target_hosts, removed_until, removes_all};
 ghost use Rattle.std.specs.List.{slice_get};
 ghost use Rattle.actor_names.specs.Same.{same_member};
-ghost use Rattle.member_roster.specs.Places.{Ascends, host_node};
-ghost use Rattle.member_roster.specs.Roster.{RosterState, SameButCapacity};
+ghost use Rattle.member_roster.specs.Places.{Ascends, host_node, place_by};
+ghost use Rattle.member_roster.specs.Roster.{RosterState, SameButCapacity, joined_all};
+ghost use Rattle.member_roster.specs.declared.marks.Mark.{Mark};
 
 use crate::copies::{fix_table, give_back_all};
 use crate::copying::{copy_hosts, copy_marks, copy_spares};
@@ -48,6 +49,24 @@ fn is_member(host: &HostInfo, member: &Member) -> bool
     ensures { result ≡ same_member member.now host.now.member }
 {
     host.member == *member
+}
+
+/// The index of the member's host, if it is one of the members.
+fn member_place(hosts: &[HostInfo], member: &Member) -> Option<usize>
+    requires { Ascends host_node hosts.now }
+    ensures place { IfSome result (λ at. place_by host_node member.now.node hosts.now ≡ Ok at) }
+    ensures within { IfSome result (λ at. at < length hosts.now) }
+    ensures here { (ms : List Mark) → length ms ≡ length hosts.now → is_some result ≡ is_here (joined_all hosts.now ms) member.now }
+{
+    match host_place(hosts, &member.node) {
+        Ok(at) => {
+            if !is_member(&hosts[at], member) {
+                return None;
+            }
+            Some(at)
+        }
+        Err(_) => None,
+    }
 }
 
 impl Roster {
@@ -134,17 +153,14 @@ impl Roster {
         ensures heard { IsTrue result → self.new ≡ record self.old { members = with_node self.old.members member.now.node (heard_at now) } }
         ensures stranger { IsFalse result → self.new ≡ self.old }
     {
-        match host_place(&self.hosts, &member.node) {
-            Ok(at) => {
-                if !is_member(&self.hosts[at], member) {
-                    return false;
-                }
+        match member_place(&self.hosts, member) {
+            Some(at) => {
                 let mark = &mut self.marks[at];
                 mark.heard = now;
                 self.near = at;
                 true
             }
-            Err(_) => false,
+            None => false,
         }
     }
 
@@ -154,11 +170,8 @@ impl Roster {
         ensures acked { IsTrue result → self.new ≡ record self.old { members = with_node self.old.members member.now.node (acked_at now) } }
         ensures stranger { IsFalse result → self.new ≡ self.old }
     {
-        match host_place(&self.hosts, &member.node) {
-            Ok(at) => {
-                if !is_member(&self.hosts[at], member) {
-                    return false;
-                }
+        match member_place(&self.hosts, member) {
+            Some(at) => {
                 let weight = weigh_mark(self.marks[at]);
                 let mark = &mut self.marks[at];
                 mark.heard = now;
@@ -167,7 +180,7 @@ impl Roster {
                 self.near = at;
                 true
             }
-            Err(_) => false,
+            None => false,
         }
     }
 
@@ -218,11 +231,8 @@ impl Roster {
         ensures removed { IsTrue result → self.new ≡ record self.old { members = without_node self.old.members member.now.node } }
         ensures stranger { IsFalse result → self.new ≡ self.old }
     {
-        match host_place(&self.hosts, &member.node) {
-            Ok(at) => {
-                if !is_member(&self.hosts[at], member) {
-                    return false;
-                }
+        match member_place(&self.hosts, member) {
+            Some(at) => {
                 let _host = self.hosts.remove(at);
                 let mark = self.marks.remove(at);
                 let _spare = self.spares.remove(at);
@@ -230,7 +240,7 @@ impl Roster {
                 self.pending -= weight;
                 true
             }
-            Err(_) => false,
+            None => false,
         }
     }
 

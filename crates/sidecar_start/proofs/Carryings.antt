@@ -1,6 +1,5 @@
 -- What was read over a link, and what it comes to.
-use Rattle.std.proofs.Common.{◌≡◌, ◌<◌, ◌≤◌, ◌-◌, ◌∙◌, ℕ, List, [], ◌++◌, Option, Some, None, Result, Ok, Err, sym, ap, subst, inl, inr}
-use Rattle.std.proofs.lemmas.List.{append-nil}
+use Rattle.std.proofs.Common.{◌≡◌, ◌<◌, ◌≤◌, ◌-◌, ◌∙◌, ℕ, List, [], ◌++◌, Option, None, Result, Ok, Err, sym, ap, subst}
 use Rattle.actor_names.specs.declared.address.Address.{Address}
 use Rattle.actor_ports.specs.Traffic.{Traffic, Counts}
 use Rattle.http_edge.specs.Carry.{Carried}
@@ -10,14 +9,13 @@ use Rattle.http_edge.specs.declared.message.HttpResponse.{HttpResponse}
 use Rattle.http_edge.specs.Exchanges.{ExchangeGives}
 use Rattle.http_edge.specs.Requests.{EdgeCause}
 use Rattle.http_edge.specs.Settled.{Settles}
-use Rattle.frame_wire.specs.declared.error.FrameError.{FrameError}
 use Rattle.frame_wire.specs.declared.frame.Frame.{Frame}
-use Rattle.frame_wire.specs.Frames.{frame_bytes, IsFrame}
+use Rattle.frame_wire.specs.Frames.{frame_bytes}
 use Rattle.frame_wire.specs.Laws.{ReadsSpelling, NoPrefix}
-use Rattle.frame_wire.specs.Streams.{look, end_look}
 use Rattle.frame_exchange.specs.declared.end.FrameEnd.{FrameEnd}
 use Rattle.frame_exchange.specs.declared.end.FrameEnd.TheVariants.{NoFrame, ConnFault, OutOfMemory}
-use Rattle.frame_exchange.specs.Exchanges.{IsNoFrame, ExchangesFrame, EndCause}
+use Rattle.frame_exchange.specs.Exchanges.{ExchangesFrame, EndCause}
+use Rattle.frame_exchange.proofs.NoFrames.{no_frame_alone, not_spelled}
 use Rattle.link_exchange.proofs.Replied.{gives_alone}
 use Rattle.app_texts.specs.declared.config.AppConfig.{AppConfig}
 use Rattle.app_texts.specs.Texts.{config_text}
@@ -28,33 +26,15 @@ use Rattle.sidecar_start.proofs.Tries.{link_rises}
 
 -- ---- a frame
 
--- nothing is said of what the connection has left
-no_frame_alone : (bytes : List ℕ) (a b : Option Traffic) (at : ℕ) → IsNoFrame bytes a b at → IsNoFrame bytes None None at
-no_frame_alone bytes a b at n = elim n [ inl f ↦ inl f | inr m ↦ inr (m.0, m.1, tt) ]
-
 frame_alone : (text : List ℕ) (c : Carried) (a b : Option Traffic) (read : Result Frame FrameEnd) → ExchangesFrame text c a b read → ExchangesFrame text c None None read
 frame_alone text c a b (Ok f) x = x
 frame_alone text c a b (Err (NoFrame at)) x = (x.0, no_frame_alone c.read a b at x.1)
 frame_alone text c a b (Err ConnFault) x = x
 frame_alone text c a b (Err OutOfMemory) x = x
 
-abbrev is_end : List ℕ → Type 0
-is_end bytes = (e : Option FrameError) × (look 0 bytes ≡ end_look e)
-
-no_frame_ends : (bytes : List ℕ) (a b : Option Traffic) (at : ℕ) → IsNoFrame bytes a b at → is_end bytes
-no_frame_ends bytes a b at n = elim n [ inl f ↦ (Some f.0, f.1) | inr m ↦ (None, m.0) ]
-
--- bytes that begin with no frame aren't the spelling of one
-no_whole : ReadsSpelling → (f : Frame) → IsFrame f → (e : Option FrameError) → look 0 (frame_bytes f ++ []) ≡ end_look e → ⊥
-no_whole reads f fits None q = let r = reads 0 f [] fits in let h : ⊥ = cc in h
-no_whole reads f fits (Some e) q = let r = reads 0 f [] fits in let h : ⊥ = cc in h
-
 frame_settles : ReadsSpelling → NoPrefix → (text : List ℕ) (c : Carried) (a b : Option Traffic) (read : Result Frame FrameEnd) → ExchangesFrame text c a b read → FrameSettles c.read read
 frame_settles reads one text c a b (Ok f) x = λ g fits is. (one g f [] [] fits x.1.0 (ap (λ (bytes : List ℕ). bytes ++ []) (sym is ∙ x.1.1))).0
-frame_settles reads one text c a b (Err (NoFrame at)) x = λ g fits is.
-    let e = no_frame_ends c.read a b at x.1 in
-    let whole : frame_bytes g ++ [] ≡ c.read = append-nil (frame_bytes g) ∙ sym is in
-    no_whole reads g fits e.0 (ap (look 0) whole ∙ e.1)
+frame_settles reads one text c a b (Err (NoFrame at)) x = λ g fits is. not_spelled reads g fits c.read a b at x.1 (sym is)
 frame_settles reads one text c a b (Err ConnFault) x = tt
 frame_settles reads one text c a b (Err OutOfMemory) x = tt
 

@@ -1,43 +1,13 @@
 -- What one dial comes to, whatever is exchanged, and how tries follow each other.
-use Rattle.std.proofs.Common.{sym, refl, ap, subst, ◌∙◌, ◌≡◌, ◌<◌, ◌≤◌, ◌-◌, ℕ, List, [], ◌∷◌, ◌++◌, Option, Some, None, Result, Ok, Err, arith}
-use Rattle.std.proofs.lemmas.List.{append-nil}
+use Rattle.std.proofs.Common.{refl, ◌≡◌, ◌<◌, ◌≤◌, ◌-◌, ℕ, List, [], ◌∷◌, ◌++◌, Option, Some, None, Result, Ok, Err, arith}
 use Rattle.actor_ports.specs.declared.port.PortError.TheVariants as ports
-use Rattle.actor_ports.specs.Traffic.{Place, Traffic, Dialled, Returned, Dials, IsNewLink, TakesBack, Counts, returned}
+use Rattle.actor_ports.specs.Traffic.{Place, Traffic, Dialled, Dials, TakesBack, Counts}
 use Rattle.http_edge.specs.Carry.{Carried, Over}
-use Rattle.link_exchange.specs.Exchanges.{Exchange, Tells, Dialling}
-use Rattle.link_exchange.proofs.Diallings.{none_made, dialling_then}
+use Rattle.link_exchange.specs.Exchanges.{Exchange, Dialling}
+use Rattle.link_exchange.proofs.Diallings.{none_made, none_dialled, failed_told, link_told, dialling_then}
 use Rattle.sidecar_start.specs.declared.end.StartEnd.{StartEnd}
 use Rattle.sidecar_start.specs.declared.end.StartEnd.TheVariants.{DialFault, OutOfMemory}
 use Rattle.sidecar_start.specs.Tries.{IsTry, AreVain, tried, IsRun}
-
--- ---- what the dialler tells
-
-none_dialled : {L : Type 0} (look : L → Option Traffic) (t0 t1 : Option Dialled) (at : Place) → Dials look t0 t1 at (Err ports.OutOfMemory) → Tells [] t0 t1
-none_dialled look None t1 at dials = tt
-none_dialled look (Some d) t1 at dials = subst (λ (m : Option Dialled). Tells [] (Some d) m) (sym dials) ((none_made (Some d) 0).told)
-
-failed_told : {L : Type 0} (look : L → Option Traffic) (t0 t1 : Option Dialled) (at : Place) (rise : ℕ) → Dials look t0 t1 at (Err ports.Failed) → Tells (record { at = at; link = None; rise = rise } ∷ []) t0 t1
-failed_told look None t1 at rise dials = tt
-failed_told look (Some d) t1 at rise dials = dials ∙ ap (λ (l : List Returned). Some (record { places = d.places ++ at ∷ []; links = l })) (sym (append-nil d.links))
-
-linked : (d : Dialled) (t1 t2 : Option Dialled) (l m : Option Traffic) (at : Place) (c : Carried)
-    → t1 ≡ Some (record d { places = d.places ++ at ∷ [] }) → IsNewLink at l → Over l m c → TakesBack t1 t2 m
-    → t2 ≡ Some (record { places = d.places ++ at ∷ []; links = d.links ++ record { at = at; read = c.read; written = c.written } ∷ [] })
-linked d t1 t2 None m at c e new over back = absurd new
-linked d t1 t2 (Some t) m at c e new over back =
-    let after : Traffic = record { at = t.at; read = t.read ++ c.read; left = over.0; written = t.written ++ c.written } in
-    let q : TakesBack (Some (record d { places = d.places ++ at ∷ [] })) t2 (Some after) =
-    subst (λ (a : Option Dialled). TakesBack a t2 (Some after)) e (subst (λ (b : Option Traffic). TakesBack t1 t2 b) over.2 back) in
-    let r : returned after ≡ record { at = at; read = c.read; written = c.written } = rw (new.0, new.1, new.2) refl in
-    q ∙ ap (λ (x : Returned). Some (record { places = d.places ++ at ∷ []; links = d.links ++ x ∷ [] })) r
-
--- a link was dialled, used and given back
-link_told :
-    {L : Type 0} (look : L → Option Traffic) (t0 t1 t2 : Option Dialled) (link after : L) (at : Place) (c : Carried) (rise : ℕ)
-    → Dials look t0 t1 at (Ok link) → Over (look link) (look after) c → TakesBack t1 t2 (look after)
-    → Tells (record { at = at; link = Some c; rise = rise } ∷ []) t0 t2
-link_told look None t1 t2 link after at c rise dials over back = tt
-link_told look (Some d) t1 t2 link after at c rise dials over back = linked d t1 t2 (look link) (look after) at c dials.0 dials.1 over back
 
 -- the count of a dialler rises with that of its link
 pub link_rises : (f0 f1 f2 l0 l1 : ℕ) → f0 ≤ f1 → l0 ≡ 0 → l0 < l1 → Counts f1 f2 l1 → 0 < f2 - f0

@@ -1,43 +1,23 @@
 -- What was read is an answer to what was sent, or has none.
-use Rattle.std.proofs.Common.{◌≡◌, ◌≢◌, ◌<◌, ◌∙◌, ℕ, Bool, true, false, List, [], ◌++◌, Option, Some, None, Result, Ok, Err, refl, sym, ap, subst, inl, inr}
-use Rattle.std.proofs.lemmas.List.{append-nil}
+use Rattle.std.proofs.Common.{◌≡◌, ◌≢◌, ◌<◌, ◌∙◌, ℕ, Bool, true, false, List, [], ◌++◌, Option, Result, Ok, Err, refl, sym, ap, subst, inl, inr}
 use Rattle.actor_ports.specs.Traffic.{Traffic}
 use Rattle.http_edge.specs.Carry.{Carried}
-use Rattle.frame_wire.specs.declared.error.FrameError.{FrameError}
 use Rattle.frame_wire.specs.declared.frame.Frame.{Frame}
 use Rattle.frame_wire.specs.declared.frame.Frame.TheVariants.{Answer}
 use Rattle.frame_wire.specs.declared.store_answer.StoreAnswer.{StoreAnswer}
 use Rattle.frame_wire.specs.Frames.{frame_bytes, IsFrame}
 use Rattle.frame_wire.specs.Laws.{ReadsSpelling, NoPrefix}
-use Rattle.frame_wire.specs.Streams.{look, end_look}
 use Rattle.frame_exchange.specs.declared.end.FrameEnd.{FrameEnd}
 use Rattle.frame_exchange.specs.declared.end.FrameEnd.TheVariants as ends
 use Rattle.frame_exchange.specs.Exchanges.{IsNoFrame, ExchangesFrame, EndCause}
+use Rattle.frame_exchange.proofs.NoFrames.{no_frame_alone, not_spelled}
 use Rattle.store_exchange.specs.declared.end.StoreEnd.TheVariants.{Fault, Unreadable}
 use Rattle.store_exchange.specs.Asked.{Got, HasNoAnswer, FrameCarries, answers, fitting, answer_in}
 
 -- ---- bytes that are no frame
 
--- nothing is said of what the connection has left
-no_frame_alone : (bytes : List ℕ) (a b : Option Traffic) (at : ℕ) → IsNoFrame bytes a b at → IsNoFrame bytes None None at
-no_frame_alone bytes a b at n = elim n [ inl f ↦ inl f | inr m ↦ inr (m.0, m.1, tt) ]
-
-abbrev is_end : List ℕ → Type 0
-is_end bytes = (e : Option FrameError) × (look 0 bytes ≡ end_look e)
-
-no_frame_ends : (bytes : List ℕ) (a b : Option Traffic) (at : ℕ) → IsNoFrame bytes a b at → is_end bytes
-no_frame_ends bytes a b at n = elim n [ inl f ↦ (Some f.0, f.1) | inr m ↦ (None, m.0) ]
-
--- bytes that begin with no frame aren't the spelling of one
-no_whole : ReadsSpelling → (f : Frame) → IsFrame f → (e : Option FrameError) → look 0 (frame_bytes f ++ []) ≡ end_look e → ⊥
-no_whole reads f fits None q = let r = reads 0 f [] fits in let h : ⊥ = cc in h
-no_whole reads f fits (Some e) q = let r = reads 0 f [] fits in let h : ⊥ = cc in h
-
 no_frame_answers : ReadsSpelling → (asked : Frame) (bytes : List ℕ) (a b : Option Traffic) (at : ℕ) → IsNoFrame bytes a b at → HasNoAnswer asked bytes
-no_frame_answers reads asked bytes a b at n answer has =
-    let e = no_frame_ends bytes a b at n in
-    let whole : frame_bytes (Answer answer) ++ [] ≡ bytes = append-nil (frame_bytes (Answer answer)) ∙ sym has.is in
-    no_whole reads (Answer answer) has.frame e.0 (ap (look 0) whole ∙ e.1)
+no_frame_answers reads asked bytes a b at n answer has = not_spelled reads (Answer answer) has.frame bytes a b at n (sym has.is)
 
 -- ---- bytes that are a frame
 
