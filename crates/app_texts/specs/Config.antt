@@ -1,7 +1,7 @@
 -- What an application's configuration says, after the actor runtime configuration of Dapr's documentation.
 use Rattle.std.specs.Prelude.{◌≡◌, ℕ, Bool, false, ◌++◌, nat_le, if◌then◌else◌, List, [], ◌∷◌, length, map, bytes_eq, Result, Ok, Err}
 use Rattle.std.specs.List.{list_any}
-use Rattle.part_core.specs.declared.settings.TypeSettings.{TypeSettings}
+use Rattle.part_model.specs.declared.settings.TypeSettings.{TypeSettings}
 use Rattle.schedule_text.specs.Reading.{◌>>=◌}
 use Rattle.json_text.specs.Reading.{Reads}
 use Rattle.json_text.specs.Values.{JsonValue, is_object}

@@ -1,6 +1,6 @@
 // The configuration of an application.
 ghost use Rattle.std.specs.Prelude.{◌≡◌, ◌≤◌, [], length, IfOk};
-ghost use Rattle.part_core.specs.Settings.{AreShallow};
+ghost use Rattle.part_model.specs.Settings.{AreShallow};
 ghost use Rattle.app_texts.specs.Answers.{Gives, GivesConfig};
 ghost use Rattle.app_texts.specs.Config.{config_reading, groups_reading, first_ones, hosting, ConfigOf};
 
@@ -8,7 +8,7 @@ use crate::config_error::{ConfigError, KeyFault, config_error};
 use crate::groups::{Group, read_entries, read_group};
 use crate::hosting::{first_ones, settings_by};
 use json_text::{Json, JsonError, JsonRef};
-use part_core::TypeList;
+use part_model::TypeList;
 use std::alloc::Global;
 
 // The most types that an application may host.

@@ -1,13 +1,13 @@
 // The types that an application hosts, with their settings.
 ghost use Rattle.std.specs.Prelude.{◌≡◌, ◌≤◌, [], IfOk};
 ghost use Rattle.app_texts.specs.Config.{is_among, first_ones, treatment_or, settings_as, settings_by};
-ghost use Rattle.part_core.specs.Settings.{AreShallow};
+ghost use Rattle.part_model.specs.Settings.{AreShallow};
 
 use crate::groups::Group;
 use crate::treatment::Treatment;
 use actor_names::ActorType;
 use lists_and_limits::OutOfMemory;
-use part_core::TypeSettings;
+use part_model::TypeSettings;
 use std::alloc::Global;
 
 fn is_among(types: &[ActorType], kind: &ActorType) -> bool

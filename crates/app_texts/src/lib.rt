@@ -3,7 +3,7 @@
 //
 // Promise: a configuration says exactly what its definition says (`specs/Config`); each request's text is the stated
 // one, byte for byte (`specs/Texts`); a peer's reply is read exactly (`specs/PeerReplies`). Depends on `http_edge`,
-// `json_text`, `part_core`, `place_table`, `schedule_text`, `actor_names` and `percent_encoding`.
+// `json_text`, `part_model`, `place_table`, `schedule_text`, `actor_names` and `percent_encoding`.
 #![tactic(auto)]
 
 mod callbacks;

@@ -6,7 +6,7 @@ use Rattle.std.specs.Prelude.{◌||◌}
 use Rattle.actor_names.specs.declared.address.Address.{Address}
 use Rattle.actor_ports.specs.Traffic.{Dialled}
 use Rattle.app_texts.specs.Texts.{deactivate_text}
-use Rattle.part_core.specs.declared.event.PartReply.TheVariants as replies
+use Rattle.part_model.specs.declared.event.Reply.TheVariants as replies
 use Rattle.link_exchange.specs.Exchanges.{Exchange, Dialling}
 use Rattle.link_exchange.specs.Replies.{place_at}
 use Rattle.link_exchange.proofs.Diallings.{none_made, dialling_then}

@@ -6,9 +6,9 @@ use Rattle.actor_names.specs.declared.address.Address.{Address}
 use Rattle.actor_ports.specs.Traffic.{Dialled}
 use Rattle.http_edge.specs.declared.error.EdgeError.TheVariants as edge
 use Rattle.app_texts.specs.Texts.{deactivate_text}
-use Rattle.part_core.specs.declared.event.PartEvent.TheVariants as events
-use Rattle.part_core.specs.declared.event.PartReply.{PartReply}
-use Rattle.part_core.specs.declared.event.PartReply.TheVariants as replies
+use Rattle.part_model.specs.declared.event.PartEvent.TheVariants as events
+use Rattle.part_model.specs.Receipts.{PartReply}
+use Rattle.part_model.specs.declared.event.Reply.TheVariants as replies
 use Rattle.timer_book.specs.declared.event.TimerEvent.TheVariants as timers
 use Rattle.timer_book.specs.declared.event.TimerReply.{TimerReply}
 use Rattle.step_gate.specs.declared.gate.Spent.{Spent}

@@ -2,7 +2,7 @@
 use Rattle.std.specs.Prelude.{◌≡◌, ◌≢◌, ◌⊎◌, ℕ, List, [], ◌∷◌, Some, Ok}
 use Rattle.actor_names.specs.declared.actor_key.ActorKey.{ActorKey}
 use Rattle.actor_names.specs.declared.address.Address.{Address}
-use Rattle.part_core.specs.declared.event.PartReply.TheVariants as replies
+use Rattle.part_model.specs.declared.event.Reply.TheVariants as replies
 use Rattle.closing_turns.specs.Closings.{Closing, Taking, IsTold}
 
 -- no TakeClosing is on this part

@@ -13,7 +13,7 @@ use actor_ports::Dial;
 use app_texts::deactivate_request;
 use http_edge::{EdgeError, HttpResponse};
 use link_exchange::exchange_at;
-use part_core::PartEvent;
+use part_model::PartEvent;
 use sidecar_node::{Seats, SidecarNode};
 use std::alloc::Global;
 use std::sync::Wait;

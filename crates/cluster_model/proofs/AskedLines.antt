@@ -6,9 +6,9 @@ use Rattle.std.specs.declared.result.Result.TheVariants.{Ok, Err}
 use Rattle.actor_names.specs.declared.member.Member.{Member}
 use Rattle.actor_names.specs.declared.actor_key.ActorKey.{ActorKey}
 use Rattle.turn_core.specs.CellSound.{In}
-use Rattle.part_core.specs.declared.event.PartReply.{PartReply}
-use Rattle.part_core.specs.declared.event.PartReply.TheVariants as replies
-use Rattle.part_core.specs.Marks.{PartMark}
+use Rattle.part_model.specs.Receipts.{PartReply}
+use Rattle.part_model.specs.declared.event.Reply.TheVariants as replies
+use Rattle.part_model.specs.Marks.{PartMark}
 use Rattle.world_events.specs.declared.event.WorldEvent.{WorldEvent}
 use Rattle.world_events.specs.declared.event.WorldEvent.TheVariants as lines
 use Rattle.world_events.specs.declared.outcome.Outcome.{Outcome}

@@ -9,9 +9,9 @@ use Rattle.place_table.specs.declared.host.HostInfo.{HostInfo}
 use Rattle.place_table.specs.Hosts.{PlacementTable}
 use Rattle.turn_core.specs.CellSound.{In}
 use Rattle.turn_core.proofs.Elements.{In-left, In-last}
-use Rattle.part_core.specs.Part.{PartState, chain_or, made_chain, part_step}
-use Rattle.part_core.specs.Settings.{settings_of}
-use Rattle.part_core.proofs.PartTables.{part_stepped}
+use Rattle.part_model.specs.Part.{PartState, chain_or, made_chain, part_step}
+use Rattle.part_model.specs.Settings.{settings_of}
+use Rattle.part_model.proofs.PartTables.{part_stepped}
 use Rattle.world_events.specs.declared.event.WorldEvent.{WorldEvent}
 use Rattle.world_events.specs.declared.settings.WorldSettings.{WorldSettings}
 use Rattle.cluster_model.specs.Spaces.{KeepsToSpace}

@@ -9,14 +9,14 @@ use Rattle.place_table.specs.declared.host.HostInfo.{HostInfo}
 use Rattle.place_table.specs.Hosts.{PlacementTable}
 use Rattle.turn_core.specs.CellSound.{In}
 use Rattle.turn_core.proofs.Elements.{In-left, In-last}
-use Rattle.part_core.specs.declared.event.PartEvent.{PartEvent}
-use Rattle.part_core.specs.declared.settings.TypeSettings.{TypeSettings}
-use Rattle.part_core.specs.Activity.{IsAsked}
-use Rattle.part_core.specs.Marks.{PartMark, TurnBegan}
-use Rattle.part_core.specs.Part.{PartState, PartStep, chain_or, made_chain, part_step}
-use Rattle.part_core.specs.Settings.{settings_of}
-use Rattle.part_core.proofs.PartReplays.{part_replays}
-use Rattle.part_core.proofs.PartTables.{part_stepped}
+use Rattle.part_model.specs.declared.event.PartEvent.{PartEvent}
+use Rattle.part_model.specs.declared.settings.TypeSettings.{TypeSettings}
+use Rattle.part_model.specs.Activity.{IsAsked}
+use Rattle.part_model.specs.Marks.{PartMark, TurnBegan}
+use Rattle.part_model.specs.Part.{PartState, PartStep, chain_or, made_chain, part_step}
+use Rattle.part_model.specs.Settings.{settings_of}
+use Rattle.part_model.proofs.PartReplays.{part_replays}
+use Rattle.part_model.proofs.PartTables.{part_stepped}
 use Rattle.world_events.specs.declared.event.WorldEvent.{WorldEvent}
 use Rattle.world_events.specs.declared.event.WorldEvent.TheVariants as lines
 use Rattle.world_events.specs.declared.settings.WorldSettings.{WorldSettings}

@@ -12,26 +12,26 @@ use Rattle.turn_core.specs.declared.cell.Waiter.{Waiter}
 use Rattle.turn_core.specs.declared.answer.CellEnd.TheVariants as ending
 use Rattle.turn_core.specs.Cell.{CellState, AskStep, EndStep, PollStep, kept_chain, admit_call, with_turn, with_waiter, without_waiter, begun_next, next_call, call_of, without_call, without_turn, has_turn, waiter_of, chain_of, place_of, not_open, poll_waiter, with_hold, without_hold, is_free, is_open_chain}
 use Rattle.turn_core.specs.CellSound.{In}
-use Rattle.part_cells.specs.declared.actor_cell.ActorCell.{ActorCell}
-use Rattle.part_cells.specs.Cells.{cell_at, cell_of_call, keep_cell, is_kept, total}
-use Rattle.part_cells.specs.Order.{AreInOrder}
-use Rattle.part_cells.proofs.Elements.{In-cell_at}
-use Rattle.part_cells.proofs.Sizes.{total-keep-changed, total-keep-missing}
-use Rattle.part_core.specs.declared.stage.Stage.{Stage}
-use Rattle.part_core.specs.declared.stage.Stage.TheVariants.{Locked, Updated, Open, Stopped}
-use Rattle.part_core.specs.declared.event.PartEvent.{PartEvent}
-use Rattle.part_core.specs.declared.event.PartEvent.TheVariants as events
-use Rattle.part_core.specs.declared.event.PartReply.{PartReply}
-use Rattle.part_core.specs.declared.event.PartReply.TheVariants as replies
-use Rattle.part_core.specs.declared.settings.TypeSettings.{TypeSettings}
+use Rattle.part_model.specs.declared.actor_cell.ActorCell.{ActorCell}
+use Rattle.part_model.specs.Cells.{cell_at, cell_of_call, keep_cell, is_kept, total}
+use Rattle.part_model.specs.Order.{AreInOrder}
+use Rattle.part_model.proofs.Elements.{In-cell_at}
+use Rattle.part_model.proofs.Sizes.{total-keep-changed, total-keep-missing}
+use Rattle.part_model.specs.declared.stage.Stage.{Stage}
+use Rattle.part_model.specs.declared.stage.Stage.TheVariants.{Locked, Updated, Open, Stopped}
+use Rattle.part_model.specs.declared.event.PartEvent.{PartEvent}
+use Rattle.part_model.specs.declared.event.PartEvent.TheVariants as events
+use Rattle.part_model.specs.Receipts.{PartReply}
+use Rattle.part_model.specs.declared.event.Reply.TheVariants as replies
+use Rattle.part_model.specs.declared.settings.TypeSettings.{TypeSettings}
 use Rattle.actor_names.specs.Same.{same_member}
-use Rattle.part_core.specs.Marks.{PartMark, TurnBegan, TurnEnded, BecameActive, BecameInactive, PartOpened, begun_calls, ended_calls, marks_of_begin, marks_of_next, marks_of_ends, marks_of_inactive, marks_of_stop}
-use Rattle.part_core.specs.Part
-use Rattle.part_core.specs.Part.{PartState, PartStep, CellStep, asked_step, ask_cell, ask_owned, found_or_first, call_chain, is_full, is_spent, is_open, is_own, is_foreign, is_locked, is_updated, is_drained, each_cell, with_cell, part_step}
-use Rattle.part_core.specs.Sound.{IsActorSound, IsPartSound}
-use Rattle.part_core.proofs.CellLaws.{admit_cases, In-cell_of_call, first_sound}
-use Rattle.part_core.proofs.PartSteps.{In-first_to_close}
-use Rattle.part_core.proofs.Replays.{cell_at-In, no_turns}
+use Rattle.part_model.specs.Marks.{PartMark, TurnBegan, TurnEnded, BecameActive, BecameInactive, PartOpened, begun_calls, ended_calls, marks_of_begin, marks_of_next, marks_of_ends, marks_of_inactive, marks_of_stop}
+use Rattle.part_model.specs.Part
+use Rattle.part_model.specs.Part.{PartState, PartStep, CellStep, asked_step, ask_cell, ask_owned, found_or_first, call_chain, is_full, is_spent, is_open, is_own, is_foreign, is_locked, is_updated, is_drained, each_cell, with_cell, part_step}
+use Rattle.part_model.specs.Sound.{IsActorSound, IsPartSound}
+use Rattle.part_model.proofs.CellLaws.{admit_cases, In-cell_of_call, first_sound}
+use Rattle.part_model.proofs.PartSteps.{In-first_to_close}
+use Rattle.part_model.proofs.Replays.{cell_at-In, no_turns}
 use Rattle.world_events.specs.declared.event.WorldEvent.{WorldEvent}
 use Rattle.world_events.specs.declared.settings.WorldSettings.{WorldSettings}
 use Rattle.cluster_model.proofs.SpaceParts.{backed}

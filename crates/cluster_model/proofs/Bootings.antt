@@ -8,9 +8,9 @@ use Rattle.place_table.specs.declared.host.HostInfo.{HostInfo}
 use Rattle.place_table.specs.Hosts.{PlacementTable}
 use Rattle.turn_core.specs.CellSound.{In}
 use Rattle.turn_core.proofs.Elements.{In-push, In-left}
-use Rattle.part_core.specs.declared.settings.TypeSettings.{TypeSettings}
-use Rattle.part_core.specs.Part.{PartState, new_part, part_step}
-use Rattle.part_core.proofs.PartTables.{part_stepped}
+use Rattle.part_model.specs.declared.settings.TypeSettings.{TypeSettings}
+use Rattle.part_model.specs.Part.{PartState, new_part, part_step}
+use Rattle.part_model.proofs.PartTables.{part_stepped}
 use Rattle.round_core.specs.declared.event.PlaceEvent.{PlaceEvent}
 use Rattle.round_core.specs.declared.event.PlaceEvent.TheVariants as changes
 use Rattle.round_core.specs.Room.{RoomState, Membership, not_member, with_member, is_full, join_node, ack_change, remove_member, apply_membership, room_step}

@@ -8,16 +8,16 @@ use Rattle.place_table.specs.declared.ack_stage.AckStage.{AckStage}
 use Rattle.place_table.specs.declared.ack_stage.AckStage.TheVariants as stages
 use Rattle.place_table.specs.Hosts.{PlacementTable}
 use Rattle.turn_core.specs.CellSound.{In}
-use Rattle.part_core.specs.declared.settings.TypeSettings.{TypeSettings}
-use Rattle.part_core.specs.declared.stage.Stage.TheVariants.{Locked, Open}
-use Rattle.part_core.specs.Part.{PartState, new_part}
-use Rattle.part_core.proofs.PartLaws.{new_part_tied}
-use Rattle.part_core.proofs.PartTables.{new_part_sound}
+use Rattle.part_model.specs.declared.settings.TypeSettings.{TypeSettings}
+use Rattle.part_model.specs.declared.stage.Stage.TheVariants.{Locked, Open}
+use Rattle.part_model.specs.Part.{PartState, new_part}
+use Rattle.part_model.proofs.PartLaws.{new_part_tied}
+use Rattle.part_model.proofs.PartTables.{new_part_sound}
 use Rattle.round_core.specs.declared.phase.RoundPhase.{RoundPhase}
 use Rattle.round_core.specs.declared.phase.RoundPhase.TheVariants.{Quiet, Running}
 use Rattle.member_roster.specs.declared.book.Known.{Known}
 use Rattle.member_roster.specs.Members.{Joined}
-use Rattle.member_core.specs.Progress.{MemberReached}
+use Rattle.part_model.specs.Progress.{MemberReached}
 use Rattle.cluster_model.specs.Messages.{Message}
 use Rattle.cluster_model.specs.World.{new_parts}
 use Rattle.cluster_model.specs.Invariant.{AllStopped, IsPartBacked, StageFacts, RoundFacts, IsSafeAt}

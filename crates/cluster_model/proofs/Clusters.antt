@@ -8,7 +8,7 @@ use Rattle.place_table.specs.declared.ack_stage.AckStage.{AckStage}
 use Rattle.place_table.specs.declared.ack_stage.AckStage.TheVariants as stages
 use Rattle.place_table.specs.Hosts.{PlacementTable}
 use Rattle.turn_core.specs.CellSound.{In}
-use Rattle.part_core.specs.Part.{PartState}
+use Rattle.part_model.specs.Part.{PartState}
 use Rattle.round_core.specs.declared.phase.RoundPhase.TheVariants.{Running}
 use Rattle.member_roster.specs.Members.{Joined, joined_node}
 use Rattle.world_events.specs.declared.event.WorldEvent.{WorldEvent}

@@ -19,19 +19,19 @@ use Rattle.turn_core.specs.declared.answer.CellEnd.TheVariants as ending
 use Rattle.turn_core.specs.declared.answer.CellPoll.{CellPoll}
 use Rattle.turn_core.specs.declared.answer.CellPoll.TheVariants as polling
 use Rattle.turn_core.specs.Cell.{CellState, admit_call, cell_end, cell_poll, is_free, next_call, without_call, is_open_chain}
-use Rattle.part_cells.specs.declared.actor_cell.ActorCell.{ActorCell}
-use Rattle.part_cells.specs.Cells.{cell_at, cell_of_call}
-use Rattle.part_core.specs.declared.stage.Stage.{Stage}
-use Rattle.part_core.specs.declared.stage.Stage.TheVariants.{Locked, Updated, Open, Stopped}
-use Rattle.part_core.specs.declared.event.PartEvent.{PartEvent}
-use Rattle.part_core.specs.declared.event.PartEvent.TheVariants as events
-use Rattle.part_core.specs.declared.event.PartReply.{PartReply}
-use Rattle.part_core.specs.declared.event.PartReply.TheVariants as replies
+use Rattle.part_model.specs.declared.actor_cell.ActorCell.{ActorCell}
+use Rattle.part_model.specs.Cells.{cell_at, cell_of_call}
+use Rattle.part_model.specs.declared.stage.Stage.{Stage}
+use Rattle.part_model.specs.declared.stage.Stage.TheVariants.{Locked, Updated, Open, Stopped}
+use Rattle.part_model.specs.declared.event.PartEvent.{PartEvent}
+use Rattle.part_model.specs.declared.event.PartEvent.TheVariants as events
+use Rattle.part_model.specs.Receipts.{PartReply}
+use Rattle.part_model.specs.declared.event.Reply.TheVariants as replies
 use Rattle.actor_names.specs.Same.{same_member}
-use Rattle.part_core.specs.Marks.{PartMark, TurnBegan, TurnEnded, BecameActive, BecameInactive, PartOpened, begun_calls, ended_calls, marks_of_begin, marks_of_next, marks_of_ends, marks_of_inactive, marks_of_stop}
-use Rattle.part_core.specs.Part
-use Rattle.part_core.specs.Part.{PartState, PartStep, CellStep, asked_step, ask_cell, ask_owned, found_or_first, call_chain, is_full, is_spent, is_open, is_own, is_foreign, is_locked, is_updated, is_drained, each_cell, ring_owner, part_step}
-use Rattle.part_core.specs.Rooms.{PartView, GivesInMemory, GivesStep}
+use Rattle.part_model.specs.Marks.{PartMark, TurnBegan, TurnEnded, BecameActive, BecameInactive, PartOpened, begun_calls, ended_calls, marks_of_begin, marks_of_next, marks_of_ends, marks_of_inactive, marks_of_stop}
+use Rattle.part_model.specs.Part
+use Rattle.part_model.specs.Part.{PartState, PartStep, CellStep, asked_step, ask_cell, ask_owned, found_or_first, call_chain, is_full, is_spent, is_open, is_own, is_foreign, is_locked, is_updated, is_drained, each_cell, ring_owner, part_step}
+use Rattle.part_model.specs.Rooms.{PartView, GivesInMemory, GivesStep}
 use Rattle.cluster_model.specs.Counts.{begun_turns, over_turns, begun_by, ended_in, ended_by}
 use Rattle.cluster_model.specs.World.{TraceMark, tagged}
 

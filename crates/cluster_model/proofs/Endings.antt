@@ -11,20 +11,20 @@ use Rattle.turn_core.specs.declared.cell.Waiter.{Waiter}
 use Rattle.turn_core.specs.Cell.{EndStep, has_turn, waiter_of, not_open, next_call, without_call, is_free}
 use Rattle.turn_core.specs.CellSound.{In}
 use Rattle.turn_core.proofs.Elements.{In-left, In-push, In-without_turn}
-use Rattle.part_cells.specs.declared.actor_cell.ActorCell.{ActorCell}
-use Rattle.part_cells.specs.Cells.{cell_at, cell_of_call}
-use Rattle.part_cells.proofs.KeyOrders.{same_key-true}
-use Rattle.part_core.specs.declared.stage.Stage.{Stage}
-use Rattle.part_core.specs.declared.stage.Stage.TheVariants.{Locked, Updated, Open, Stopped}
-use Rattle.part_core.specs.declared.event.PartEvent.{PartEvent}
-use Rattle.part_core.specs.declared.event.PartEvent.TheVariants as events
-use Rattle.part_core.specs.Activity.{Activity, no_activity, activity_of, after_mark, is_mark_of}
+use Rattle.part_model.specs.declared.actor_cell.ActorCell.{ActorCell}
+use Rattle.part_model.specs.Cells.{cell_at, cell_of_call}
+use Rattle.part_model.proofs.KeyOrders.{same_key-true}
+use Rattle.part_model.specs.declared.stage.Stage.{Stage}
+use Rattle.part_model.specs.declared.stage.Stage.TheVariants.{Locked, Updated, Open, Stopped}
+use Rattle.part_model.specs.declared.event.PartEvent.{PartEvent}
+use Rattle.part_model.specs.declared.event.PartEvent.TheVariants as events
+use Rattle.part_model.specs.Activity.{Activity, no_activity, activity_of, after_mark, is_mark_of}
 use Rattle.actor_names.specs.Same.{same_member}
-use Rattle.part_core.specs.Marks.{PartMark, TurnBegan, TurnEnded, BecameActive, BecameInactive, PartOpened, ended_calls, marks_of_begin, marks_of_next, marks_of_ends, marks_of_inactive, marks_of_stop}
-use Rattle.part_core.specs.Part
-use Rattle.part_core.specs.Part.{PartState, PartStep, CellStep, is_updated, is_foreign, each_cell, part_step}
-use Rattle.part_core.proofs.CellLaws.{In-cell_of_call}
-use Rattle.part_core.proofs.Replays.{cell_at-In}
+use Rattle.part_model.specs.Marks.{PartMark, TurnBegan, TurnEnded, BecameActive, BecameInactive, PartOpened, ended_calls, marks_of_begin, marks_of_next, marks_of_ends, marks_of_inactive, marks_of_stop}
+use Rattle.part_model.specs.Part
+use Rattle.part_model.specs.Part.{PartState, PartStep, CellStep, is_updated, is_foreign, each_cell, part_step}
+use Rattle.part_model.proofs.CellLaws.{In-cell_of_call}
+use Rattle.part_model.proofs.Replays.{cell_at-In}
 use Rattle.world_events.specs.declared.event.WorldEvent.{WorldEvent}
 use Rattle.world_events.specs.declared.settings.WorldSettings.{WorldSettings}
 use Rattle.cluster_model.specs.Spaces.{KeepsToSpace}

@@ -10,19 +10,19 @@ use Rattle.place_table.specs.Hosts.{PlacementTable}
 use Rattle.turn_core.specs.declared.cell.Turn.{Turn}
 use Rattle.turn_core.specs.CellSound.{In, FitsDepth}
 use Rattle.turn_core.proofs.Elements.{In-last, In-left}
-use Rattle.part_cells.specs.declared.actor_cell.ActorCell.{ActorCell}
-use Rattle.part_cells.specs.Cells.{cell_at}
-use Rattle.part_cells.proofs.Elements.{In-cell_at, key-cell_at}
-use Rattle.part_cells.proofs.KeyOrders.{same_key-self}
-use Rattle.part_core.specs.declared.event.PartEvent.{PartEvent}
-use Rattle.part_core.specs.Activity.{Activity, no_activity, activity_of, after_mark, is_mark_of, replay, AreTidy, IsAsked, IsFrom, Replays}
+use Rattle.part_model.specs.declared.actor_cell.ActorCell.{ActorCell}
+use Rattle.part_model.specs.Cells.{cell_at}
+use Rattle.part_model.proofs.Elements.{In-cell_at, key-cell_at}
+use Rattle.part_model.proofs.KeyOrders.{same_key-self}
+use Rattle.part_model.specs.declared.event.PartEvent.{PartEvent}
+use Rattle.part_model.specs.Activity.{Activity, no_activity, activity_of, after_mark, is_mark_of, replay, AreTidy, IsAsked, IsFrom, Replays}
 use Rattle.actor_names.specs.Same.{same_member}
-use Rattle.part_core.specs.Marks.{PartMark, TurnBegan, BecameActive}
-use Rattle.part_core.specs.Part.{PartState}
-use Rattle.part_core.specs.PartMoves.{Stepped}
-use Rattle.part_core.specs.Sound.{IsActorSound}
-use Rattle.part_core.proofs.CallReplays.{from_key}
-use Rattle.part_core.proofs.Replays.{tidy_split, unmarked, still_active, replay-append}
+use Rattle.part_model.specs.Marks.{PartMark, TurnBegan, BecameActive}
+use Rattle.part_model.specs.Part.{PartState}
+use Rattle.part_model.specs.PartMoves.{Stepped}
+use Rattle.part_model.specs.Sound.{IsActorSound}
+use Rattle.part_model.proofs.CallReplays.{from_key}
+use Rattle.part_model.proofs.Replays.{tidy_split, unmarked, still_active, replay-append}
 use Rattle.cluster_model.specs.World.{TraceMark, tagged}
 use Rattle.cluster_model.specs.Invariant.{IsActiveOnce}
 use Rattle.cluster_model.specs.History.{history, IsNeverTwice, IsOneChain}

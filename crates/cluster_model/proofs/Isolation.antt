@@ -11,10 +11,10 @@ use Rattle.turn_core.specs.CellMarks.{most_turns}
 use Rattle.turn_core.specs.CellSound.{In}
 use Rattle.turn_core.proofs.Elements.{In-left, In-last, In-without_turn, In-without_other}
 use Rattle.actor_names.specs.Same.{same_key}
-use Rattle.part_cells.proofs.KeyOrders.{same_key-self, same_key-true}
-use Rattle.part_core.specs.Activity.{Activity, no_activity, after_mark, is_mark_of}
+use Rattle.part_model.proofs.KeyOrders.{same_key-self, same_key-true}
+use Rattle.part_model.specs.Activity.{Activity, no_activity, after_mark, is_mark_of}
 use Rattle.actor_names.specs.Same.{same_member}
-use Rattle.part_core.specs.Marks.{PartMark, TurnBegan, TurnEnded, BecameActive, BecameInactive, PartOpened}
+use Rattle.part_model.specs.Marks.{PartMark, TurnBegan, TurnEnded, BecameActive, BecameInactive, PartOpened}
 use Rattle.cluster_model.specs.World.{TraceMark}
 use Rattle.cluster_model.specs.History.{history, IsNeverTwice, IsOneChain}
 use Rattle.cluster_model.proofs.Basics.{same_member-true, same_member-self}

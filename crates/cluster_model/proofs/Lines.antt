@@ -8,18 +8,18 @@ use Rattle.actor_names.specs.declared.actor_key.ActorKey.{ActorKey}
 use Rattle.place_table.specs.declared.host.HostInfo.{HostInfo}
 use Rattle.place_table.specs.Hosts.{PlacementTable}
 use Rattle.turn_core.specs.CellSound.{In}
-use Rattle.part_core.specs.declared.event.PartEvent.{PartEvent}
-use Rattle.part_core.specs.declared.event.PartEvent.TheVariants as events
-use Rattle.part_core.specs.declared.event.PartReply.{PartReply}
-use Rattle.part_core.specs.Activity.{IsAsked}
-use Rattle.part_core.specs.Part.{PartState, part_step}
+use Rattle.part_model.specs.declared.event.PartEvent.{PartEvent}
+use Rattle.part_model.specs.declared.event.PartEvent.TheVariants as events
+use Rattle.part_model.specs.Receipts.{PartReply}
+use Rattle.part_model.specs.Activity.{IsAsked}
+use Rattle.part_model.specs.Part.{PartState, part_step}
 use Rattle.round_core.specs.declared.event.PlaceEvent.{PlaceEvent}
 use Rattle.round_core.specs.declared.event.PlaceEvent.TheVariants as changes
 use Rattle.placement_core.specs.Placement.{late_in, placement_step, placement_restarted}
-use Rattle.member_core.specs.declared.ack.Ack as declared
-use Rattle.member_core.specs.Acks.{collected, are_stopped}
-use Rattle.member_core.specs.Progress.{MemberReached}
-use Rattle.member_core.proofs.Collects.{collected_reached, stopped_receipts}
+use Rattle.part_model.specs.declared.ack.Ack as declared
+use Rattle.part_model.specs.Acks.{collected, are_stopped}
+use Rattle.part_model.specs.Progress.{MemberReached}
+use Rattle.part_model.proofs.Collects.{collected_reached, stopped_receipts}
 use Rattle.world_events.specs.declared.event.WorldEvent.{WorldEvent}
 use Rattle.world_events.specs.declared.event.WorldEvent.TheVariants as lines
 use Rattle.world_events.specs.declared.outcome.Outcome.{Outcome}

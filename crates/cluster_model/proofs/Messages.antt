@@ -8,18 +8,18 @@ use Rattle.place_table.specs.declared.ack_stage.AckStage.TheVariants as stages
 use Rattle.place_table.specs.Hosts.{PlacementTable}
 use Rattle.turn_core.specs.CellSound.{In}
 use Rattle.turn_core.proofs.Elements.{In-push, In-left}
-use Rattle.part_cells.specs.declared.actor_cell.ActorCell.{ActorCell}
-use Rattle.part_core.specs.declared.stage.Stage.{Stage}
-use Rattle.part_core.specs.declared.stage.Stage.TheVariants.{Locked, Updated, Open, Stopped}
-use Rattle.part_core.specs.Part.{PartState}
-use Rattle.part_core.specs.Sound.{HasNoCellAt}
-use Rattle.part_core.proofs.PartLaws.{tied_updated}
+use Rattle.part_model.specs.declared.actor_cell.ActorCell.{ActorCell}
+use Rattle.part_model.specs.declared.stage.Stage.{Stage}
+use Rattle.part_model.specs.declared.stage.Stage.TheVariants.{Locked, Updated, Open, Stopped}
+use Rattle.part_model.specs.Part.{PartState}
+use Rattle.part_model.specs.Sound.{HasNoCellAt}
+use Rattle.part_model.proofs.PartLaws.{tied_updated}
 use Rattle.round_core.specs.declared.phase.RoundPhase.{RoundPhase}
 use Rattle.round_core.specs.declared.phase.RoundPhase.TheVariants.{Quiet, Running}
 use Rattle.round_core.specs.Runs.{HasMember}
 use Rattle.member_roster.specs.declared.book.Known.{Known}
 use Rattle.member_roster.specs.Members.{Joined, hosts_of, greatest_boot}
-use Rattle.member_core.specs.Progress.{PartReached, MemberReached}
+use Rattle.part_model.specs.Progress.{PartReached, MemberReached}
 use Rattle.cluster_model.specs.Messages.{Register, Ack, Leave, Answer, LockAt, UpdateTo, UnlockAt, Message, Asks, Tells, table_of}
 use Rattle.cluster_model.specs.Invariant.{version_of, WasTold, AllStopped, Gives, IsPartBacked, StageFacts, CarryTable, IsRoundSound, RoundFacts, AreMessagesSound, AreBooted, AreMembersSound, IsUnlockSound, IsSafeAt}
 use Rattle.cluster_model.proofs.Joins.{entry_of, has_entry}

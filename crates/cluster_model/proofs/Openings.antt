@@ -9,17 +9,17 @@ use Rattle.place_table.specs.declared.host.HostInfo.{HostInfo}
 use Rattle.place_table.specs.Hosts.{PlacementTable}
 use Rattle.turn_core.specs.CellSound.{In}
 use Rattle.turn_core.proofs.Elements.{In-left}
-use Rattle.part_cells.specs.declared.actor_cell.ActorCell.{ActorCell}
-use Rattle.part_cells.specs.Cells.{cell_at}
+use Rattle.part_model.specs.declared.actor_cell.ActorCell.{ActorCell}
+use Rattle.part_model.specs.Cells.{cell_at}
 use Rattle.actor_names.specs.Same.{same_key}
-use Rattle.part_cells.proofs.KeyOrders.{same_key-self, same_key-true}
-use Rattle.part_core.specs.declared.event.PartEvent.{PartEvent}
-use Rattle.part_core.specs.Activity.{Activity, no_activity, activity_of, after_mark, replay, AreTidy, AreAt, AreCalm, IsAsked, Replays}
+use Rattle.part_model.proofs.KeyOrders.{same_key-self, same_key-true}
+use Rattle.part_model.specs.declared.event.PartEvent.{PartEvent}
+use Rattle.part_model.specs.Activity.{Activity, no_activity, activity_of, after_mark, replay, AreTidy, AreAt, AreCalm, IsAsked, Replays}
 use Rattle.actor_names.specs.Same.{same_member}
-use Rattle.part_core.specs.Marks.{PartMark, TurnBegan, TurnEnded, BecameActive, BecameInactive, PartOpened}
-use Rattle.part_core.specs.Part.{PartState}
-use Rattle.part_core.specs.PartMoves.{Stepped}
-use Rattle.part_core.proofs.Replays.{tidy_split, unmarked, still_active, at_front, at_middle}
+use Rattle.part_model.specs.Marks.{PartMark, TurnBegan, TurnEnded, BecameActive, BecameInactive, PartOpened}
+use Rattle.part_model.specs.Part.{PartState}
+use Rattle.part_model.specs.PartMoves.{Stepped}
+use Rattle.part_model.proofs.Replays.{tidy_split, unmarked, still_active, at_front, at_middle}
 use Rattle.round_core.specs.declared.phase.RoundPhase.{RoundPhase}
 use Rattle.member_roster.specs.declared.book.Known.{Known}
 use Rattle.member_roster.specs.Members.{Joined}

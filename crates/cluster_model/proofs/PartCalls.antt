@@ -15,24 +15,24 @@ use Rattle.turn_core.specs.Cell.{CellState, AskStep, EndStep, PollStep, kept_cha
 use Rattle.turn_core.specs.CellSound.{In}
 use Rattle.turn_core.proofs.Elements.{In-push, In-without_turn, In-without_waiter, In-without_first}
 use Rattle.turn_core.proofs.CellSteps.{In-first_unmoved}
-use Rattle.part_cells.specs.declared.actor_cell.ActorCell.{ActorCell}
-use Rattle.part_cells.specs.Cells.{cell_at, cell_of_call, keep_cell}
-use Rattle.part_cells.proofs.Elements.{In-cell_at, key-cell_at, In-keep_cell}
-use Rattle.part_core.specs.declared.stage.Stage.{Stage}
-use Rattle.part_core.specs.declared.stage.Stage.TheVariants.{Locked, Updated, Open, Stopped}
-use Rattle.part_core.specs.declared.event.PartEvent.{PartEvent}
-use Rattle.part_core.specs.declared.event.PartEvent.TheVariants as events
-use Rattle.part_core.specs.declared.event.PartReply.{PartReply}
-use Rattle.part_core.specs.Activity.{IsAsked, Replays}
+use Rattle.part_model.specs.declared.actor_cell.ActorCell.{ActorCell}
+use Rattle.part_model.specs.Cells.{cell_at, cell_of_call, keep_cell}
+use Rattle.part_model.proofs.Elements.{In-cell_at, key-cell_at, In-keep_cell}
+use Rattle.part_model.specs.declared.stage.Stage.{Stage}
+use Rattle.part_model.specs.declared.stage.Stage.TheVariants.{Locked, Updated, Open, Stopped}
+use Rattle.part_model.specs.declared.event.PartEvent.{PartEvent}
+use Rattle.part_model.specs.declared.event.PartEvent.TheVariants as events
+use Rattle.part_model.specs.Receipts.{PartReply}
+use Rattle.part_model.specs.Activity.{IsAsked, Replays}
 use Rattle.actor_names.specs.Same.{same_member}
-use Rattle.part_core.specs.Marks.{PartMark, TurnBegan, TurnEnded, BecameInactive, PartOpened, marks_of_begin, marks_of_next, marks_of_ends, marks_of_inactive, marks_of_stop}
-use Rattle.part_core.specs.Part
-use Rattle.part_core.specs.Part.{PartState, PartStep, CellStep, asked_step, ask_cell, ask_owned, found_or_first, call_chain, is_full, is_spent, is_open, is_own, is_foreign, is_locked, is_updated, is_drained, each_cell, with_cell, part_step}
-use Rattle.part_core.specs.Settings.{settings_of}
-use Rattle.part_core.specs.declared.settings.TypeSettings.{TypeSettings}
-use Rattle.part_core.proofs.CallReplays.{call_chain-kept}
-use Rattle.part_core.proofs.CellLaws.{admit_cases, In-cell_of_call}
-use Rattle.part_core.proofs.PartSteps.{In-first_to_close}
+use Rattle.part_model.specs.Marks.{PartMark, TurnBegan, TurnEnded, BecameInactive, PartOpened, marks_of_begin, marks_of_next, marks_of_ends, marks_of_inactive, marks_of_stop}
+use Rattle.part_model.specs.Part
+use Rattle.part_model.specs.Part.{PartState, PartStep, CellStep, asked_step, ask_cell, ask_owned, found_or_first, call_chain, is_full, is_spent, is_open, is_own, is_foreign, is_locked, is_updated, is_drained, each_cell, with_cell, part_step}
+use Rattle.part_model.specs.Settings.{settings_of}
+use Rattle.part_model.specs.declared.settings.TypeSettings.{TypeSettings}
+use Rattle.part_model.proofs.CallReplays.{call_chain-kept}
+use Rattle.part_model.proofs.CellLaws.{admit_cases, In-cell_of_call}
+use Rattle.part_model.proofs.PartSteps.{In-first_to_close}
 use Rattle.cluster_model.specs.World.{CallPlace, place_of_call, ask_of}
 use Rattle.cluster_model.proofs.Basics.{In-append}
 

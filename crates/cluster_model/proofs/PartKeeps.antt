@@ -9,18 +9,18 @@ use Rattle.place_table.specs.declared.ack_stage.AckStage.{AckStage}
 use Rattle.place_table.specs.declared.ack_stage.AckStage.TheVariants as stages
 use Rattle.place_table.specs.Hosts.{PlacementTable}
 use Rattle.turn_core.specs.CellSound.{In}
-use Rattle.part_cells.specs.declared.actor_cell.ActorCell.{ActorCell}
-use Rattle.part_core.specs.declared.event.PartEvent.{PartEvent}
-use Rattle.part_core.specs.declared.stage.Stage.TheVariants.{Locked, Updated, Open, Stopped}
-use Rattle.part_core.specs.Part.{PartState, is_own}
-use Rattle.part_core.specs.PartMoves.{HadActive, keeps, locks, updates, opens, stops, Stepped}
-use Rattle.part_core.proofs.PartLaws.{tied_open, tied_updated, moves_tied, drained_owns}
+use Rattle.part_model.specs.declared.actor_cell.ActorCell.{ActorCell}
+use Rattle.part_model.specs.declared.event.PartEvent.{PartEvent}
+use Rattle.part_model.specs.declared.stage.Stage.TheVariants.{Locked, Updated, Open, Stopped}
+use Rattle.part_model.specs.Part.{PartState, is_own}
+use Rattle.part_model.specs.PartMoves.{HadActive, keeps, locks, updates, opens, stops, Stepped}
+use Rattle.part_model.proofs.PartLaws.{tied_open, tied_updated, moves_tied, drained_owns}
 use Rattle.round_core.specs.declared.phase.RoundPhase.{RoundPhase}
 use Rattle.round_core.specs.declared.phase.RoundPhase.TheVariants.{Quiet, Running}
 use Rattle.member_roster.specs.declared.book.Known.{Known}
 use Rattle.member_roster.specs.Members.{Joined}
-use Rattle.member_core.specs.Progress.{PartReached, MemberReached}
-use Rattle.member_core.proofs.Collects.{step_reached}
+use Rattle.part_model.specs.Progress.{PartReached, MemberReached}
+use Rattle.part_model.proofs.Collects.{step_reached}
 use Rattle.cluster_model.specs.Messages.{UpdateTo, UnlockAt, Message, Tells}
 use Rattle.cluster_model.specs.Invariant.{WasTold, IsUnlocked, IsHeard, AllStopped, Gives, IsOwnedAtOpening, IsPartBacked, StageFacts, RoundFacts, IsSafeAt, IsActiveOnce}
 use Rattle.cluster_model.proofs.Basics.{In-set, In-slice_get, one_owner}

@@ -9,7 +9,7 @@ use Rattle.place_table.specs.declared.ack_stage.AckStage.{AckStage}
 use Rattle.place_table.specs.declared.ack_stage.AckStage.TheVariants as stages
 use Rattle.place_table.specs.Hosts.{PlacementTable}
 use Rattle.turn_core.specs.CellSound.{In}
-use Rattle.part_core.specs.Part.{PartState}
+use Rattle.part_model.specs.Part.{PartState}
 use Rattle.round_core.specs.declared.event.PlaceEvent.TheVariants as events
 use Rattle.round_core.specs.declared.event.PlaceReply.{PlaceReply}
 use Rattle.round_core.specs.declared.phase.RoundPhase.{RoundPhase}
@@ -21,7 +21,7 @@ use Rattle.round_core.proofs.Durable.{hosts_map, hosts_with, ack_same, settle_ke
 use Rattle.round_core.proofs.Hosts.{here_same, put_member, without_member, heard_member}
 use Rattle.round_core.proofs.Memory.{boots_rise}
 use Rattle.member_roster.specs.Members.{Joined, hosts_of, of_node, is_here, is_pending_in, is_pending, with_node, without_node, put_joined, late_of, heard_of, any_pending, entered, targeted, heard_at, restarted_at, new_joined, greatest_boot, put_boot}
-use Rattle.member_core.specs.Progress.{MemberReached}
+use Rattle.part_model.specs.Progress.{MemberReached}
 use Rattle.cluster_model.specs.Messages.{Message, answer_of}
 use Rattle.cluster_model.specs.Invariant.{version_of, AllStopped, RoundFacts, AreMessagesSound, IsSafeAt, IsSafe}
 use Rattle.cluster_model.proofs.Joins.{entry_of, has_entry, here_entry, In-with_node, In-without_node, In-or_node, In-heard_of, In-or_late, In-put_joined, In-kept_joined, put_here, none_pending, greatest-put}

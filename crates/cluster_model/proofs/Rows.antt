@@ -9,8 +9,8 @@ use Rattle.actor_names.specs.declared.actor_key.ActorKey.{ActorKey}
 use Rattle.place_table.specs.declared.host.HostInfo.{HostInfo}
 use Rattle.place_table.specs.declared.ack_stage.AckStage.TheVariants as stages
 use Rattle.place_table.specs.Hosts.{PlacementTable}
-use Rattle.part_core.specs.Marks.{TurnBegan, TurnEnded, BecameActive, PartOpened}
-use Rattle.part_core.specs.Part.{new_part, made_chain}
+use Rattle.part_model.specs.Marks.{TurnBegan, TurnEnded, BecameActive, PartOpened}
+use Rattle.part_model.specs.Part.{new_part, made_chain}
 use Rattle.round_core.specs.declared.event.PlaceReply.TheVariants as place
 use Rattle.world_events.specs.declared.settings.WorldSettings.{WorldSettings}
 use Rattle.world_events.specs.declared.event.WorldEvent.{WorldEvent}

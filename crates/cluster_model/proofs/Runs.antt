@@ -10,17 +10,17 @@ use Rattle.place_table.specs.declared.host.HostInfo.{HostInfo}
 use Rattle.place_table.specs.Hosts.{PlacementTable}
 use Rattle.turn_core.specs.CellSound.{In}
 use Rattle.turn_core.proofs.Elements.{In-left}
-use Rattle.part_cells.specs.declared.actor_cell.ActorCell.{ActorCell}
-use Rattle.part_cells.specs.Cells.{cell_at}
-use Rattle.part_core.specs.declared.event.PartEvent.{PartEvent}
-use Rattle.part_core.specs.declared.settings.TypeSettings.{TypeSettings}
-use Rattle.part_core.specs.Activity.{no_activity, activity_of, IsAsked, Replays}
-use Rattle.part_core.specs.Marks.{PartMark}
-use Rattle.part_core.specs.Part.{PartState, new_part, part_step}
-use Rattle.part_core.specs.PartMoves.{Stepped}
-use Rattle.part_core.specs.Settings.{default_settings, settings_or, settings_of}
-use Rattle.part_core.proofs.PartReplays.{part_replays}
-use Rattle.part_core.proofs.PartTables.{part_stepped}
+use Rattle.part_model.specs.declared.actor_cell.ActorCell.{ActorCell}
+use Rattle.part_model.specs.Cells.{cell_at}
+use Rattle.part_model.specs.declared.event.PartEvent.{PartEvent}
+use Rattle.part_model.specs.declared.settings.TypeSettings.{TypeSettings}
+use Rattle.part_model.specs.Activity.{no_activity, activity_of, IsAsked, Replays}
+use Rattle.part_model.specs.Marks.{PartMark}
+use Rattle.part_model.specs.Part.{PartState, new_part, part_step}
+use Rattle.part_model.specs.PartMoves.{Stepped}
+use Rattle.part_model.specs.Settings.{default_settings, settings_or, settings_of}
+use Rattle.part_model.proofs.PartReplays.{part_replays}
+use Rattle.part_model.proofs.PartTables.{part_stepped}
 use Rattle.world_events.specs.declared.event.WorldEvent.{WorldEvent}
 use Rattle.world_events.specs.declared.settings.WorldSettings.{WorldSettings}
 use Rattle.cluster_model.specs.Messages.{Message}

@@ -9,12 +9,12 @@ use Rattle.place_table.specs.declared.host.HostInfo.{HostInfo}
 use Rattle.place_table.specs.declared.ack_stage.AckStage.{AckStage}
 use Rattle.place_table.specs.Hosts.{PlacementTable}
 use Rattle.turn_core.specs.CellSound.{In}
-use Rattle.part_cells.specs.declared.actor_cell.ActorCell.{ActorCell}
-use Rattle.part_core.specs.declared.event.PartEvent.{PartEvent}
-use Rattle.part_core.specs.declared.event.PartEvent.TheVariants as events
-use Rattle.part_core.specs.declared.settings.TypeSettings.{TypeSettings}
-use Rattle.part_core.specs.Part.{PartState, new_part, is_owned_by}
-use Rattle.member_core.specs.Progress.{MemberReached}
+use Rattle.part_model.specs.declared.actor_cell.ActorCell.{ActorCell}
+use Rattle.part_model.specs.declared.event.PartEvent.{PartEvent}
+use Rattle.part_model.specs.declared.event.PartEvent.TheVariants as events
+use Rattle.part_model.specs.declared.settings.TypeSettings.{TypeSettings}
+use Rattle.part_model.specs.Part.{PartState, new_part, is_owned_by}
+use Rattle.part_model.specs.Progress.{MemberReached}
 use Rattle.cluster_model.specs.Messages.{LockAt, UpdateTo, UnlockAt, Message, Tells, named_in}
 use Rattle.cluster_model.specs.World.{ClusterState, new_parts}
 use Rattle.cluster_model.specs.Spaces.{is_of, parts_of, messages_of, seen_in, KeepsToSpace}

@@ -11,9 +11,9 @@ use Rattle.place_table.specs.declared.ack_stage.AckStage.TheVariants as stages
 use Rattle.place_table.specs.Hosts.{PlacementTable}
 use Rattle.turn_core.specs.CellSound.{In}
 use Rattle.turn_core.proofs.Elements.{In-push}
-use Rattle.part_core.specs.declared.event.PartEvent.{PartEvent}
-use Rattle.part_core.specs.Part.{PartState, part_step}
-use Rattle.part_core.proofs.PartTables.{part_stepped}
+use Rattle.part_model.specs.declared.event.PartEvent.{PartEvent}
+use Rattle.part_model.specs.Part.{PartState, part_step}
+use Rattle.part_model.proofs.PartTables.{part_stepped}
 use Rattle.round_core.specs.declared.event.PlaceEvent.{PlaceEvent}
 use Rattle.round_core.specs.declared.event.PlaceEvent.TheVariants as changes
 use Rattle.round_core.specs.declared.event.PlaceReply.{PlaceReply}
@@ -25,7 +25,7 @@ use Rattle.placement_core.specs.Placement.{PlacementState, PlacementStep, room_o
 use Rattle.round_core.specs.Runs.{Steps, Restarts}
 use Rattle.round_core.specs.Reached.{IsReached}
 use Rattle.round_core.proofs.Reached.{new_reached, event_reached}
-use Rattle.member_core.specs.Progress.{MemberReached}
+use Rattle.part_model.specs.Progress.{MemberReached}
 use Rattle.world_events.specs.declared.settings.WorldSettings.{WorldSettings}
 use Rattle.world_events.specs.declared.event.WorldEvent.{WorldEvent}
 use Rattle.cluster_model.specs.Messages.{Request, Register, Beat, Ack, Leave, Answer, UpdateTo, Message, Asks, Tells, answer_of, change_of, asker_of, table_of}

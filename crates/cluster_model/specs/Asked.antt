@@ -5,10 +5,10 @@ use Rattle.actor_names.specs.declared.actor_key.ActorKey.{ActorKey}
 use Rattle.turn_core.specs.declared.cell.Turn.{Turn}
 use Rattle.turn_core.specs.declared.cell.Waiter.{Waiter}
 use Rattle.turn_core.specs.CellSound.{In}
-use Rattle.part_cells.specs.declared.actor_cell.ActorCell.{ActorCell}
-use Rattle.part_core.specs.Marks.{TurnBegan, TurnEnded}
-use Rattle.part_core.specs.Part.{PartState, made_chain, chain_or}
-use Rattle.part_core.specs.Settings.{settings_of}
+use Rattle.part_model.specs.declared.actor_cell.ActorCell.{ActorCell}
+use Rattle.part_model.specs.Marks.{TurnBegan, TurnEnded}
+use Rattle.part_model.specs.Part.{PartState, made_chain, chain_or}
+use Rattle.part_model.specs.Settings.{settings_of}
 use Rattle.world_events.specs.declared.event.WorldEvent.{WorldEvent}
 use Rattle.world_events.specs.declared.event.WorldEvent.TheVariants as lines
 use Rattle.world_events.specs.declared.outcome.Outcome.{Outcome}

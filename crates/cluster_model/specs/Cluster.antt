@@ -9,18 +9,18 @@ use Rattle.place_table.specs.Hosts.{PlacementTable}
 use Rattle.turn_core.specs.declared.cell.Turn.{Turn}
 use Rattle.turn_core.specs.CellMarks.{most_turns}
 use Rattle.turn_core.specs.CellSound.{In}
-use Rattle.part_cells.specs.declared.actor_cell.ActorCell.{ActorCell}
-use Rattle.part_core.specs.Activity.{no_activity}
-use Rattle.part_core.specs.Marks.{TurnBegan, TurnEnded, BecameActive, BecameInactive}
-use Rattle.part_core.specs.declared.stage.Stage.TheVariants.{Stopped}
-use Rattle.part_core.specs.Part.{PartState}
-use Rattle.part_core.specs.Sound.{NoIdleWaiter}
+use Rattle.part_model.specs.declared.actor_cell.ActorCell.{ActorCell}
+use Rattle.part_model.specs.Activity.{no_activity}
+use Rattle.part_model.specs.Marks.{TurnBegan, TurnEnded, BecameActive, BecameInactive}
+use Rattle.part_model.specs.declared.stage.Stage.TheVariants.{Stopped}
+use Rattle.part_model.specs.Part.{PartState}
+use Rattle.part_model.specs.Sound.{NoIdleWaiter}
 use Rattle.round_core.specs.declared.phase.RoundPhase.TheVariants.{Running}
 use Rattle.round_core.specs.Room.{new_room, last_version}
 use Rattle.round_core.specs.Runs.{HasMember, ForgetsNothing}
 use Rattle.placement_core.specs.Placement.{PlacementState, room_of}
 use Rattle.member_roster.specs.Members.{Joined, greatest_boot, hosts_of}
-use Rattle.member_core.specs.Progress.{MemberReached}
+use Rattle.part_model.specs.Progress.{MemberReached}
 use Rattle.cluster_model.specs.Messages.{Register, Ack, Leave, LockAt, UpdateTo, UnlockAt, Message, Asks, Tells, table_of, named_in}
 use Rattle.cluster_model.specs.World.{ClusterState, TraceMark, depth_in}
 use Rattle.cluster_model.specs.Spaces.{SpaceState, seen_in}

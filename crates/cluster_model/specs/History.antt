@@ -6,9 +6,9 @@ use Rattle.place_table.specs.declared.host.HostInfo.{HostInfo}
 use Rattle.place_table.specs.Hosts.{PlacementTable}
 use Rattle.turn_core.specs.declared.cell.Turn.{Turn}
 use Rattle.turn_core.specs.CellSound.{In}
-use Rattle.part_core.specs.Activity.{Activity, no_activity, after_mark, is_mark_of}
+use Rattle.part_model.specs.Activity.{Activity, no_activity, after_mark, is_mark_of}
 use Rattle.actor_names.specs.Same.{same_member}
-use Rattle.part_core.specs.Marks.{PartMark, TurnBegan, BecameActive, PartOpened}
+use Rattle.part_model.specs.Marks.{PartMark, TurnBegan, BecameActive, PartOpened}
 use Rattle.cluster_model.specs.Invariant.{Gives}
 use Rattle.cluster_model.specs.Messages.{UpdateTo, UnlockAt, Message, Tells}
 use Rattle.cluster_model.specs.World.{TraceMark}

@@ -8,13 +8,13 @@ use Rattle.place_table.specs.declared.ack_stage.AckStage.{AckStage}
 use Rattle.place_table.specs.declared.ack_stage.AckStage.TheVariants as stages
 use Rattle.place_table.specs.Hosts.{PlacementTable}
 use Rattle.turn_core.specs.CellSound.{In}
-use Rattle.part_cells.specs.declared.actor_cell.ActorCell.{ActorCell}
-use Rattle.part_core.specs.declared.event.PartEvent.{PartEvent}
-use Rattle.part_core.specs.declared.event.PartEvent.TheVariants as events
-use Rattle.part_core.specs.declared.stage.Stage.TheVariants.{Open, Stopped}
-use Rattle.part_core.specs.Part.{PartState, is_owned_by}
-use Rattle.part_core.specs.PartRuns.{AreVersionsTied}
-use Rattle.part_core.specs.Sound.{IsPartSound}
+use Rattle.part_model.specs.declared.actor_cell.ActorCell.{ActorCell}
+use Rattle.part_model.specs.declared.event.PartEvent.{PartEvent}
+use Rattle.part_model.specs.declared.event.PartEvent.TheVariants as events
+use Rattle.part_model.specs.declared.stage.Stage.TheVariants.{Open, Stopped}
+use Rattle.part_model.specs.Part.{PartState, is_owned_by}
+use Rattle.part_model.specs.PartRuns.{AreVersionsTied}
+use Rattle.part_model.specs.Sound.{IsPartSound}
 use Rattle.round_core.specs.declared.phase.RoundPhase.{RoundPhase}
 use Rattle.round_core.specs.declared.phase.RoundPhase.TheVariants.{Quiet, Running}
 use Rattle.round_core.specs.Room.{RoomState, last_version}
@@ -22,7 +22,7 @@ use Rattle.round_core.specs.Reached.{IsReached}
 use Rattle.round_core.specs.Runs.{HasMember}
 use Rattle.member_roster.specs.declared.book.Known.{Known}
 use Rattle.member_roster.specs.Members.{Joined, greatest_boot, hosts_of}
-use Rattle.member_core.specs.Progress.{MemberReached}
+use Rattle.part_model.specs.Progress.{MemberReached}
 use Rattle.cluster_model.specs.Messages.{Register, Ack, Leave, Answer, LockAt, UpdateTo, UnlockAt, Says, Message, Asks, Tells}
 use Rattle.cluster_model.specs.World.{ClusterState}
 use Rattle.cluster_model.specs.Spaces.{SpaceState, seen_in}

@@ -4,7 +4,7 @@ use Rattle.actor_names.specs.declared.member.Member.{Member}
 use Rattle.actor_names.specs.declared.actor_key.ActorKey.{ActorKey}
 use Rattle.place_table.specs.declared.host.HostInfo.{HostInfo}
 use Rattle.place_table.specs.Hosts.{PlacementTable}
-use Rattle.part_core.specs.Part.{PartState}
+use Rattle.part_model.specs.Part.{PartState}
 use Rattle.round_core.specs.Room.{RoomState}
 use Rattle.placement_core.specs.Placement.{room_of}
 use Rattle.cluster_model.specs.Messages.{Message, named_in}

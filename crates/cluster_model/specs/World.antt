@@ -4,26 +4,26 @@ use Rattle.actor_names.specs.declared.member.Member.{Member}
 use Rattle.actor_names.specs.declared.actor_key.ActorKey.{ActorKey}
 use Rattle.place_table.specs.declared.host.HostInfo.{HostInfo}
 use Rattle.place_table.specs.Hosts.{PlacementTable, key_place}
-use Rattle.part_core.specs.declared.settings.TypeSettings.{TypeSettings}
-use Rattle.part_core.specs.declared.event.PartEvent.{PartEvent}
-use Rattle.part_core.specs.declared.event.PartEvent.TheVariants as events
-use Rattle.part_core.specs.declared.event.PartReply.{PartReply}
-use Rattle.part_core.specs.declared.event.PartReply.TheVariants as replies
+use Rattle.part_model.specs.declared.settings.TypeSettings.{TypeSettings}
+use Rattle.part_model.specs.declared.event.PartEvent.{PartEvent}
+use Rattle.part_model.specs.declared.event.PartEvent.TheVariants as events
+use Rattle.part_model.specs.Receipts.{PartReply}
+use Rattle.part_model.specs.declared.event.Reply.TheVariants as replies
 use Rattle.actor_names.specs.Same.{same_member}
-use Rattle.part_core.specs.Marks.{PartMark}
-use Rattle.part_core.specs.Part.{PartState, PartStep, new_part, is_stopped, receipt_of, part_step}
-use Rattle.part_core.specs.declared.receipt.SeenStage.{SeenStage}
-use Rattle.part_core.specs.declared.receipt.SeenStage.TheVariants as seen
-use Rattle.part_core.specs.Receipts.{ReceiptState}
-use Rattle.part_core.specs.Settings.{settings_or}
+use Rattle.part_model.specs.Marks.{PartMark}
+use Rattle.part_model.specs.Part.{PartState, PartStep, new_part, is_stopped, receipt_of, part_step}
+use Rattle.part_model.specs.declared.stage.SeenStage.{SeenStage}
+use Rattle.part_model.specs.declared.stage.SeenStage.TheVariants as seen
+use Rattle.part_model.specs.Receipts.{ReceiptState}
+use Rattle.part_model.specs.Settings.{settings_or}
 use Rattle.round_core.specs.declared.event.PlaceEvent.{PlaceEvent}
 use Rattle.round_core.specs.declared.event.PlaceEvent.TheVariants as changes
 use Rattle.round_core.specs.declared.event.PlaceReply.{PlaceReply}
 use Rattle.round_core.specs.declared.event.PlaceReply.TheVariants as place_replies
 use Rattle.round_core.specs.Room.{RoomState, last_version}
 use Rattle.placement_core.specs.Placement.{SpaceRoom, PlacementState, PlacementStep, new_placement, room_of, late_in, placement_step, placement_restarted}
-use Rattle.member_core.specs.declared.ack.Ack as declared
-use Rattle.member_core.specs.Acks.{collected, are_stopped}
+use Rattle.part_model.specs.declared.ack.Ack as declared
+use Rattle.part_model.specs.Acks.{collected, are_stopped}
 use Rattle.world_events.specs.declared.settings.WorldSettings.{WorldSettings}
 use Rattle.world_events.specs.declared.event.WorldEvent.{WorldEvent}
 use Rattle.world_events.specs.declared.event.WorldEvent.TheVariants as lines

@@ -4,7 +4,7 @@ ghost use Rattle.actor_names.specs.declared.actor_key.ActorKey.{ActorKey};
 ghost use Rattle.place_table.specs.declared.host.HostInfo.{HostInfo};
 ghost use Rattle.place_table.specs.Hosts.{PlacementTable};
 ghost use Rattle.turn_core.specs.CellSound.{In};
-ghost use Rattle.part_core.specs.Part.{PartState};
+ghost use Rattle.part_model.specs.Part.{PartState};
 ghost use Rattle.world_events.specs.declared.event.WorldEvent.{WorldEvent};
 ghost use Rattle.world_events.specs.declared.settings.WorldSettings.{WorldSettings};
 ghost use Rattle.cluster_model.specs.World.{opening_cluster, cluster_run, cluster_step, outcomes};

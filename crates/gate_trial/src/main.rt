@@ -4,7 +4,7 @@
 //     mutex THREADS STEPS    the same under a plain mutex
 //     queue CALLS MILLIS     CALLS calls of one actor, each from its own thread, with turns of MILLIS milliseconds
 //
-// It prints how many steps or turns there were. It promises nothing of its own. Depends on step_gate, part_core,
+// It prints how many steps or turns there were. It promises nothing of its own. Depends on step_gate, part_model, part_core,
 // timer_book, schedule_text, place_table and actor_names.
 #![tactic(auto)]
 

@@ -1,6 +1,7 @@
 // An open part.
 use actor_names::{default_space, read_actor_type, read_address, read_app_id, read_member};
-use part_core::{Part, PartEvent, PartSettings, TypeList};
+use part_core::Part;
+use part_model::{PartEvent, PartSettings, TypeList};
 use place_table::{ActorTypes, HostInfo, build_table};
 use std::alloc::Global;
 

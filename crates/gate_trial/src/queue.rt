@@ -1,11 +1,12 @@
 // Calls of one actor, each from its own thread, whose turns follow each other.
 ghost use Rattle.step_gate.specs.Gates.{IsSeatOf};
-ghost use Rattle.part_core.specs.Machine.{PartAllows};
-ghost use Rattle.part_core.specs.Rooms.{IsInRange};
+ghost use Rattle.part_model.specs.Machine.{PartAllows};
+ghost use Rattle.part_model.specs.Rooms.{IsInRange};
 
 use crate::parts::open_part;
 use actor_names::read_key;
-use part_core::{Part, PartEvent, PartReply};
+use part_core::{Part, PartReply};
+use part_model::PartEvent;
 use std::alloc::Global;
 use std::sync::Wait;
 use std::sync::atomic::{AtomicU64, Ordering};

@@ -1,12 +1,13 @@
 // Two threads at a gate of a part, and a book of timers at a gate.
 ghost use Rattle.std.specs.Prelude.{IfOk};
-ghost use Rattle.part_core.specs.Machine.{PartAllows};
-ghost use Rattle.part_core.specs.Rooms.{IsInRange};
+ghost use Rattle.part_model.specs.Machine.{PartAllows};
+ghost use Rattle.part_model.specs.Rooms.{IsInRange};
 ghost use Rattle.step_gate.specs.Gates.{IsSeatOf};
 
 use crate::parts::open_part;
 use actor_names::{read_key, read_record_name};
-use part_core::{Part, PartEvent, PartReply};
+use part_core::{Part, PartReply};
+use part_model::PartEvent;
 use schedule_text::{Moment, read_schedule};
 use std::alloc::{AllocError, Global};
 use std::sync::Wait;

@@ -10,14 +10,14 @@ use Rattle.actor_names.specs.declared.actor_key.ActorKey.{ActorKey}
 use Rattle.turn_core.specs.Cell.{is_in_cell, has_turn, waiter_of}
 use Rattle.turn_core.specs.CellSound.{In}
 use Rattle.turn_core.proofs.Presence.{has_or_not}
-use Rattle.part_cells.specs.declared.actor_cell.ActorCell.{ActorCell}
+use Rattle.part_model.specs.declared.actor_cell.ActorCell.{ActorCell}
 use Rattle.actor_names.specs.Same.{key_cmp}
-use Rattle.part_cells.specs.Cells.{cell_at, cell_of_call, drop_cell, put_cell, calls_in, total_calls}
-use Rattle.part_cells.specs.Order.{AreInOrder}
-use Rattle.part_cells.proofs.Orders.{order-put_cell, order-drop_cell}
-use Rattle.part_cells.proofs.Changes.{at-In, put-missing}
-use Rattle.part_cells.proofs.KeyOrders.{same_key-true}
-use Rattle.part_cells.proofs.Sizes.{total-put-found, total-insert_cell, total-taken}
+use Rattle.part_model.specs.Cells.{cell_at, cell_of_call, drop_cell, put_cell, calls_in, total_calls}
+use Rattle.part_model.specs.Order.{AreInOrder}
+use Rattle.part_model.proofs.Orders.{order-put_cell, order-drop_cell}
+use Rattle.part_model.proofs.Changes.{at-In, put-missing}
+use Rattle.part_model.proofs.KeyOrders.{same_key-true}
+use Rattle.part_model.proofs.Sizes.{total-put-found, total-insert_cell, total-taken}
 use Rattle.part_cells.specs.Slots.{cells_in, AreSlotsKept, IsSettled, IsFoundAt}
 use Rattle.lists_and_limits.proofs.Elements.{In-cut, In-left, In-right, In-append}
 use Rattle.part_cells.proofs.Placed.{same-tied, In-cells, cells-In, at_slot, look_up, front_apart, behind_apart, changed_here, dropped_here, removed_here, added_here, In-placed, placed-In}

@@ -11,13 +11,13 @@ use Rattle.std.proofs.lemmas.Bool.{cond_both, cond-true, cond-false, true≢fals
 use Rattle.std.proofs.lemmas.Map.Text.{is_eq-slice_cmp}
 use Rattle.actor_names.specs.declared.actor_key.ActorKey.{ActorKey}
 use Rattle.turn_core.specs.CellSound.{In}
-use Rattle.part_cells.specs.declared.actor_cell.ActorCell.{ActorCell}
+use Rattle.part_model.specs.declared.actor_cell.ActorCell.{ActorCell}
 use Rattle.actor_names.specs.Same.{same_key, key_cmp, key_before}
-use Rattle.part_cells.specs.Cells.{cell_at, drop_cell, insert_cell, put_cell}
-use Rattle.part_cells.specs.Order.{AreInOrder}
-use Rattle.part_cells.proofs.KeyOrders.{back, before, equal_self}
-use Rattle.part_cells.proofs.Orders.{before_middle, behind_middle}
-use Rattle.part_cells.proofs.Forks.{put_here, drop_here}
+use Rattle.part_model.specs.Cells.{cell_at, drop_cell, insert_cell, put_cell}
+use Rattle.part_model.specs.Order.{AreInOrder}
+use Rattle.part_model.proofs.KeyOrders.{back, before, equal_self}
+use Rattle.part_model.proofs.Orders.{before_middle, behind_middle}
+use Rattle.part_model.proofs.Forks.{put_here, drop_here}
 use Rattle.part_cells.specs.Slots.{with_found, cells_in}
 
 -- ---- keys

@@ -10,8 +10,8 @@ use Rattle.turn_core.specs.Cell.{CellState, AskStep, has_turn, is_first_chain, i
 use Rattle.turn_core.proofs.CellSteps.{ask_cases, nil_of_length}
 use Rattle.turn_core.proofs.Presence.{has_or_not, KeepsCalls, left_was, left_others}
 use Rattle.turn_core.proofs.Leaves.{begins_keeps, moved_keeps, polled_leaves, turns-polled}
-use Rattle.part_cells.specs.declared.actor_cell.ActorCell.{ActorCell}
-use Rattle.part_cells.specs.Cells.{is_kept, calls_in}
+use Rattle.part_model.specs.declared.actor_cell.ActorCell.{ActorCell}
+use Rattle.part_model.specs.Cells.{is_kept, calls_in}
 use Rattle.part_cells.specs.Slots.{is_awake, IsSettled, closed_cell, begun_cell, opened_cell}
 use Rattle.part_cells.proofs.Keeping.{empty_has}
 

@@ -10,10 +10,10 @@ use Rattle.turn_core.specs.declared.cell.Turn.{Turn}
 use Rattle.turn_core.specs.declared.cell.Waiter.{Waiter}
 use Rattle.turn_core.specs.Cell.{has_turn, turn_calls, first_unmoved, unmoved, is_free, next_call}
 use Rattle.turn_core.specs.CellSound.{In}
-use Rattle.part_cells.specs.declared.actor_cell.ActorCell.{ActorCell}
-use Rattle.part_cells.specs.Cells.{calls_in, total}
+use Rattle.part_model.specs.declared.actor_cell.ActorCell.{ActorCell}
+use Rattle.part_model.specs.Cells.{calls_in, total}
 use Rattle.part_cells.specs.Slots.{is_among, with_found, cells_in, AreSlotsKept, IsVisited, each_list, list_at, number_at, first_where, least_of, lesser_at, open_calls, late_calls, next_calls, opened_calls}
-use Rattle.part_cells.specs.Order.{AreInOrder}
+use Rattle.part_model.specs.Order.{AreInOrder}
 use Rattle.lists_and_limits.proofs.Elements.{In-right, In-append}
 use Rattle.part_cells.proofs.Placed.{front_apart, behind_apart, same_cells}
 

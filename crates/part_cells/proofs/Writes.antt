@@ -8,10 +8,10 @@ use Rattle.actor_names.specs.declared.actor_key.ActorKey.{ActorKey}
 use Rattle.turn_core.specs.Cell.{is_in_cell}
 use Rattle.turn_core.specs.CellSound.{HasCallsOnce}
 use Rattle.turn_core.proofs.Presence.{has_or_not, LeavesCell, JoinsCell, KeepsCalls, kept_presence, left_was, left_gone, left_others, joined_mine, joined_others}
-use Rattle.part_cells.specs.declared.actor_cell.ActorCell.{ActorCell}
-use Rattle.part_cells.specs.Cells.{put_cell, keep_cell, is_kept, calls_in}
-use Rattle.part_cells.proofs.Changes.{put-In}
-use Rattle.part_cells.proofs.Sizes.{within_total}
+use Rattle.part_model.specs.declared.actor_cell.ActorCell.{ActorCell}
+use Rattle.part_model.specs.Cells.{put_cell, keep_cell, is_kept, calls_in}
+use Rattle.part_model.proofs.Changes.{put-In}
+use Rattle.part_model.proofs.Sizes.{within_total}
 use Rattle.part_cells.specs.Slots.{cells_in, AreSlotsKept, IsSettled}
 use Rattle.part_cells.proofs.Placed.{cells-In}
 use Rattle.part_cells.proofs.Keeping.{changed, kept_changed}

@@ -12,9 +12,9 @@ use Rattle.turn_core.specs.declared.answer.CellEnd.TheVariants as ending
 use Rattle.turn_core.specs.Cell.{is_in_cell, AskStep, cell_end, next_call, begun_next, without_turns, with_queue_moved, turn_calls, unmoved}
 use Rattle.turn_core.specs.declared.cell.Waiter.{Waiter}
 use Rattle.turn_core.specs.CellSound.{In}
-use Rattle.part_cells.specs.declared.actor_cell.ActorCell.{ActorCell}
-use Rattle.part_cells.specs.Cells.{cell_at, keep_cell, is_kept, total_calls}
-use Rattle.part_cells.specs.Order.{AreInOrder}
+use Rattle.part_model.specs.declared.actor_cell.ActorCell.{ActorCell}
+use Rattle.part_model.specs.Cells.{cell_at, keep_cell, is_kept, total_calls}
+use Rattle.part_model.specs.Order.{AreInOrder}
 
 -- the slot that is noted under a call
 abbrev pub slot_of : List (ℕ × ℕ) → ℕ → Option ℕ

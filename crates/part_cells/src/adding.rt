@@ -2,13 +2,13 @@
 ghost use Rattle.std.specs.Prelude.{◌≡◌, ℕ, ◌<◌, ◌^◌, ◌==◌, None, OnOk, OnErr};
 ghost use Rattle.place_table.specs.Hosts.{key_place};
 ghost use Rattle.turn_core.specs.Cell.{is_in_cell};
-ghost use Rattle.part_cells.specs.Cells.{cell_at, cell_of_call, keep_cell, calls_in, total_calls};
+ghost use Rattle.part_model.specs.Cells.{cell_at, cell_of_call, keep_cell, calls_in, total_calls};
 ghost use Rattle.part_cells.specs.Slots.{IsSettled};
 
-use crate::actor_cell::ActorCell;
 use crate::cells::Cells;
 use crate::hashed_cell::HashedCell;
 use actor_names::OutOfMemory;
+use part_model::ActorCell;
 use std::alloc::Global;
 
 impl Cells {

@@ -2,12 +2,12 @@
 ghost use Rattle.std.specs.Prelude.{◌≡◌, ◌<◌, ◌^◌, ◌&&◌, not, None, IfSome, IsSome};
 ghost use Rattle.std.specs.Option.{option_copied};
 ghost use Rattle.turn_core.specs.Cell.{admit_call};
-ghost use Rattle.part_cells.specs.Cells.{cell_of_call, total_calls};
+ghost use Rattle.part_model.specs.Cells.{cell_of_call, total_calls};
 ghost use Rattle.part_cells.specs.Slots.{cell_of_slot, AsksAt};
 
-use crate::actor_cell::ActorCell;
 use crate::cells::Cells;
 use actor_names::ChainId;
+use part_model::ActorCell;
 use std::alloc::Global;
 use turn_core::{Asked, CellError};
 

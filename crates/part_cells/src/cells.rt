@@ -1,13 +1,13 @@
 // Cells in slots: found by key through a map in order of key, and by call through an index.
 ghost use Rattle.std.specs.Prelude.{◌≡◌, None, Some, [], length, MatchOption};
 ghost use Rattle.place_table.specs.Hosts.{key_place};
-ghost use Rattle.part_cells.specs.Cells.{cell_at, cell_of_call, total_calls};
+ghost use Rattle.part_model.specs.Cells.{cell_at, cell_of_call, total_calls};
 ghost use Rattle.part_cells.specs.Slots.{IsFoundAt};
 
-use crate::actor_cell::ActorCell;
 use crate::call_slots::CallSlots;
 use crate::hashed_cell::HashedCell;
 use actor_names::ActorKey;
+use part_model::ActorCell;
 use slab::Slab;
 use std::alloc::Global;
 use std::collections::BTreeMap;

@@ -1,7 +1,7 @@
 // The deactivation of an actor.
 ghost use Rattle.std.specs.Prelude.{◌≡◌, [], true, IfSome, option_map};
 ghost use Rattle.turn_core.specs.Cell.{call_of, next_call};
-ghost use Rattle.part_cells.specs.Cells.{keep_cell};
+ghost use Rattle.part_model.specs.Cells.{keep_cell};
 ghost use Rattle.part_cells.specs.Slots.{cell_of_slot, closed_cell};
 
 use crate::cells::Cells;

@@ -1,7 +1,7 @@
 // The end of open turns, in every cell for which a test holds.
 ghost use Rattle.std.specs.Prelude.{◌≡◌, ◌+◌, ◌≤◌, ◌++◌, length, map, vec_len, vec_capacity};
 ghost use Rattle.slab.specs.Slab.{get};
-ghost use Rattle.part_cells.specs.Cells.{calls_in, total, total_calls};
+ghost use Rattle.part_model.specs.Cells.{calls_in, total, total_calls};
 ghost use Rattle.part_cells.specs.Slots.{slot_of, cells_in, AreSlotsKept, IsVisited, each_list, number_at, late_cell, late_calls, late_number};
 
 use crate::call_slots::CallSlots;

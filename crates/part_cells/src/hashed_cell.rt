@@ -1,5 +1,5 @@
 // A cell beside the hash of its actor's id.
-use crate::actor_cell::ActorCell;
+use part_model::ActorCell;
 use std::marker::Model;
 
 /// A cell, and the `key_hash` of its actor's id, taken once. Contracts see the cell alone.
@@ -12,7 +12,7 @@ pub(crate) struct HashedCell {
 impl Model for HashedCell {
     ghost use Rattle.std.specs.Prelude.{◌≡◌};
     ghost use Rattle.place_table.specs.Hosts.{key_place};
-    ghost use Rattle.part_cells.specs.declared.actor_cell.ActorCell.{ActorCell};
+    ghost use Rattle.part_model.specs.declared.actor_cell.ActorCell.{ActorCell};
 
     ghost Value = { ActorCell };
 

@@ -1,7 +1,7 @@
 // Holds of an actor.
 ghost use Rattle.std.specs.Prelude.{◌≡◌, ◌<◌, ◌^◌, max, IfSome};
 ghost use Rattle.turn_core.specs.Cell.{with_hold, without_hold};
-ghost use Rattle.part_cells.specs.Cells.{keep_cell};
+ghost use Rattle.part_model.specs.Cells.{keep_cell};
 ghost use Rattle.part_cells.specs.Slots.{cell_of_slot};
 
 use crate::cells::Cells;

@@ -1,11 +1,10 @@
 // The cells of a part in slots, with a map from keys to slots, in order of key, and an index from calls to slots.
 //
 // Promise: `Cells` is seen as the list of its cells in order of key, and each of its changes is a change of that list,
-// as defined in `specs/Cells` and `specs/Slots`. The index has one entry for each call that is open or waits, and no
-// other. Depends on `turn_core`, `place_table`, `actor_names`, `lists_and_limits` and `slab`.
+// as defined in `specs/Cells` of `part_model` and in `specs/Slots`. The index has one entry for each call that is open or
+// waits, and no other. Depends on `part_model`, `turn_core`, `place_table`, `actor_names`, `lists_and_limits` and `slab`.
 #![tactic(auto)]
 
-mod actor_cell;
 mod adding;
 mod asking;
 mod call_slots;
@@ -21,7 +20,6 @@ mod passes;
 mod polling;
 mod stopping;
 
-pub use actor_cell::ActorCell;
 pub use cells::Cells;
 pub use passes::{CellNumber, CellTest};
 

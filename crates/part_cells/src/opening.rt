@@ -3,15 +3,15 @@ ghost use Rattle.std.specs.Prelude.{◌≡◌, ◌+◌, ◌≤◌, [], ◌∷◌
 ghost use Rattle.slab.specs.Slab.{get};
 ghost use Rattle.place_table.specs.Hosts.{key_place};
 ghost use Rattle.turn_core.specs.Cell.{call_of, next_call, begun_next};
-ghost use Rattle.part_cells.specs.Cells.{calls_in, total, total_calls};
+ghost use Rattle.part_model.specs.Cells.{calls_in, total, total_calls};
 ghost use Rattle.part_cells.specs.Slots.{slot_of, cells_in, AreSlotsKept, IsVisited, each_list, number_at, opened_cell, opened_calls, opened_moved};
 
-use crate::actor_cell::ActorCell;
 use crate::call_slots::CallSlots;
 use crate::cells::Cells;
 use crate::hashed_cell::HashedCell;
 use crate::passes::CellTest;
 use actor_names::ActorKey;
+use part_model::ActorCell;
 use slab::Slab;
 use std::collections::BTreeMap;
 use turn_core::Cell;

@@ -2,20 +2,20 @@
 ghost use Rattle.std.specs.Prelude.{◌≡◌, ◌<◌, ◌≤◌, ◌^◌, Bool, [], None, Some, length, IfSome, MatchOption};
 ghost use Rattle.std.specs.Option.{option_copied};
 ghost use Rattle.slab.specs.Slab.{get};
-ghost use Rattle.part_cells.specs.Cells.{total};
+ghost use Rattle.part_model.specs.Cells.{total};
 ghost use Rattle.part_cells.specs.Slots.{cells_in, with_found, first_where, one_where, number_at, least_of, lesser_at, IsFoundAt};
 
-use crate::actor_cell::ActorCell;
 use crate::cells::Cells;
 use crate::hashed_cell::HashedCell;
 use actor_names::ActorKey;
+use part_model::ActorCell;
 use slab::Slab;
 use std::collections::BTreeMap;
 
 /// A question about one cell.
 pub trait CellTest {
     ghost use Rattle.place_table.specs.Hosts.{key_place};
-    ghost use Rattle.part_cells.specs.declared.actor_cell.ActorCell.{ActorCell};
+    ghost use Rattle.part_model.specs.declared.actor_cell.ActorCell.{ActorCell};
 
     /// Whether the answer is yes.
     ghost holds: { Self → ActorCell → Bool };
@@ -99,7 +99,7 @@ fn count_in<T: CellTest>(
 /// A number that each cell has.
 pub trait CellNumber {
     ghost use Rattle.std.specs.Prelude.{ℕ};
-    ghost use Rattle.part_cells.specs.declared.actor_cell.ActorCell.{ActorCell};
+    ghost use Rattle.part_model.specs.declared.actor_cell.ActorCell.{ActorCell};
 
     /// The number.
     ghost number: { Self → ActorCell → ℕ };

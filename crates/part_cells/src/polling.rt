@@ -1,12 +1,12 @@
 // A moved call that is polled leaves its queue.
 ghost use Rattle.std.specs.Prelude.{◌≡◌, ◌&&◌, not, nat_le, length, IfSome};
 ghost use Rattle.turn_core.specs.Cell.{cell_poll};
-ghost use Rattle.part_cells.specs.Cells.{keep_cell};
+ghost use Rattle.part_model.specs.Cells.{keep_cell};
 ghost use Rattle.part_cells.specs.Slots.{cell_of_slot};
 
-use crate::actor_cell::ActorCell;
 use crate::cells::Cells;
 use crate::dropping::drop_at;
+use part_model::ActorCell;
 use turn_core::CellPoll;
 
 /// Whether the actor isn't active and at most one call waits.

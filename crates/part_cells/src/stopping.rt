@@ -1,7 +1,7 @@
 // The end of every turn and of every cell.
 ghost use Rattle.std.specs.Prelude.{◌≡◌, ◌+◌, ◌≤◌, ◌++◌, [], vec_len, vec_capacity};
 ghost use Rattle.slab.specs.Slab.{get};
-ghost use Rattle.part_cells.specs.Cells.{calls_in, total_calls};
+ghost use Rattle.part_model.specs.Cells.{calls_in, total_calls};
 ghost use Rattle.part_cells.specs.Slots.{cells_in, each_list, list_at, number_at, open_calls};
 
 use crate::cells::Cells;

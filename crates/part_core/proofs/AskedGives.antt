@@ -5,15 +5,15 @@ use Rattle.std.specs.declared.result.Result.{Result}
 use Rattle.std.specs.declared.result.Result.TheVariants.{Ok, Err}
 use Rattle.std.proofs.lemmas.Bool.{cond-false, lt-leb, le-ltb}
 use Rattle.actor_names.specs.declared.actor_key.ActorKey.{ActorKey}
-use Rattle.part_cells.specs.declared.actor_cell.ActorCell.{ActorCell}
-use Rattle.part_cells.specs.Cells.{cell_at, first_cell}
+use Rattle.part_model.specs.declared.actor_cell.ActorCell.{ActorCell}
+use Rattle.part_model.specs.Cells.{cell_at, first_cell}
 use Rattle.part_core.specs.declared.standing.Standing.{Standing}
-use Rattle.part_core.specs.declared.event.PartReply.{PartReply}
-use Rattle.part_core.specs.declared.event.PartReply.TheVariants as replies
-use Rattle.part_core.specs.Settings.{settings_of}
-use Rattle.part_core.specs.Marks.{marks_of_begin, begun_calls}
-use Rattle.part_core.specs.Part.{PartState, PartStep, is_stopped, is_spent, most_drawn, call_chain, ask_here, ask_found, ask_part, most_cells, ring_owner}
-use Rattle.part_core.specs.Rooms.{PartView, GivesInMemory}
+use Rattle.part_model.specs.Receipts.{PartReply}
+use Rattle.part_model.specs.declared.event.Reply.TheVariants as replies
+use Rattle.part_model.specs.Settings.{settings_of}
+use Rattle.part_model.specs.Marks.{marks_of_begin, begun_calls}
+use Rattle.part_model.specs.Part.{PartState, PartStep, is_stopped, is_spent, most_drawn, call_chain, ask_here, ask_found, ask_part, most_cells, ring_owner}
+use Rattle.part_model.specs.Rooms.{PartView, GivesInMemory}
 use Rattle.part_core.specs.Actors.{ActorsState, state_of, view_of, EntersBy}
 
 pub begun-marks_of_begin : (active : Bool) (key : ActorKey) (version call : ℕ) (chain : Option (List ℕ)) → begun_calls (marks_of_begin active key version call chain) ≡ call ∷ []

@@ -6,13 +6,13 @@ use Rattle.turn_core.specs.declared.answer.CellEnd.{CellEnd}
 use Rattle.turn_core.specs.declared.answer.CellEnd.TheVariants as ending
 use Rattle.turn_core.specs.Cell.{EndStep, call_of, next_call, without_call, cell_end}
 use Rattle.actor_names.specs.declared.actor_key.ActorKey.{ActorKey}
-use Rattle.part_cells.specs.declared.actor_cell.ActorCell.{ActorCell}
+use Rattle.part_model.specs.declared.actor_cell.ActorCell.{ActorCell}
 use Rattle.part_core.specs.declared.standing.Standing.{Standing}
-use Rattle.part_core.specs.declared.event.PartReply.TheVariants as replies
-use Rattle.part_cells.specs.Cells.{keep_cell, cell_of_call}
-use Rattle.part_core.specs.Marks.{marks_of_next, begun_calls}
-use Rattle.part_core.specs.Part.{PartStep, may_begin, ended_step, end_cell, end_part, ring_owner}
-use Rattle.part_core.specs.Rooms.{PartView, Gives}
+use Rattle.part_model.specs.declared.event.Reply.TheVariants as replies
+use Rattle.part_model.specs.Cells.{keep_cell, cell_of_call}
+use Rattle.part_model.specs.Marks.{marks_of_next, begun_calls}
+use Rattle.part_model.specs.Part.{PartStep, may_begin, ended_step, end_cell, end_part, ring_owner}
+use Rattle.part_model.specs.Rooms.{PartView, Gives}
 use Rattle.part_core.specs.Actors.{ActorsState, state_of, view_of, begun_next_in}
 use Rattle.part_core.proofs.AskedGives.{quiet, begun-marks_of_begin}
 use Rattle.part_core.proofs.Counts.{end_ended}

@@ -4,25 +4,25 @@ use Rattle.std.specs.Prelude.{nat_lt, ◌==◌, if◌then◌else◌}
 use Rattle.std.proofs.lemmas.Bool.{and_parts, and_from, cases_Bool, cond_both, cond-true, cond-false, eqb-false, ltb-true, ltb-false, leb-true, not-true, true≢false, false≢true}
 use Rattle.turn_core.specs.Cell.{is_free, unmoved}
 use Rattle.turn_core.specs.CellSound.{In}
-use Rattle.part_cells.specs.declared.actor_cell.ActorCell.{ActorCell}
+use Rattle.part_model.specs.declared.actor_cell.ActorCell.{ActorCell}
 use Rattle.part_cells.specs.Slots.{first_where}
 use Rattle.part_cells.proofs.SlotPasses.{least_le}
-use Rattle.part_core.specs.declared.stage.Stage.{Stage}
-use Rattle.part_core.specs.declared.stage.Stage.TheVariants.{Locked, Updated, Open, Stopped}
-use Rattle.part_core.specs.declared.event.PartEvent.{PartEvent}
-use Rattle.part_core.specs.declared.event.PartEvent.TheVariants as events
-use Rattle.part_core.specs.declared.event.PartReply.{PartReply}
-use Rattle.part_core.specs.declared.event.PartReply.TheVariants as replies
+use Rattle.part_model.specs.declared.stage.Stage.{Stage}
+use Rattle.part_model.specs.declared.stage.Stage.TheVariants.{Locked, Updated, Open, Stopped}
+use Rattle.part_model.specs.declared.event.PartEvent.{PartEvent}
+use Rattle.part_model.specs.declared.event.PartEvent.TheVariants as events
+use Rattle.part_model.specs.Receipts.{PartReply}
+use Rattle.part_model.specs.declared.event.Reply.TheVariants as replies
 use Rattle.part_core.specs.declared.standing.Standing.{Standing}
-use Rattle.part_core.specs.Settings.{settings_of}
-use Rattle.part_core.specs.Part.{PartState, PartStep, is_updated, is_foreign, is_idle, is_drained, may_close, first_to_close, close_cell, take_closing, step_at, part_step, ring_owner}
-use Rattle.part_core.specs.Marks.{begun_calls}
-use Rattle.part_core.specs.Rooms.{PartView, GivesStep}
+use Rattle.part_model.specs.Settings.{settings_of}
+use Rattle.part_model.specs.Part.{PartState, PartStep, is_updated, is_foreign, is_idle, is_drained, may_close, first_to_close, close_cell, take_closing, step_at, part_step, ring_owner}
+use Rattle.part_model.specs.Marks.{begun_calls}
+use Rattle.part_model.specs.Rooms.{PartView, GivesStep}
 use Rattle.part_core.specs.Actors.{ActorsState, no_actors, state_of, foreign_in, total_foreign, gives_some, may_close_if, IsForeignCounted}
 use Rattle.part_core.specs.Quiet.{is_resting, idle_from, idle_moment, IsQuietUntil, rest_end, first_idle, quiet_after, is_early, gives_none_at, gives_none}
 use Rattle.part_core.proofs.Foreigns.{dry, wet}
-use Rattle.part_core.proofs.PartLaws.{drained_owns}
-use Rattle.part_core.proofs.PartSteps.{In-first_to_close}
+use Rattle.part_model.proofs.PartLaws.{drained_owns}
+use Rattle.part_model.proofs.PartSteps.{In-first_to_close}
 
 -- ---- no owner is looked up where no active actor is foreign
 

@@ -8,19 +8,19 @@ use Rattle.place_table.specs.Hosts.{PlacementTable}
 use Rattle.turn_core.specs.declared.cell.Turn.{Turn}
 use Rattle.turn_core.specs.Cell.{is_free}
 use Rattle.turn_core.specs.CellSound.{In}
-use Rattle.part_core.specs.declared.stage.Stage.TheVariants.{Updated}
-use Rattle.part_core.specs.declared.event.PartReply.{PartReply}
-use Rattle.part_core.specs.declared.event.PartReply.TheVariants as replies
+use Rattle.part_model.specs.declared.stage.Stage.TheVariants.{Updated}
+use Rattle.part_model.specs.Receipts.{PartReply}
+use Rattle.part_model.specs.declared.event.Reply.TheVariants as replies
 use Rattle.part_core.specs.declared.standing.Standing.{Standing}
-use Rattle.part_cells.specs.declared.actor_cell.ActorCell.{ActorCell}
-use Rattle.part_cells.specs.Cells.{cell_at}
+use Rattle.part_model.specs.declared.actor_cell.ActorCell.{ActorCell}
+use Rattle.part_model.specs.Cells.{cell_at}
 use Rattle.part_core.specs.Actors.{ActorsState, no_actors, state_of, view_of, total_foreign, is_closed, gives_some, IsStandingKept}
-use Rattle.part_core.specs.Part
-use Rattle.part_core.specs.Part.{PartState, PartStep, CellStep, is_own, is_foreign, is_overdue, is_updated, is_drained, tick_cell, each_cell, refused, receipt_of, ring_owner}
-use Rattle.part_core.specs.Sound.{IsActorSound, IsPartSound}
-use Rattle.part_core.specs.Rooms.{PartView, Gives, GivesInMemory}
-use Rattle.part_core.proofs.PartWrites.{updated_stage}
-use Rattle.part_core.proofs.PartLaws.{drained_owns}
+use Rattle.part_model.specs.Part
+use Rattle.part_model.specs.Part.{PartState, PartStep, CellStep, is_own, is_foreign, is_overdue, is_updated, is_drained, tick_cell, each_cell, refused, receipt_of, ring_owner}
+use Rattle.part_model.specs.Sound.{IsActorSound, IsPartSound}
+use Rattle.part_model.specs.Rooms.{PartView, Gives, GivesInMemory}
+use Rattle.part_model.proofs.PartWrites.{updated_stage}
+use Rattle.part_model.proofs.PartLaws.{drained_owns}
 use Rattle.part_core.proofs.Foreigns.{closes_foreign, ticks_foreign}
 
 module _ (owner : PlacementTable → ActorKey → Option HostInfo) where

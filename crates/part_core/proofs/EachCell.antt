@@ -1,6 +1,6 @@
 -- The calls in marks.
 use Rattle.std.proofs.Common.{◌≡◌, ℕ, List, [], ◌∷◌, ◌++◌, refl, ap}
-use Rattle.part_core.specs.Marks.{PartMark, TurnBegan, TurnEnded, BecameActive, BecameInactive, PartOpened, begun_calls, ended_calls}
+use Rattle.part_model.specs.Marks.{PartMark, TurnBegan, TurnEnded, BecameActive, BecameInactive, PartOpened, begun_calls, ended_calls}
 
 pub begun-append : (xs ys : List PartMark) → begun_calls (xs ++ ys) ≡ begun_calls xs ++ begun_calls ys
 begun-append [] ys = refl

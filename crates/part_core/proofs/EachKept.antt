@@ -7,15 +7,15 @@ use Rattle.turn_core.specs.declared.cell.Turn.{Turn}
 use Rattle.turn_core.specs.declared.cell.Waiter.{Waiter}
 use Rattle.turn_core.specs.Cell.{is_free, next_call, turn_calls}
 use Rattle.turn_core.proofs.Leaves.{begins_keeps, moved_keeps}
-use Rattle.part_cells.specs.declared.actor_cell.ActorCell.{ActorCell}
-use Rattle.part_cells.specs.Cells.{calls_in, total, total_calls}
+use Rattle.part_model.specs.declared.actor_cell.ActorCell.{ActorCell}
+use Rattle.part_model.specs.Cells.{calls_in, total, total_calls}
 use Rattle.part_cells.specs.Slots.{each_list, open_calls, late_cell, late_calls, late_number, next_calls, begun_cell, opened_cell, opened_calls, opened_moved}
-use Rattle.part_core.specs.Marks.{marks_of_next, marks_of_ends, marks_of_inactive, marks_of_stop, begun_calls, ended_calls}
-use Rattle.part_core.specs.Part.{PartState, CellStep, each_cell, is_own, is_foreign, is_overdue, open_cell, tick_cell, begin_in, move_in, ring_owner}
+use Rattle.part_model.specs.Marks.{marks_of_next, marks_of_ends, marks_of_inactive, marks_of_stop, begun_calls, ended_calls}
+use Rattle.part_model.specs.Part.{PartState, CellStep, each_cell, is_own, is_foreign, is_overdue, open_cell, tick_cell, begin_in, move_in, ring_owner}
 use Rattle.part_core.specs.Actors.{IsNumbered, AreActorsKept}
 use Rattle.part_core.proofs.Numbers.{numbered_next, next_in_queue, numbered_moved, numbered_stopped}
 use Rattle.part_core.proofs.AskedGives.{begun-marks_of_begin}
-use Rattle.part_core.proofs.PartOrders.{In-each_cell, length-each_cell}
+use Rattle.part_model.proofs.PartOrders.{In-each_cell, length-each_cell}
 use Rattle.part_core.proofs.EachCell.{begun-append, ended-append, append_nil}
 
 -- ---- cells, marks and counts, by what one cell gives

@@ -9,7 +9,7 @@ use Rattle.turn_core.specs.Cell.{CellState, AskStep, kept_chain, with_waiter, ad
 use Rattle.turn_core.proofs.CellSteps.{ask_cases}
 use Rattle.turn_core.proofs.Presence.{JoinsCell}
 use Rattle.turn_core.proofs.Joins.{asked_joins}
-use Rattle.part_cells.specs.declared.actor_cell.ActorCell.{ActorCell}
+use Rattle.part_model.specs.declared.actor_cell.ActorCell.{ActorCell}
 use Rattle.part_cells.specs.Slots.{IsSettled}
 use Rattle.part_cells.proofs.Settled.{awake_settled, queue_kept}
 use Rattle.part_core.specs.Actors.{IsFirstCell, IsNumbered, is_begun}

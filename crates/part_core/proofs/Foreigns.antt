@@ -9,20 +9,20 @@ use Rattle.turn_core.specs.declared.cell.Waiter.{Waiter}
 use Rattle.turn_core.specs.Cell.{AskStep, EndStep, PollStep, is_free, is_first_chain, is_open_chain, kept_chain, has_turn, waiter_of, without_waiter, without_call, begun_next, next_call, admit_call, poll_waiter, not_open, with_turn, with_waiter, with_hold, without_hold}
 use Rattle.turn_core.specs.CellSound.{In}
 use Rattle.turn_core.proofs.CellSteps.{first_chain}
-use Rattle.part_core.specs.declared.stage.Stage.{Stage}
-use Rattle.part_core.specs.declared.stage.Stage.TheVariants.{Updated}
-use Rattle.part_cells.specs.declared.actor_cell.ActorCell.{ActorCell}
-use Rattle.part_cells.specs.Cells.{cell_at, cell_of_call, keep_cell, is_kept, total}
-use Rattle.part_cells.proofs.Changes.{at-In}
-use Rattle.part_cells.proofs.Elements.{In-cell_at, key-cell_at}
-use Rattle.part_cells.proofs.Sizes.{total-keep-changed, total-keep-missing}
+use Rattle.part_model.specs.declared.stage.Stage.{Stage}
+use Rattle.part_model.specs.declared.stage.Stage.TheVariants.{Updated}
+use Rattle.part_model.specs.declared.actor_cell.ActorCell.{ActorCell}
+use Rattle.part_model.specs.Cells.{cell_at, cell_of_call, keep_cell, is_kept, total}
+use Rattle.part_model.proofs.Changes.{at-In}
+use Rattle.part_model.proofs.Elements.{In-cell_at, key-cell_at}
+use Rattle.part_model.proofs.Sizes.{total-keep-changed, total-keep-missing}
 use Rattle.part_core.specs.Actors.{foreign_in, total_foreign, is_closed}
-use Rattle.part_core.specs.Part
-use Rattle.part_core.specs.Part.{PartState, PartStep, CellStep, asked_step, ask_cell, found_or_first, is_spent, is_open, is_own, is_foreign, may_begin, no_active_foreign, is_drained, each_cell}
-use Rattle.part_core.specs.Sound.{IsPartSound}
-use Rattle.part_core.proofs.CellLaws.{In-cell_of_call, admit_cases}
-use Rattle.part_core.proofs.PartSteps.{In-first_to_close}
-use Rattle.part_core.proofs.PartWrites.{open_stage, updated_not_open, at_found_or_first}
+use Rattle.part_model.specs.Part
+use Rattle.part_model.specs.Part.{PartState, PartStep, CellStep, asked_step, ask_cell, found_or_first, is_spent, is_open, is_own, is_foreign, may_begin, no_active_foreign, is_drained, each_cell}
+use Rattle.part_model.specs.Sound.{IsPartSound}
+use Rattle.part_model.proofs.CellLaws.{In-cell_of_call, admit_cases}
+use Rattle.part_model.proofs.PartSteps.{In-first_to_close}
+use Rattle.part_model.proofs.PartWrites.{open_stage, updated_not_open, at_found_or_first}
 
 -- each cell changes and keeps its number
 pub total-each_cell : (w : ActorCell → ℕ) (f : ActorCell → CellStep) (cs : List ActorCell) → ((c : ActorCell) → w (f c).cell ≡ w c) → total w (each_cell f cs).cells ≡ total w cs

@@ -5,13 +5,13 @@ use Rattle.std.proofs.lemmas.Bool.{cond-true, cond-false, le-leb, lt-leb}
 use Rattle.actor_names.specs.declared.actor_key.ActorKey.{ActorKey}
 use Rattle.turn_core.specs.declared.cell.Waiter.{Waiter}
 use Rattle.turn_core.specs.Cell.{call_of, next_call, begun_next, with_hold, without_hold}
-use Rattle.part_cells.specs.declared.actor_cell.ActorCell.{ActorCell}
+use Rattle.part_model.specs.declared.actor_cell.ActorCell.{ActorCell}
 use Rattle.part_core.specs.declared.standing.Standing.{Standing}
-use Rattle.part_core.specs.declared.event.PartReply.TheVariants as replies
-use Rattle.part_cells.specs.Cells.{cell_at, keep_cell}
-use Rattle.part_core.specs.Marks.{begun_calls, marks_of_next}
-use Rattle.part_core.specs.Part.{PartStep, is_open, is_own, is_spent, most_drawn, hold_cell, hold_part, release_cell, release_part, first_to_close, close_cell, take_closing, closed_with, closed_cell, closed_part, ring_owner}
-use Rattle.part_core.specs.Rooms.{PartView, Gives, GivesInMemory}
+use Rattle.part_model.specs.declared.event.Reply.TheVariants as replies
+use Rattle.part_model.specs.Cells.{cell_at, keep_cell}
+use Rattle.part_model.specs.Marks.{begun_calls, marks_of_next}
+use Rattle.part_model.specs.Part.{PartStep, is_open, is_own, is_spent, most_drawn, hold_cell, hold_part, release_cell, release_part, first_to_close, close_cell, take_closing, closed_with, closed_cell, closed_part, ring_owner}
+use Rattle.part_model.specs.Rooms.{PartView, Gives, GivesInMemory}
 use Rattle.part_core.specs.Actors.{ActorsState, state_of, view_of, begun_next_in}
 use Rattle.part_core.proofs.AskedGives.{quiet}
 use Rattle.part_core.proofs.CallGives.{begun-marks_of_next}

@@ -8,13 +8,13 @@ use Rattle.turn_core.specs.declared.answer.CellError.{CellError}
 use Rattle.turn_core.specs.declared.answer.CellError.TheVariants as deny
 use Rattle.turn_core.specs.Cell.{AskStep, admit_call}
 use Rattle.turn_core.proofs.Joins.{asked_joins}
-use Rattle.part_cells.specs.declared.actor_cell.ActorCell.{ActorCell}
-use Rattle.part_cells.specs.Cells.{cell_at, cell_of_call, insert_cell, drop_cell, put_cell, keep_cell, calls_in, total_calls, is_kept}
+use Rattle.part_model.specs.declared.actor_cell.ActorCell.{ActorCell}
+use Rattle.part_model.specs.Cells.{cell_at, cell_of_call, insert_cell, drop_cell, put_cell, keep_cell, calls_in, total_calls, is_kept}
 use Rattle.part_cells.specs.Slots.{CellsView, IsFoundAt, AsksAt}
-use Rattle.part_cells.proofs.Elements.{In-cell_at, In-keep_cell}
+use Rattle.part_model.proofs.Elements.{In-cell_at, In-keep_cell}
 use Rattle.part_cells.proofs.Keeping.{of_call_none}
-use Rattle.part_cells.proofs.Changes.{put-missing}
-use Rattle.part_cells.proofs.Sizes.{length-keep-found, length-insert_cell, total-keep-found, total-keep-missing}
+use Rattle.part_model.proofs.Changes.{put-missing}
+use Rattle.part_model.proofs.Sizes.{length-keep-found, length-insert_cell, total-keep-found, total-keep-missing}
 use Rattle.part_core.specs.Actors.{IsNumbered, AreActorsKept}
 use Rattle.part_core.proofs.Numbers.{numbered_more, numbered_absent, numbered_asked}
 

@@ -8,7 +8,7 @@ use Rattle.actor_names.specs.declared.error.NameError.TheVariants.{Empty, TooLon
 use Rattle.actor_names.specs.Names.{is_node_byte, is_chain_byte, first_bad, node_fault, chain_id_fault, HasForm}
 use Rattle.actor_names.specs.NameLengths.{most-text_fault}
 use Rattle.actor_names.proofs.FormFaults.{without_fault}
-use Rattle.part_core.specs.Part.{made_chain}
+use Rattle.part_model.specs.Part.{made_chain}
 
 -- ---- bytes
 

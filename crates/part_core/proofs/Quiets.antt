@@ -11,20 +11,20 @@ use Rattle.turn_core.specs.declared.cell.Waiter.{Waiter}
 use Rattle.turn_core.specs.Cell.{AskStep, EndStep, PollStep, is_free, is_open_chain, kept_chain, has_turn, waiter_of, without_waiter, without_call, begun_next, next_call, admit_call, poll_waiter, not_open, with_turn, with_waiter, with_hold, without_hold}
 use Rattle.turn_core.specs.CellSound.{In}
 use Rattle.turn_core.proofs.CellSteps.{free_turns}
-use Rattle.part_core.specs.declared.settings.TypeSettings.{TypeSettings}
-use Rattle.part_core.specs.declared.stage.Stage.{Stage}
-use Rattle.part_core.specs.declared.stage.Stage.TheVariants.{Locked, Updated, Open, Stopped}
-use Rattle.part_core.specs.declared.event.PartEvent.{PartEvent}
-use Rattle.part_core.specs.declared.event.PartEvent.TheVariants as events
-use Rattle.part_cells.specs.declared.actor_cell.ActorCell.{ActorCell}
-use Rattle.part_cells.specs.Cells.{cell_at, cell_of_call, keep_cell}
-use Rattle.part_cells.proofs.Elements.{In-cell_at, In-keep_cell}
-use Rattle.part_core.specs.Settings.{default_settings, settings_or, settings_of}
-use Rattle.part_core.specs.Part
-use Rattle.part_core.specs.Part.{PartState, PartStep, CellStep, asked_step, ask_cell, ask_owned, found_or_first, is_spent, is_open, is_updated, is_locked, is_own, is_drained, may_begin, each_cell}
+use Rattle.part_model.specs.declared.settings.TypeSettings.{TypeSettings}
+use Rattle.part_model.specs.declared.stage.Stage.{Stage}
+use Rattle.part_model.specs.declared.stage.Stage.TheVariants.{Locked, Updated, Open, Stopped}
+use Rattle.part_model.specs.declared.event.PartEvent.{PartEvent}
+use Rattle.part_model.specs.declared.event.PartEvent.TheVariants as events
+use Rattle.part_model.specs.declared.actor_cell.ActorCell.{ActorCell}
+use Rattle.part_model.specs.Cells.{cell_at, cell_of_call, keep_cell}
+use Rattle.part_model.proofs.Elements.{In-cell_at, In-keep_cell}
+use Rattle.part_model.specs.Settings.{default_settings, settings_or, settings_of}
+use Rattle.part_model.specs.Part
+use Rattle.part_model.specs.Part.{PartState, PartStep, CellStep, asked_step, ask_cell, ask_owned, found_or_first, is_spent, is_open, is_updated, is_locked, is_own, is_drained, may_begin, each_cell}
 use Rattle.part_core.specs.Quiet.{is_resting, idle_from, idle_moment, IsQuietUntil, least_or, least_idle, lowered}
-use Rattle.part_core.proofs.CellLaws.{In-cell_of_call, not_nil_after, admit_cases}
-use Rattle.part_core.proofs.PartOrders.{In-each_cell}
+use Rattle.part_model.proofs.CellLaws.{In-cell_of_call, not_nil_after, admit_cases}
+use Rattle.part_model.proofs.PartOrders.{In-each_cell}
 
 -- ---- idle times
 

@@ -1,12 +1,12 @@
 -- The step of a part that has not stopped.
 use Rattle.std.proofs.Common.{◌≡◌, false, refl, subst}
-use Rattle.part_core.specs.declared.stage.Stage.{Stage}
-use Rattle.part_core.specs.declared.stage.Stage.TheVariants.{Locked, Updated, Open, Stopped}
-use Rattle.part_core.specs.declared.event.PartEvent.{PartEvent}
-use Rattle.part_core.specs.declared.event.PartEvent.TheVariants as events
-use Rattle.part_core.specs.declared.event.PartReply.{PartReply}
-use Rattle.part_core.specs.Part.{PartState, PartStep, is_stopped, running_step, step_at, part_step, ring_owner}
-use Rattle.part_core.specs.Rooms.{PartView, Gives, GivesEnded, GivesInMemory, GivesRunning, GivesStep}
+use Rattle.part_model.specs.declared.stage.Stage.{Stage}
+use Rattle.part_model.specs.declared.stage.Stage.TheVariants.{Locked, Updated, Open, Stopped}
+use Rattle.part_model.specs.declared.event.PartEvent.{PartEvent}
+use Rattle.part_model.specs.declared.event.PartEvent.TheVariants as events
+use Rattle.part_model.specs.Receipts.{PartReply}
+use Rattle.part_model.specs.Part.{PartState, PartStep, is_stopped, running_step, step_at, part_step, ring_owner}
+use Rattle.part_model.specs.Rooms.{PartView, Gives, GivesEnded, GivesInMemory, GivesRunning, GivesStep}
 use Rattle.std.proofs.lemmas.Bool.{true≢false}
 
 pub not_stopped : (s : Stage) → (s ≡ Stopped → ⊥) → is_stopped s ≡ false

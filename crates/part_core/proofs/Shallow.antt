@@ -4,8 +4,8 @@ use Rattle.std.specs.Prelude.{if◌then◌else◌, bytes_eq}
 use Rattle.std.proofs.lemmas.Bool.{cond_both}
 use Rattle.std.proofs.lemmas.List.Elements.{All-head, All-tail}
 use Rattle.turn_core.specs.Cell.{greatest_depth}
-use Rattle.part_core.specs.declared.settings.TypeSettings.{TypeSettings}
-use Rattle.part_core.specs.Settings.{default_settings, settings_or, settings_of, AreShallow}
+use Rattle.part_model.specs.declared.settings.TypeSettings.{TypeSettings}
+use Rattle.part_model.specs.Settings.{default_settings, settings_or, settings_of, AreShallow}
 
 shallow_or : (found : TypeSettings) (ts : List TypeSettings) (kind : List ℕ) → found.depth ≤ greatest_depth → AreShallow ts → (settings_or found ts kind).depth ≤ greatest_depth
 shallow_or found [] kind f a = f

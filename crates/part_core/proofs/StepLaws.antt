@@ -1,17 +1,17 @@
 -- What each step of a part keeps and reports, by what it gives.
 use Rattle.std.proofs.Common.{◌≡◌, ℕ, ◌≤◌, ◌&&◌, true, ap, arith}
 use Rattle.std.proofs.lemmas.Bool.{and_parts, cond_both, false≢true}
-use Rattle.part_core.specs.declared.event.PartEvent.{PartEvent}
-use Rattle.part_core.specs.declared.event.PartEvent.TheVariants as events
-use Rattle.part_core.specs.declared.event.PartReply.{PartReply}
-use Rattle.part_core.specs.declared.event.PartReply.TheVariants as replies
-use Rattle.part_core.specs.Part.{PartState, part_step, ring_owner}
+use Rattle.part_model.specs.declared.event.PartEvent.{PartEvent}
+use Rattle.part_model.specs.declared.event.PartEvent.TheVariants as events
+use Rattle.part_model.specs.Receipts.{PartReply}
+use Rattle.part_model.specs.declared.event.Reply.TheVariants as replies
+use Rattle.part_model.specs.Part.{PartState, part_step, ring_owner}
 use Rattle.part_core.specs.Quiet.{IsQuietUntil, lowered, quiet_after, quiet_next, is_early, gives_none}
-use Rattle.part_core.specs.Rooms.{PartView, Gives, GivesEnded, GivesInMemory, GivesStep, IsInRange}
-use Rattle.part_core.specs.Sound.{IsPartSound, AreVersionsWithin, OwnsWhenOpen, TellsState}
-use Rattle.part_core.proofs.PartTables.{part_stepped}
-use Rattle.part_core.proofs.PartTells.{part_honest}
-use Rattle.part_core.proofs.PartLaws.{moves_within, moves_own}
+use Rattle.part_model.specs.Rooms.{PartView, Gives, GivesEnded, GivesInMemory, GivesStep, IsInRange}
+use Rattle.part_model.specs.Sound.{IsPartSound, AreVersionsWithin, OwnsWhenOpen, TellsState}
+use Rattle.part_model.proofs.PartTables.{part_stepped}
+use Rattle.part_model.proofs.PartTells.{part_honest}
+use Rattle.part_model.proofs.PartLaws.{moves_within, moves_own}
 use Rattle.part_core.proofs.Quiets.{stays_quiet, lowered_less}
 use Rattle.part_core.proofs.Closings.{quiet_then}
 

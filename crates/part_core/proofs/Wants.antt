@@ -14,14 +14,14 @@ use Rattle.turn_core.specs.declared.answer.CellError.TheVariants as deny
 use Rattle.turn_core.specs.declared.answer.CellPoll.{CellPoll}
 use Rattle.turn_core.specs.declared.answer.CellPoll.TheVariants as polling
 use Rattle.turn_core.specs.Cell.{CellState, is_open_chain, cell_poll, admit_call}
-use Rattle.part_cells.specs.declared.actor_cell.ActorCell.{ActorCell}
-use Rattle.part_cells.specs.Cells.{cell_at, cell_of_call}
-use Rattle.part_core.specs.declared.event.PartEvent.{PartEvent}
-use Rattle.part_core.specs.declared.event.PartEvent.TheVariants as events
-use Rattle.part_core.specs.declared.event.PartReply.{PartReply}
-use Rattle.part_core.specs.declared.event.PartReply.TheVariants as replies
-use Rattle.part_core.specs.Part.{PartState, PartStep, is_spent, most_drawn, is_open, is_stopped, is_full, found_or_first, call_chain, asked_step, ask_cell, ask_owned, ask_here, ask_part, owner_reply, polled_step, poll_cell, poll_part, first_to_close, close_cell, take_closing, stopped_step, running_step, part_step, ring_owner}
-use Rattle.part_core.specs.Rooms.{ask_takes, hands_out, RunsOutFor, RunsOutRunning, RunsOutRightly}
+use Rattle.part_model.specs.declared.actor_cell.ActorCell.{ActorCell}
+use Rattle.part_model.specs.Cells.{cell_at, cell_of_call}
+use Rattle.part_model.specs.declared.event.PartEvent.{PartEvent}
+use Rattle.part_model.specs.declared.event.PartEvent.TheVariants as events
+use Rattle.part_model.specs.Receipts.{PartReply}
+use Rattle.part_model.specs.declared.event.Reply.TheVariants as replies
+use Rattle.part_model.specs.Part.{PartState, PartStep, is_spent, most_drawn, is_open, is_stopped, is_full, found_or_first, call_chain, asked_step, ask_cell, ask_owned, ask_here, ask_part, owner_reply, polled_step, poll_cell, poll_part, first_to_close, close_cell, take_closing, stopped_step, running_step, part_step, ring_owner}
+use Rattle.part_model.specs.Rooms.{ask_takes, hands_out, RunsOutFor, RunsOutRunning, RunsOutRightly}
 use Rattle.part_core.proofs.Runnings.{running}
 
 -- ---- an Ask that the first tests let go on

@@ -14,15 +14,15 @@ use Rattle.turn_core.specs.declared.answer.CellError.{CellError}
 use Rattle.turn_core.specs.declared.answer.CellError.TheVariants as deny
 use Rattle.turn_core.specs.Cell.{CellState, new_cell}
 use Rattle.turn_core.specs.CellSound.{In}
-use Rattle.part_cells.specs.declared.actor_cell.ActorCell.{ActorCell}
-use Rattle.part_cells.specs.Cells.{total, total_calls}
+use Rattle.part_model.specs.declared.actor_cell.ActorCell.{ActorCell}
+use Rattle.part_model.specs.Cells.{total, total_calls}
 use Rattle.part_core.specs.declared.standing.Standing.{Standing}
-use Rattle.part_core.specs.declared.event.PartReply.{PartReply}
-use Rattle.part_core.specs.declared.event.PartReply.TheVariants as replies
-use Rattle.part_core.specs.Part.{PartState, PartStep, ask_cell, ask_owned, ask_here, refused, is_open, is_updated, is_foreign, is_owned_by, is_idle, ring_owner}
+use Rattle.part_model.specs.Receipts.{PartReply}
+use Rattle.part_model.specs.declared.event.Reply.TheVariants as replies
+use Rattle.part_model.specs.Part.{PartState, PartStep, ask_cell, ask_owned, ask_here, refused, is_open, is_updated, is_foreign, is_owned_by, is_idle, ring_owner}
 use Rattle.part_core.specs.Quiet.{is_resting}
-use Rattle.part_core.specs.Rooms.{PartView}
-use Rattle.part_core.specs.Settings.{AreShallow}
+use Rattle.part_model.specs.Rooms.{PartView}
+use Rattle.part_model.specs.Settings.{AreShallow}
 
 pub record ActorsState : Type 0 where
   pub drawn : ℕ

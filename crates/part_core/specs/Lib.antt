@@ -1,12 +1,2 @@
-pub mod Receipts
-pub mod Settings
-pub mod Marks
-pub mod Part
-pub mod Sound
-pub mod Rooms
 pub mod Actors
 pub mod Quiet
-pub mod PartMoves
-pub mod Activity
-pub mod PartRuns
-pub mod Machine

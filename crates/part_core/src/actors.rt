@@ -1,11 +1,11 @@
 // The actors of a part: their cells, the numbers drawn, and the calls of the last step.
 ghost use Rattle.std.specs.Prelude.{◌≡◌, []};
 ghost use Rattle.part_core.specs.Actors.{state_of, view_of};
-ghost use Rattle.part_core.specs.Part.{draw_part, ring_owner};
-ghost use Rattle.part_core.specs.Rooms.{Gives};
+ghost use Rattle.part_model.specs.Part.{draw_part, ring_owner};
+ghost use Rattle.part_model.specs.Rooms.{Gives};
 ghost use Rattle.part_core.specs.declared.standing.Standing.{Standing};
 
-use crate::event::PartReply;
+use crate::receipt::PartReply;
 use part_cells::Cells;
 use std::alloc::Global;
 use std::marker::Model;

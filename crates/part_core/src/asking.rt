@@ -2,16 +2,15 @@
 ghost use Rattle.std.specs.Prelude.{◌≡◌, true, ◌<◌, ◌≤◌, ◌++◌, ◌+◌, IsSome, length, vec_len, vec_capacity};
 ghost use Rattle.std.specs.Option.{option_copied};
 ghost use Rattle.place_table.specs.Hosts.{key_place};
-ghost use Rattle.part_core.specs.Part.{is_owned_by, ring_owner};
+ghost use Rattle.part_model.specs.Part.{is_owned_by, ring_owner};
 ghost use Rattle.part_core.specs.Actors.{Enters, EntersOwned, IsOwnIfActive, is_begun, reply_by, begun_by, refusal_by, begun_next_in};
 
 use crate::chains::carries;
-use crate::event::PartReply;
 use crate::owners::owner_host;
-use crate::stage::Stage;
+use crate::receipt::PartReply;
 use crate::standing::Standing;
 use actor_names::ChainId;
-use part_cells::ActorCell;
+use part_model::{ActorCell, Stage};
 use std::alloc::Global;
 use turn_core::{Asked, CellError};
 

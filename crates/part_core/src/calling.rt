@@ -1,22 +1,22 @@
 // Calls of a part's actors: asked, polled and ended.
 ghost use Rattle.std.specs.Prelude.{◌≡◌, ◌<◌, ◌≤◌, ◌^◌, [], None, false, length, IsSome};
 ghost use Rattle.place_table.specs.Hosts.{key_place};
-ghost use Rattle.part_cells.specs.Cells.{cell_at};
+ghost use Rattle.part_model.specs.Cells.{cell_at};
 ghost use Rattle.part_core.specs.Actors.{state_of, view_of, IsFirstCell, HasRunOut};
-ghost use Rattle.part_core.specs.Part.{is_stopped, ask_part, ask_found, ask_cell, poll_part, end_part, ring_owner};
-ghost use Rattle.part_core.specs.Rooms.{Gives, GivesInMemory, RunsOutFor, hands_out};
-ghost use Rattle.part_core.specs.Settings.{AreShallow};
-ghost use Rattle.part_core.specs.Sound.{OwnsWhenOpen};
+ghost use Rattle.part_model.specs.Part.{is_stopped, ask_part, ask_found, ask_cell, poll_part, end_part, ring_owner};
+ghost use Rattle.part_model.specs.Rooms.{Gives, GivesInMemory, RunsOutFor, hands_out};
+ghost use Rattle.part_model.specs.Settings.{AreShallow};
+ghost use Rattle.part_model.specs.Sound.{OwnsWhenOpen};
 
 use crate::actors::{Actors, MOST_CELLS, MOST_DRAWN};
 use crate::asking::{accepted, enter, has_begun, note_next, refused};
 use crate::chains::{call_chain, copy_chain};
-use crate::event::PartReply;
 use crate::owners::{may_hand_over, moved_reply};
+use crate::receipt::PartReply;
 use crate::settings::depth_of;
 use crate::standing::Standing;
 use actor_names::{ActorKey, ChainId};
-use part_cells::ActorCell;
+use part_model::ActorCell;
 use place_table::key_hash;
 use turn_core::{Cell, CellEnd, CellPoll};
 

@@ -3,7 +3,7 @@ ghost use Rattle.std.specs.Prelude.{◌≡◌, ◌+◌, ◌<◌, ◌^◌, ◌==�
 ghost use Rattle.std.specs.Option.{option_copied};
 ghost use Rattle.actor_names.specs.Names.{chain_id_fault};
 ghost use Rattle.turn_core.specs.Cell.{is_open_chain};
-ghost use Rattle.part_core.specs.Part.{made_chain, chain_or};
+ghost use Rattle.part_model.specs.Part.{made_chain, chain_or};
 
 use crate::standing::Standing;
 use actor_names::{ChainId, Member, NameError, OutOfMemory, read_chain_id};

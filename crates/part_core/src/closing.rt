@@ -1,19 +1,20 @@
 // The deactivation of actors: an actor is taken, and later its deactivation call ends.
 ghost use Rattle.std.specs.Prelude.{◌≡◌, ◌&&◌, false};
 ghost use Rattle.part_core.specs.Actors.{IsForeignCounted, no_actors, state_of, view_of, is_closed, gives_some, may_close_if};
-ghost use Rattle.part_core.specs.Part.{is_stopped, is_idle, take_closing, closed_part, is_foreign, ring_owner};
-ghost use Rattle.part_core.specs.Sound.{OwnsWhenOpen};
-ghost use Rattle.part_core.specs.Rooms.{Gives, GivesInMemory, RunsOutFor, hands_out};
+ghost use Rattle.part_model.specs.Part.{is_stopped, is_idle, take_closing, closed_part, is_foreign, ring_owner};
+ghost use Rattle.part_model.specs.Sound.{OwnsWhenOpen};
+ghost use Rattle.part_model.specs.Rooms.{Gives, GivesInMemory, RunsOutFor, hands_out};
 
 use crate::actors::Actors;
 use crate::asking::note_next;
-use crate::event::PartReply;
 use crate::holding::is_resting;
 use crate::owners::{is_own, is_served};
+use crate::receipt::PartReply;
 use crate::settings::idle_of;
 use crate::standing::{Standing, gives_some};
 use actor_names::ActorKey;
-use part_cells::{ActorCell, CellTest};
+use part_cells::CellTest;
+use part_model::ActorCell;
 use place_table::key_hash;
 
 /// Whether no call waits but moved ones, and the idle time of the actor's type has passed since its last turn or

@@ -1,15 +1,15 @@
 // Holds of actors, which keep them from being deactivated.
 ghost use Rattle.std.specs.Prelude.{◌≡◌, ◌&&◌, not};
 ghost use Rattle.part_core.specs.Actors.{state_of, view_of};
-ghost use Rattle.part_core.specs.Part.{hold_part, release_part, ring_owner};
+ghost use Rattle.part_model.specs.Part.{hold_part, release_part, ring_owner};
 ghost use Rattle.part_core.specs.Quiet.{is_resting};
-ghost use Rattle.part_core.specs.Rooms.{Gives};
+ghost use Rattle.part_model.specs.Rooms.{Gives};
 
 use crate::actors::{Actors, MOST_DRAWN};
-use crate::event::PartReply;
+use crate::receipt::PartReply;
 use crate::standing::Standing;
 use actor_names::ActorKey;
-use part_cells::ActorCell;
+use part_model::ActorCell;
 
 /// Whether the actor is active and isn't closing.
 pub(crate) fn is_awake(cell: &ActorCell) -> bool

@@ -1,8 +1,8 @@
 // One part of a sidecar: the actors whose keys fall into it, its stage in a placement round and its table.
 //
-// Promise: each step of a `Part` follows the part's state machine (`specs/Part`). As a machine (`specs/Machine`) it
-// can be put behind a gate. Depends on `state_machine`, `part_cells`, `place_table`, `turn_core`, `actor_names` and
-// `lists_and_limits`.
+// Promise: each step of a `Part` follows the part's state machine (`specs/Part` of `part_model`). As a machine
+// (`specs/Machine` there) it can be put behind a gate. Depends on `part_model`, `part_cells`, `state_machine`,
+// `place_table`, `turn_core`, `actor_names` and `lists_and_limits`.
 #![tactic(auto)]
 
 mod actors;
@@ -10,9 +10,7 @@ mod asking;
 mod calling;
 mod chains;
 mod closing;
-mod event;
 mod holding;
-mod law;
 mod machine;
 mod opening;
 mod owners;
@@ -26,8 +24,5 @@ mod standing;
 mod stopping;
 mod ticking;
 
-pub use event::{PartEvent, PartReply};
-pub use law::{part_law, part_turns_law};
 pub use part::Part;
-pub use receipt::{Receipt, SeenStage};
-pub use settings::{PartSettings, TypeList, TypeSettings};
+pub use receipt::{PartReply, Receipt};

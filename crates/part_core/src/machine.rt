@@ -1,11 +1,12 @@
 // A part as a machine: its step, and which waiting calls are woken by a reply.
-use crate::event::{PartEvent, PartReply};
 use crate::part::Part;
+use crate::receipt::PartReply;
+use part_model::PartEvent;
 use state_machine::{Machine, News};
 
 impl Machine for Part {
-    ghost use Rattle.part_core.specs.Rooms.{IsInRange};
-    ghost use Rattle.part_core.specs.Machine.{PartAllows};
+    ghost use Rattle.part_model.specs.Rooms.{IsInRange};
+    ghost use Rattle.part_model.specs.Machine.{PartAllows};
 
     type Event = PartEvent;
 

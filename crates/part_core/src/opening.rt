@@ -1,13 +1,14 @@
 // The opening of a part: waiting calls begin in its own cells, and are moved in those of other owners.
 ghost use Rattle.std.specs.Prelude.{◌≡◌};
 ghost use Rattle.part_core.specs.Actors.{no_actors, state_of};
-ghost use Rattle.part_core.specs.Marks.{begun_calls};
-ghost use Rattle.part_core.specs.Part.{is_own, open_cell, each_cell, ring_owner};
+ghost use Rattle.part_model.specs.Marks.{begun_calls};
+ghost use Rattle.part_model.specs.Part.{is_own, open_cell, each_cell, ring_owner};
 
 use crate::actors::Actors;
 use crate::owners::is_own;
 use crate::standing::Standing;
-use part_cells::{ActorCell, CellTest};
+use part_cells::CellTest;
+use part_model::ActorCell;
 
 /// Whether the actor belongs to this member.
 #[derive(Drop)]

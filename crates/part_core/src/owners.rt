@@ -3,19 +3,19 @@ ghost use Rattle.std.specs.Prelude.{◌≡◌, ◌<◌, ◌&&◌, not, length, I
 ghost use Rattle.std.specs.Option.{option_copied};
 ghost use Rattle.place_table.specs.Hosts.{key_place};
 ghost use Rattle.part_core.specs.Actors.{no_actors, state_of, total_foreign, IsOwnIfActive};
-ghost use Rattle.part_core.specs.Part.{ring_owner, is_owned_by, is_open, is_foreign, owner_reply};
+ghost use Rattle.part_model.specs.Part.{ring_owner, is_owned_by, is_open, is_foreign, owner_reply};
 
 use crate::actors::Actors;
-use crate::event::PartReply;
-use crate::stage::Stage;
+use crate::receipt::PartReply;
 use crate::standing::Standing;
 use actor_names::{ActorKey, OutOfMemory};
-use part_cells::{ActorCell, CellTest};
+use part_cells::CellTest;
+use part_model::{ActorCell, Stage};
 use place_table::{HostInfo, Table};
 use std::alloc::Global;
 
 /// The host that owns the actor, whose id has this `key_hash`.
-#[tactic(auto, unfolding(crate::specs::Part::ring_owner))]
+#[tactic(auto, unfolding(part_model::specs::Part::ring_owner))]
 pub(crate) fn owner_host<'a>(table: &'a Table, key: &ActorKey, hash: u64) -> Option<&'a HostInfo>
     requires { hash ≡ key_place key.now.id }
     ensures { option_copied result ≡ ring_owner table.now key.now }

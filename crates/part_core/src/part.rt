@@ -1,17 +1,16 @@
 // A part of a sidecar.
 ghost use Rattle.std.specs.Prelude.{◌≡◌, [], IfOk, IfSome};
-ghost use Rattle.part_core.specs.Part.{new_part, receipt_of, ring_owner};
-ghost use Rattle.part_core.specs.Rooms.{GivesStep, RunsOutRightly, IsInRange};
-ghost use Rattle.part_core.specs.Settings.{AreShallow};
-ghost use Rattle.part_core.specs.Sound.{NoIdleWaiter, IsPartSound, AreVersionsWithin, OwnsWhenOpen, receipt_in};
+ghost use Rattle.part_model.specs.Part.{new_part, receipt_of, ring_owner};
+ghost use Rattle.part_model.specs.Rooms.{GivesStep, RunsOutRightly, IsInRange};
+ghost use Rattle.part_model.specs.Settings.{AreShallow};
+ghost use Rattle.part_model.specs.Sound.{NoIdleWaiter, IsPartSound, AreVersionsWithin, OwnsWhenOpen, receipt_in};
 
 use crate::actors::Actors;
-use crate::event::{PartEvent, PartReply};
-use crate::settings::PartSettings;
+use crate::receipt::PartReply;
 use crate::shard::Shard;
-use crate::stage::Stage;
 use crate::standing::Standing;
 use actor_names::OutOfMemory;
+use part_model::{PartEvent, PartSettings, Stage};
 use place_table::build_table;
 use std::alloc::Global;
 use std::marker::Model;
@@ -25,10 +24,10 @@ pub struct Part {
 }
 
 impl Model for Part {
-    ghost use Rattle.part_core.specs.Part.{ring_owner};
+    ghost use Rattle.part_model.specs.Part.{ring_owner};
     ghost use Rattle.part_core.specs.Quiet.{IsQuietUntil};
-    ghost use Rattle.part_core.specs.Rooms.{PartView};
-    ghost use Rattle.part_core.specs.Sound.{IsPartSound, AreVersionsWithin, OwnsWhenOpen};
+    ghost use Rattle.part_model.specs.Rooms.{PartView};
+    ghost use Rattle.part_model.specs.Sound.{IsPartSound, AreVersionsWithin, OwnsWhenOpen};
 
     ghost Value = { PartView };
 

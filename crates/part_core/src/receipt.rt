@@ -3,22 +3,8 @@ ghost use Rattle.std.specs.Prelude.{◌≡◌, ◌≤◌, ◌^◌};
 ghost use Rattle.actor_names.specs.Same.{same_member};
 
 use actor_names::Member;
+use part_model::{Reply, SeenStage};
 use std::marker::Model;
-
-/// The stage of a part as a receipt gives it.
-#[derive(Clone, Copy, Debug, PartialEq, Eq)]
-pub enum SeenStage {
-    /// No new chain begins.
-    Locked,
-    /// The round's table is installed, and some active actor belongs to another owner.
-    Draining,
-    /// The round's table is installed, and no active actor belongs to another owner.
-    Drained,
-    /// Actors that the installed table gives to this member begin.
-    Open,
-    /// Nothing happens any more.
-    Stopped,
-}
 
 /// The state of a part after one of its steps. Only a step of a part makes one. A copy takes no memory.
 #[derive(Clone, Copy, Debug)]
@@ -32,7 +18,7 @@ pub struct Receipt {
 
 impl Model for Receipt {
     ghost use Rattle.std.specs.Prelude.{◌≤◌, ◌^◌};
-    ghost use Rattle.part_core.specs.Receipts.{ReceiptState};
+    ghost use Rattle.part_model.specs.Receipts.{ReceiptState};
 
     ghost Value = { ReceiptState };
 
@@ -109,3 +95,6 @@ impl Receipt {
         self.member == *member
     }
 }
+
+/// What a part answers.
+pub type PartReply = Reply<Receipt>;

@@ -1,17 +1,17 @@
 // Until when no actor may be idle: before that moment a part answers at once that it has no actor to deactivate.
 ghost use Rattle.std.specs.Prelude.{◌≡◌};
-ghost use Rattle.part_core.specs.Part.{ring_owner};
+ghost use Rattle.part_model.specs.Part.{ring_owner};
 ghost use Rattle.part_core.specs.Quiet.{idle_from, least_idle, rest_moment, lowered, rest_end, first_idle, quiet_after, quiet_next, is_early, gives_none, IsQuietUntil};
-ghost use Rattle.part_core.specs.Rooms.{GivesStep, RunsOutRightly, IsInRange};
-ghost use Rattle.part_core.specs.Sound.{IsPartSound, OwnsWhenOpen};
+ghost use Rattle.part_model.specs.Rooms.{GivesStep, RunsOutRightly, IsInRange};
+ghost use Rattle.part_model.specs.Sound.{IsPartSound, OwnsWhenOpen};
 
-use crate::event::{PartEvent, PartReply};
 use crate::holding::is_resting;
-use crate::settings::{TypeSettings, idle_of};
+use crate::receipt::PartReply;
+use crate::settings::idle_of;
 use crate::shard::Shard;
-use crate::stage::Stage;
 use crate::standing::gives_some;
-use part_cells::{ActorCell, CellNumber};
+use part_cells::CellNumber;
+use part_model::{ActorCell, PartEvent, Stage, TypeSettings};
 
 /// From which moment on an actor of this idle time may be idle, if its last turn or hold ended at `last`.
 fn idle_from(idle: u64, last: u64) -> u64

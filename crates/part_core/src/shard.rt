@@ -1,16 +1,16 @@
 // A part as a state machine: what it is, and its actors.
 ghost use Rattle.std.specs.Prelude.{◌≡◌, ◌≤◌, ◌^◌, false, true, []};
-ghost use Rattle.part_core.specs.Part.{is_stopped, unchanged, lock_part, update_part, unlock_part, tick_part, stop_part, closed_part, running_step, stopped_step, part_step, receipt_of, ring_owner};
-ghost use Rattle.part_core.specs.Rooms.{Gives, GivesEnded, GivesRunning, GivesStep, RunsOutRunning, RunsOutRightly, IsInRange};
-ghost use Rattle.part_core.specs.Sound.{IsPartSound, OwnsWhenOpen};
+ghost use Rattle.part_model.specs.Part.{is_stopped, unchanged, lock_part, update_part, unlock_part, tick_part, stop_part, closed_part, running_step, stopped_step, part_step, receipt_of, ring_owner};
+ghost use Rattle.part_model.specs.Rooms.{Gives, GivesEnded, GivesRunning, GivesStep, RunsOutRunning, RunsOutRightly, IsInRange};
+ghost use Rattle.part_model.specs.Sound.{IsPartSound, OwnsWhenOpen};
 
 use crate::actors::Actors;
 use crate::closing::{gives_up, is_closed};
-use crate::event::{PartEvent, PartReply};
-use crate::receipt::Receipt;
-use crate::stage::{Stage, is_locked, is_updated};
+use crate::receipt::{PartReply, Receipt};
+use crate::stage::{is_locked, is_updated};
 use crate::standing::Standing;
 use actor_names::ActorKey;
+use part_model::{PartEvent, Stage};
 use place_table::Table;
 use std::marker::Model;
 
@@ -22,7 +22,7 @@ pub(crate) struct Shard {
 }
 
 impl Model for Shard {
-    ghost use Rattle.part_core.specs.Rooms.{PartView};
+    ghost use Rattle.part_model.specs.Rooms.{PartView};
     ghost use Rattle.part_core.specs.Actors.{view_of, IsStandingKept};
 
     ghost Value = { PartView };

@@ -1,20 +1,8 @@
-// The stages of a part.
+// Which stage a part is in.
 ghost use Rattle.std.specs.Prelude.{◌≡◌};
-ghost use Rattle.part_core.specs.Part.{is_locked, is_updated};
+ghost use Rattle.part_model.specs.Part.{is_locked, is_updated};
 
-/// Where a part is in the rounds of the placement. The version of a stage is the greatest version that the part
-/// has seen.
-#[derive(Clone, Copy)]
-pub(crate) enum Stage {
-    /// No new chain begins.
-    Locked,
-    /// The table of the round is installed, and actors of other owners are given up.
-    Updated,
-    /// Actors that the table gives to this member begin.
-    Open,
-    /// Nothing happens any more.
-    Stopped,
-}
+use part_model::Stage;
 
 /// Whether it is Locked.
 pub(crate) fn is_locked(stage: &Stage) -> bool

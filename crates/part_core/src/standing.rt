@@ -1,12 +1,12 @@
 // What a part is apart from its actors.
 ghost use Rattle.std.specs.Prelude.{◌≡◌, ◌≤◌, ◌^◌, true};
 ghost use Rattle.part_core.specs.Actors.{ActorsState, IsForeignCounted, gives_some, state_of, total_foreign};
-ghost use Rattle.part_core.specs.Part.{PartState, is_updated, seen_stage, receipt_of, ring_owner};
+ghost use Rattle.part_model.specs.Part.{PartState, is_updated, seen_stage, receipt_of, ring_owner};
 
-use crate::receipt::{Receipt, SeenStage};
-use crate::settings::TypeList;
-use crate::stage::{Stage, is_updated};
+use crate::receipt::Receipt;
+use crate::stage::is_updated;
 use actor_names::Member;
+use part_model::{SeenStage, Stage, TypeList};
 use place_table::Table;
 
 /// Whose part it is, its settings, its stage and its table.

@@ -1,6 +1,6 @@
 // The stop of a part: every turn ends and every cell is dropped.
 ghost use Rattle.std.specs.Prelude.{◌≡◌, []};
-ghost use Rattle.part_core.specs.Marks.{ended_calls, marks_of_stop};
+ghost use Rattle.part_model.specs.Marks.{ended_calls, marks_of_stop};
 
 use crate::actors::Actors;
 

@@ -2,14 +2,15 @@
 ghost use Rattle.std.specs.Prelude.{◌≡◌, ◌&&◌, not};
 ghost use Rattle.turn_core.specs.Cell.{is_free};
 ghost use Rattle.part_core.specs.Actors.{no_actors, state_of};
-ghost use Rattle.part_core.specs.Marks.{ended_calls};
-ghost use Rattle.part_core.specs.Part.{is_foreign, is_overdue, tick_cell, each_cell, ring_owner};
+ghost use Rattle.part_model.specs.Marks.{ended_calls};
+ghost use Rattle.part_model.specs.Part.{is_foreign, is_overdue, tick_cell, each_cell, ring_owner};
 
 use crate::actors::Actors;
 use crate::owners::is_own;
 use crate::settings::drain_of;
 use crate::standing::Standing;
-use part_cells::{ActorCell, CellTest};
+use part_cells::CellTest;
+use part_model::ActorCell;
 
 /// Whether the drain time of the actor's type has passed since the table was installed. If the clock went back, it
 /// has not, not even a drain time of 0.

@@ -5,7 +5,8 @@ use actor_names::{
     ActorKey, ActorType, default_space, read_actor_type, read_address, read_app_id, read_key,
     read_member,
 };
-use part_core::{Part, PartEvent, PartReply, PartSettings, TypeList};
+use part_core::{Part, PartReply};
+use part_model::{PartEvent, PartSettings, TypeList};
 use place_table::{ActorTypes, HostInfo, Table, build_table};
 use std::alloc::Global;
 

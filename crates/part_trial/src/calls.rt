@@ -1,6 +1,7 @@
 // Calls of actors.
 use crate::actors::{busy_part, key_of, take_turn};
-use part_core::{PartEvent, PartReply};
+use part_core::PartReply;
+use part_model::PartEvent;
 use std::alloc::Global;
 
 // The actor of a round: each in turn.

@@ -1,7 +1,8 @@
 // A part with as many actors as it may have, each with one call, and a table of many hosts and types.
 use crate::actors::{key_of, open_part, table_for, table_of};
 use crate::tables::find_owners;
-use part_core::{Part, PartEvent, PartReply};
+use part_core::{Part, PartReply};
+use part_model::PartEvent;
 use std::alloc::Global;
 
 // One call of each actor begins or waits.

@@ -15,7 +15,8 @@
 //     limits ACTORS HOSTS     a call of each of ACTORS actors begins at an Unlock, ends at a Tick, and again at a
 //                             StopPart; an owner is looked up in a table of HOSTS hosts of 32 types
 //
-// It prints how many of these there were, of `limits` how many actors. It promises nothing of its own. Depends on part_core, place_table and
+// It prints how many of these there were, of `limits` how many actors. It promises nothing of its own. Depends on
+// part_model, part_core, place_table and
 // actor_names.
 #![tactic(auto)]
 

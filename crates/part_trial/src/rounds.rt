@@ -1,6 +1,7 @@
 // Tables and time: steps that concern all actors.
 use crate::actors::{busy_part, table_of};
-use part_core::{PartEvent, PartReply};
+use part_core::PartReply;
+use part_model::PartEvent;
 use std::alloc::Global;
 
 /// Ticks between an Update and its Unlock.

@@ -1,7 +1,7 @@
 -- Folds over lists, element by element.
 use Rattle.std.proofs.Common.{◌≡◌, ◌∙◌, ℕ, zero, suc, ◌+◌, ◌<◌, Bool, true, false, List, [], ◌∷◌, ◌++◌, length, drop, Option, Some, None, Ok, Err, sym, ap, arith, append_assoc, add-one, get_or}
 use Rattle.std.specs.Prelude.{◌||◌}
-use Rattle.part_core.specs.Receipts.{ReceiptState}
+use Rattle.part_model.specs.Receipts.{ReceiptState}
 use Rattle.step_gate.specs.declared.gate.Spent.{Spent}
 use Rattle.sidecar_node.specs.Turns.{Said, first_spent}
 use Rattle.placement_beats.specs.Answers.{receipt_said, says_stopped, any_stopped, with_receipt, receipts_of}

@@ -4,19 +4,19 @@ use Rattle.std.specs.Prelude.{◌||◌, ◌&&◌, ◌==◌, nat_lt, if◌then◌
 use Rattle.actor_names.specs.declared.member.Member.{Member}
 use Rattle.place_table.specs.declared.host.HostInfo.{HostInfo}
 use Rattle.place_table.specs.declared.ack_stage.AckStage.{AckStage}
-use Rattle.part_core.specs.declared.event.PartReply.{PartReply}
-use Rattle.part_core.specs.declared.event.PartReply.TheVariants as replies
-use Rattle.part_core.specs.declared.stage.Stage.{Stage}
-use Rattle.part_core.specs.declared.stage.Stage.TheVariants.{Locked, Updated, Open, Stopped}
-use Rattle.part_core.specs.Receipts.{ReceiptState}
-use Rattle.part_core.specs.Part.{PartState, PartStep, part_step, step_at, running_step, is_updated, is_locked, refused, each_cell, tick_cell, ticked_with, changed_to, unchanged, is_drained, open_part, receipt_of}
+use Rattle.part_model.specs.Receipts.{PartReply}
+use Rattle.part_model.specs.declared.event.Reply.TheVariants as replies
+use Rattle.part_model.specs.declared.stage.Stage.{Stage}
+use Rattle.part_model.specs.declared.stage.Stage.TheVariants.{Locked, Updated, Open, Stopped}
+use Rattle.part_model.specs.Receipts.{ReceiptState}
+use Rattle.part_model.specs.Part.{PartState, PartStep, part_step, step_at, running_step, is_updated, is_locked, refused, each_cell, tick_cell, ticked_with, changed_to, unchanged, is_drained, open_part, receipt_of}
 use Rattle.sidecar_node.specs.declared.rounds.RoundEvent.{RoundEvent}
 use Rattle.sidecar_node.specs.declared.rounds.RoundEvent.TheVariants as rounds
 use Rattle.sidecar_node.specs.Rounds.{part_event}
 use Rattle.actor_names.specs.declared.actor_key.ActorKey.{ActorKey}
 use Rattle.place_table.specs.Hosts.{PlacementTable}
 use Rattle.step_gate.specs.declared.gate.Spent.{Spent}
-use Rattle.member_core.specs.declared.ack.Ack.{Ack}
+use Rattle.part_model.specs.declared.ack.Ack.{Ack}
 use Rattle.member_core.specs.declared.ack.CollectError.{CollectError}
 use Rattle.frame_wire.specs.declared.frame.Frame.TheVariants as frames
 use Rattle.sidecar_node.specs.Turns.{Said, first_spent}

@@ -3,11 +3,12 @@ use Rattle.std.proofs.Common.{◌≡◌, ℕ, ◌+◌, ◌≤◌, ◌<◌, ◌^�
 use Rattle.std.specs.Prelude.{◌==◌, nat_lt, if◌then◌else◌}
 use Rattle.std.proofs.lemmas.Bool.{ltb-true, eqb-true}
 use Rattle.place_table.specs.declared.ack_stage.AckStage.{AckStage}
-use Rattle.part_core.specs.Receipts.{ReceiptState}
+use Rattle.part_model.specs.Receipts.{ReceiptState}
 use Rattle.actor_names.specs.declared.member.Member.{Member}
-use Rattle.member_core.specs.declared.ack.Ack.{Ack}
-use Rattle.member_core.specs.Acks.{shown_ack, shown_stage, stage_rank, is_as_far, collected, collect_answer, answer_of, other_place, Shows}
-use Rattle.member_core.proofs.Collects.{collected_shown}
+use Rattle.part_model.specs.declared.ack.Ack.{Ack}
+use Rattle.part_model.specs.Acks.{shown_ack, shown_stage, stage_rank, is_as_far, collected, other_place, Shows}
+use Rattle.member_core.specs.Answers.{collect_answer, answer_of}
+use Rattle.part_model.proofs.Collects.{collected_shown}
 use Rattle.placement_beats.specs.Beats.{IsShort}
 
 far_version : (a b : Ack) → is_as_far a b ≡ true → b.version ≤ a.version

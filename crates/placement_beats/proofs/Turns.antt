@@ -5,11 +5,11 @@ use Rattle.actor_ports.specs.Traffic.{Traffic}
 use Rattle.http_edge.specs.Carry.{Carried, nothing, Over}
 use Rattle.http_edge.proofs.Carried.{over_nothing}
 use Rattle.place_table.specs.declared.host.HostInfo.{HostInfo}
-use Rattle.member_core.specs.declared.ack.Ack.{Ack}
+use Rattle.part_model.specs.declared.ack.Ack.{Ack}
 use Rattle.member_core.specs.declared.ack.CollectError.{CollectError}
-use Rattle.member_core.specs.Acks.{collect_answer}
-use Rattle.part_core.specs.Receipts.{ReceiptState}
-use Rattle.part_core.specs.declared.event.PartEvent.TheVariants as events
+use Rattle.member_core.specs.Answers.{collect_answer}
+use Rattle.part_model.specs.Receipts.{ReceiptState}
+use Rattle.part_model.specs.declared.event.PartEvent.TheVariants as events
 use Rattle.frame_wire.specs.declared.frame.Frame.{Frame}
 use Rattle.frame_wire.specs.declared.frame.Frame.TheVariants as frames
 use Rattle.frame_wire.specs.declared.refusal.Refusal.{Refusal}

@@ -1,9 +1,9 @@
 -- What the parts of a node answered to one event, a part each in order. Own.
 use Rattle.std.specs.Prelude.{◌≡◌, Bool, true, false, ◌||◌, List, [], ◌∷◌, Option, Some, None, Ok, Err}
-use Rattle.part_core.specs.declared.event.PartReply.{PartReply}
-use Rattle.part_core.specs.declared.event.PartReply.TheVariants.{TableStep, Opened, NotDrained, Ticked, StoppedNow}
-use Rattle.part_core.specs.Receipts.{ReceiptState}
-use Rattle.member_core.specs.Acks.{is_stopped_stage}
+use Rattle.part_model.specs.Receipts.{PartReply}
+use Rattle.part_model.specs.declared.event.Reply.TheVariants.{TableStep, Opened, NotDrained, Ticked, StoppedNow}
+use Rattle.part_model.specs.Receipts.{ReceiptState}
+use Rattle.part_model.specs.Acks.{is_stopped_stage}
 use Rattle.step_gate.specs.declared.gate.Spent.{Spent}
 use Rattle.sidecar_node.specs.Turns.{Said, first_spent}
 use Rattle.placement_beats.specs.declared.book.TurnEnd.{TurnEnd}

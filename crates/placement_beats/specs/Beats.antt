@@ -3,11 +3,12 @@ use Rattle.std.specs.Prelude.{◌≡◌, ◌⊎◌, ◌<◌, ◌≤◌, ◌^◌,
 use Rattle.actor_ports.specs.Traffic.{Traffic}
 use Rattle.http_edge.specs.Carry.{Carried, nothing, Over}
 use Rattle.place_table.specs.declared.host.HostInfo.{HostInfo}
-use Rattle.member_core.specs.declared.ack.Ack.{Ack}
+use Rattle.part_model.specs.declared.ack.Ack.{Ack}
 use Rattle.member_core.specs.declared.ack.CollectError.{CollectError}
-use Rattle.member_core.specs.Acks.{stage_rank, collect_answer, leave_answer}
+use Rattle.part_model.specs.Acks.{stage_rank}
+use Rattle.member_core.specs.Answers.{collect_answer, leave_answer}
 use Rattle.step_gate.specs.declared.gate.Spent.{Spent}
-use Rattle.part_core.specs.declared.event.PartEvent.TheVariants as events
+use Rattle.part_model.specs.declared.event.PartEvent.TheVariants as events
 use Rattle.frame_wire.specs.declared.frame.Frame.{Frame}
 use Rattle.frame_wire.specs.declared.frame.Frame.TheVariants as frames
 use Rattle.frame_wire.specs.Frames.{frame_bytes}

@@ -1,6 +1,6 @@
 // What the parts answered to one event.
 ghost use Rattle.std.specs.Prelude.{◌≡◌, ◌≤◌, [], ◌∷◌, length, vec_len, vec_capacity, true, false, IfOk, OnErr};
-ghost use Rattle.part_core.specs.Rooms.{IsInRange};
+ghost use Rattle.part_model.specs.Rooms.{IsInRange};
 ghost use Rattle.sidecar_node.specs.Turns.{first_spent};
 ghost use Rattle.sidecar_node.specs.Rounds.{part_event, MayWantMemory};
 ghost use Rattle.sidecar_node.specs.Nodes.{part_gates, IsSeatsOf, GivesEach};
@@ -8,7 +8,8 @@ ghost use Rattle.placement_beats.specs.Answers.{receipt_in, is_stop, receipt_sai
 
 use crate::book::TurnEnd;
 use lists_and_limits::OutOfMemory;
-use part_core::{PartReply, Receipt, SeenStage};
+use part_core::{PartReply, Receipt};
+use part_model::SeenStage;
 use sidecar_node::{RoundEvent, Seats, SidecarNode};
 use std::alloc::Global;
 use std::sync::Wait;

@@ -1,7 +1,8 @@
 // The frame of a turn, sent, and the frame that comes back.
 ghost use Rattle.std.specs.Prelude.{◌≡◌, ◌<◌, ◌≤◌, ◌^◌, length, Some, None, IfOk, OnOk, IfSome};
 ghost use Rattle.http_edge.specs.Carry.{Carried, Over};
-ghost use Rattle.member_core.specs.Acks.{stage_rank, collect_answer};
+ghost use Rattle.part_model.specs.Acks.{stage_rank};
+ghost use Rattle.member_core.specs.Answers.{collect_answer};
 ghost use Rattle.frame_wire.specs.declared.frame.Frame.TheVariants as frames;
 ghost use Rattle.frame_wire.specs.Frames.{payload, frame_bytes};
 ghost use Rattle.frame_exchange.specs.Exchanges.{ExchangesFrame, EndCause};

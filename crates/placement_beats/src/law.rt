@@ -3,14 +3,14 @@ ghost use Rattle.std.specs.Prelude.{◌≡◌, ◌⊎◌, false, Option, None, S
 ghost use Rattle.actor_names.specs.declared.actor_key.ActorKey.{ActorKey};
 ghost use Rattle.actor_names.specs.declared.member.Member.{Member};
 ghost use Rattle.place_table.specs.Hosts.{PlacementTable};
-ghost use Rattle.part_core.specs.declared.event.PartReply.TheVariants as replies;
-ghost use Rattle.part_core.specs.Part.{PartState, part_step};
-ghost use Rattle.part_core.specs.Receipts.{ReceiptState};
+ghost use Rattle.part_model.specs.declared.event.Reply.TheVariants as replies;
+ghost use Rattle.part_model.specs.Part.{PartState, part_step};
+ghost use Rattle.part_model.specs.Receipts.{ReceiptState};
 ghost use Rattle.sidecar_node.specs.declared.rounds.RoundEvent.{RoundEvent};
 ghost use Rattle.sidecar_node.specs.Rounds.{part_event};
 ghost use Rattle.place_table.specs.declared.ack_stage.AckStage.{AckStage};
 ghost use Rattle.place_table.specs.declared.host.HostInfo.{HostInfo};
-ghost use Rattle.member_core.specs.declared.ack.Ack.{Ack};
+ghost use Rattle.part_model.specs.declared.ack.Ack.{Ack};
 ghost use Rattle.member_core.specs.declared.ack.CollectError.{CollectError};
 ghost use Rattle.frame_wire.specs.declared.frame.Frame.TheVariants as frames;
 ghost use Rattle.sidecar_node.specs.Turns.{Said};

@@ -1,7 +1,7 @@
 // The turn in which a sidecar leaves.
 ghost use Rattle.std.specs.Prelude.{◌≡◌, ◌⊎◌, ◌<◌, ◌≤◌, length, Some, None, Ok, true, IsTrue, IfOk};
 ghost use Rattle.http_edge.specs.Carry.{nothing, Over};
-ghost use Rattle.member_core.specs.Acks.{leave_answer};
+ghost use Rattle.member_core.specs.Answers.{leave_answer};
 ghost use Rattle.frame_wire.specs.declared.frame.Frame.TheVariants as frames;
 ghost use Rattle.frame_wire.specs.Frames.{payload};
 ghost use Rattle.sidecar_node.specs.Turns.{first_spent};

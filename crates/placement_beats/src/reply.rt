@@ -1,6 +1,6 @@
 // What the placement's reply means, and how the parts are given it.
 ghost use Rattle.std.specs.Prelude.{◌≡◌, ◌≤◌, ◌^◌, true, false, length, Some, IfOk, IfSome};
-ghost use Rattle.part_core.specs.Rooms.{IsInRange};
+ghost use Rattle.part_model.specs.Rooms.{IsInRange};
 ghost use Rattle.frame_wire.specs.Frames.{IsFrame};
 ghost use Rattle.sidecar_node.specs.Rounds.{part_event, MayWantMemory};
 ghost use Rattle.sidecar_node.specs.Nodes.{host_of, part_gates, IsSeatsOf};

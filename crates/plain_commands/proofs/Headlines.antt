@@ -1,6 +1,6 @@
 -- The headline holds of every script that a replay ran.
 use Rattle.std.proofs.Common.{ℕ, List, take}
-use Rattle.part_core.specs.Part.{ring_owner}
+use Rattle.part_model.specs.Part.{ring_owner}
 use Rattle.world_events.specs.Solo.{SoloEvent}
 use Rattle.world_events.specs.declared.event.WorldEvent.{WorldEvent}
 use Rattle.world_events.specs.declared.settings.WorldSettings.{WorldSettings}

@@ -3,7 +3,7 @@ use Rattle.std.proofs.Common.{◌≡◌, ◌⊎◌, inl, inr, ◌+◌, ◌≤◌
 use Rattle.std.specs.Prelude.{fold, suc, nat_lt, codes, if◌then◌else◌, Result}
 use Rattle.std.proofs.lemmas.Bool.{cond_both}
 use Rattle.std.proofs.lemmas.List.{append_assoc, append-nil}
-use Rattle.part_core.specs.Part.{ring_owner}
+use Rattle.part_model.specs.Part.{ring_owner}
 use Rattle.world_events.specs.Solo.{SoloEvent}
 use Rattle.world_events.specs.declared.event.WorldEvent.{WorldEvent}
 use Rattle.world_events.specs.declared.outcome.Outcome.{Outcome}

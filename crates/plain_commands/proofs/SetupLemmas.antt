@@ -1,8 +1,8 @@
 -- The settings with which a cluster script opens its world.
 use Rattle.std.proofs.Common.{◌≡◌, ℕ, List, [], ◌∷◌, map, refl, ap, arith}
 use Rattle.std.specs.Prelude.{suc, zero}
-use Rattle.part_core.specs.declared.settings.TypeSettings.{TypeSettings}
-use Rattle.part_core.specs.Settings.{AreShallow}
+use Rattle.part_model.specs.declared.settings.TypeSettings.{TypeSettings}
+use Rattle.part_model.specs.Settings.{AreShallow}
 use Rattle.plain_commands.specs.Scripts.{Setup, type_settings}
 use Rattle.plain_commands.specs.SetupTold.{timed, type_depth}
 

@@ -2,7 +2,7 @@
 -- it could run. Own: docs/cluster.md, docs/turns.md.
 use Rattle.std.specs.Prelude.{◌≡◌, ℕ, List, take}
 use Rattle.actor_names.specs.Names.{before_slash}
-use Rattle.part_core.specs.Part.{ring_owner}
+use Rattle.part_model.specs.Part.{ring_owner}
 use Rattle.turn_core.specs.CellMarks.{TurnsIsolated}
 use Rattle.world_events.specs.Solo.{SoloEvent}
 use Rattle.world_events.specs.declared.event.WorldEvent.{WorldEvent}

@@ -1,6 +1,6 @@
 -- The program's settings of a cluster script against what its lines name.
 use Rattle.std.specs.Prelude.{◌≡◌, ℕ, List, [], Result, Ok, Err}
-use Rattle.part_core.specs.declared.settings.TypeSettings.{TypeSettings}
+use Rattle.part_model.specs.declared.settings.TypeSettings.{TypeSettings}
 use Rattle.solo_run.specs.World.{TypeDepth}
 use Rattle.plain_commands.specs.Scripts.{Setup, ClusterLog}
 use Rattle.plain_commands.specs.Replay.{LineStep, Goes, Stops}

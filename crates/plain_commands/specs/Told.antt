@@ -1,6 +1,6 @@
 -- What a replay prints, as the outcomes of the events that the script's lines name. Own: docs/scripts.md.
 use Rattle.std.specs.Prelude.{◌≡◌, ◌⊎◌, ◌≤◌, ◌+◌, ℕ, List, [], ◌∷◌, ◌++◌, length, take, codes, Result, Ok, Err}
-use Rattle.part_core.specs.Part.{ring_owner}
+use Rattle.part_model.specs.Part.{ring_owner}
 use Rattle.world_events.specs.declared.outcome.Outcome.{Outcome}
 use Rattle.world_events.specs.declared.error.WorldError.{WorldError}
 use Rattle.solo_run.specs.Runs.{Said, solo_log}

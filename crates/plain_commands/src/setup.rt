@@ -10,7 +10,7 @@ ghost use Rattle.plain_commands.specs.SetupTold.{timed, type_depth, GivesSetting
 
 use crate::line_end::LineEnd;
 use actor_names::{NameError, read_actor_type};
-use part_core::{TypeList, TypeSettings};
+use part_model::{TypeList, TypeSettings};
 use script_text::Setting;
 use std::alloc::Global;
 use std::marker::Model;
@@ -36,7 +36,7 @@ pub(crate) struct Setup {
 
 impl Model for Setup {
     ghost use Rattle.std.specs.Prelude.{◌≤◌, map};
-    ghost use Rattle.part_core.specs.Settings.{AreShallow};
+    ghost use Rattle.part_model.specs.Settings.{AreShallow};
     ghost use Rattle.plain_commands.specs.Scripts.{Setup};
     ghost use Rattle.plain_commands.specs.SetupTold.{type_depth};
 

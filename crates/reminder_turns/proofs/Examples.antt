@@ -3,7 +3,7 @@ use Rattle.std.proofs.Common.{◌≡◌, ℕ, [], ◌∷◌, Option, Some, None,
 use Rattle.step_gate.specs.declared.gate.Spent.{Spent}
 use Rattle.http_edge.specs.declared.message.HttpResponse.{HttpResponse}
 use Rattle.http_edge.specs.declared.error.EdgeError.TheVariants as edge
-use Rattle.part_core.specs.declared.event.PartReply.TheVariants as replies
+use Rattle.part_model.specs.declared.event.Reply.TheVariants as replies
 use Rattle.frame_wire.specs.declared.store_answer.DueEntry.{DueEntry}
 use Rattle.frame_wire.specs.declared.store_answer.StoreAnswer.TheVariants as answers
 use Rattle.store_exchange.specs.declared.end.StoreEnd.TheVariants as stores

@@ -8,8 +8,8 @@ use Rattle.http_edge.specs.Carry.{Carried}
 use Rattle.http_edge.specs.declared.message.HttpResponse.{HttpResponse}
 use Rattle.http_edge.specs.declared.error.EdgeError.{EdgeError}
 use Rattle.http_edge.specs.declared.error.EdgeError.TheVariants as edge
-use Rattle.part_core.specs.declared.event.PartReply.{PartReply}
-use Rattle.part_core.specs.declared.event.PartReply.TheVariants as replies
+use Rattle.part_model.specs.Receipts.{PartReply}
+use Rattle.part_model.specs.declared.event.Reply.TheVariants as replies
 use Rattle.reminder_rows.specs.declared.row.DueKey.{DueKey}
 use Rattle.frame_wire.specs.declared.frame.Frame.TheVariants.{Command}
 use Rattle.frame_wire.specs.declared.store_command.StoreCommand.{StoreCommand}

@@ -3,10 +3,10 @@ use Rattle.std.proofs.Common.{◌≡◌, ◌⊎◌, ◌∙◌, ℕ, Bool, true, 
 use Rattle.std.proofs.lemmas.Bool.{true≢false}
 use Rattle.actor_names.specs.declared.actor_key.ActorKey.{ActorKey}
 use Rattle.actor_names.specs.declared.address.Address.{Address}
-use Rattle.part_core.specs.declared.event.PartEvent.{PartEvent}
-use Rattle.part_core.specs.declared.event.PartEvent.TheVariants.{Draw}
-use Rattle.part_core.specs.declared.event.PartReply.{PartReply}
-use Rattle.part_core.specs.declared.event.PartReply.TheVariants as replies
+use Rattle.part_model.specs.declared.event.PartEvent.{PartEvent}
+use Rattle.part_model.specs.declared.event.PartEvent.TheVariants.{Draw}
+use Rattle.part_model.specs.Receipts.{PartReply}
+use Rattle.part_model.specs.declared.event.Reply.TheVariants as replies
 use Rattle.http_edge.specs.declared.message.HttpResponse.{HttpResponse}
 use Rattle.http_edge.specs.declared.error.EdgeError.{EdgeError}
 use Rattle.http_edge.specs.declared.error.EdgeError.TheVariants as edge

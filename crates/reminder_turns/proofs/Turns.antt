@@ -5,8 +5,8 @@ use Rattle.std.specs.Option.{option_copied}
 use Rattle.step_gate.specs.declared.gate.Spent.{Spent}
 use Rattle.actor_names.specs.declared.actor_key.ActorKey.{ActorKey}
 use Rattle.actor_names.specs.declared.address.Address.{Address}
-use Rattle.part_core.specs.declared.event.PartReply.{PartReply}
-use Rattle.part_core.specs.declared.event.PartReply.TheVariants as replies
+use Rattle.part_model.specs.Receipts.{PartReply}
+use Rattle.part_model.specs.declared.event.Reply.TheVariants as replies
 use Rattle.app_texts.specs.declared.callbacks.Callback.{Callback}
 use Rattle.app_texts.specs.Texts.{reminder_text}
 use Rattle.frame_wire.specs.declared.store_answer.DueEntry.{DueEntry}

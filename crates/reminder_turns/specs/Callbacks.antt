@@ -3,7 +3,7 @@
 use Rattle.std.specs.Prelude.{◌≡◌, ◌≤◌, ℕ, List, [], ◌++◌, codes, Option, Some, None, Ok, Err}
 use Rattle.actor_names.specs.declared.address.Address.{Address}
 use Rattle.actor_names.specs.declared.actor_key.ActorKey.{ActorKey}
-use Rattle.part_core.specs.declared.event.PartReply.TheVariants as replies
+use Rattle.part_model.specs.declared.event.Reply.TheVariants as replies
 use Rattle.json_text.specs.Texts.{text_of}
 use Rattle.json_text.specs.Values.{text}
 use Rattle.app_texts.specs.Texts.{message, method_path, escaped, call_lines, data_text}

@@ -1,7 +1,7 @@
 -- What the definition of a turn with the reminders guarantees, in the words of its subject. Own.
 use Rattle.std.specs.Prelude.{◌≡◌, ◌⊎◌, ℕ, false, List, [], ◌∷◌, ◌++◌, map, Option, Some, None, Ok, Err}
-use Rattle.part_core.specs.declared.event.PartReply.{PartReply}
-use Rattle.part_core.specs.declared.event.PartReply.TheVariants as replies
+use Rattle.part_model.specs.Receipts.{PartReply}
+use Rattle.part_model.specs.declared.event.Reply.TheVariants as replies
 use Rattle.reminder_rows.specs.declared.row.DueKey.{DueKey}
 use Rattle.frame_wire.specs.declared.store_answer.DueEntry.{DueEntry}
 use Rattle.frame_wire.specs.declared.store_answer.StoreAnswer.TheVariants as answers

@@ -2,8 +2,8 @@
 use Rattle.std.specs.Prelude.{◌≡◌, ℕ, true, false, List, [], Option, Some, None, Ok, Err}
 use Rattle.actor_names.specs.declared.actor_key.ActorKey.{ActorKey}
 use Rattle.actor_names.specs.declared.address.Address.{Address}
-use Rattle.part_core.specs.declared.event.PartEvent.TheVariants.{Draw}
-use Rattle.part_core.specs.declared.event.PartReply.TheVariants as replies
+use Rattle.part_model.specs.declared.event.PartEvent.TheVariants.{Draw}
+use Rattle.part_model.specs.declared.event.Reply.TheVariants as replies
 use Rattle.reminder_rows.specs.declared.row.DueKey.{DueKey}
 use Rattle.frame_wire.specs.declared.store_command.Stamp.{Stamp}
 use Rattle.frame_wire.specs.declared.store_command.StoreCommand.{StoreCommand}

@@ -1,7 +1,7 @@
 // What the definition of a turn with the reminders guarantees.
 ghost use Rattle.std.specs.Prelude.{ℕ, List, Option, None};
 ghost use Rattle.actor_names.specs.declared.address.Address.{Address};
-ghost use Rattle.part_core.specs.declared.event.PartReply.{PartReply};
+ghost use Rattle.part_model.specs.Receipts.{PartReply};
 ghost use Rattle.sidecar_node.specs.declared.node.SidecarNode.{SidecarNode};
 ghost use Rattle.reminder_turns.specs.declared.ends.TickEnd.{TickEnd};
 ghost use Rattle.reminder_turns.specs.declared.standing.Stand.TheVariants.{On};

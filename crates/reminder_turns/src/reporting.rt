@@ -1,6 +1,6 @@
 // The report of a reminder that has fired.
 ghost use Rattle.std.specs.Prelude.{◌≡◌, List, Ok};
-ghost use Rattle.part_core.specs.declared.event.PartEvent.TheVariants.{Draw};
+ghost use Rattle.part_model.specs.declared.event.PartEvent.TheVariants.{Draw};
 ghost use Rattle.sidecar_node.specs.Entries.{PartEntry, one_entry};
 ghost use Rattle.sidecar_node.specs.Nodes.{part_at, IsSeatsOf, ActsAt, SpentAt};
 ghost use Rattle.link_exchange.specs.Exchanges.{Exchange, Dialling};
@@ -12,7 +12,8 @@ use crate::results::Reported;
 use actor_names::{ActorKey, Address};
 use actor_ports::Dial;
 use frame_wire::{Stamp, StoreAnswer, StoreCommand};
-use part_core::{PartEvent, PartReply};
+use part_core::PartReply;
+use part_model::PartEvent;
 use reminder_rows::DueKey;
 use sidecar_node::{Seats, SidecarNode};
 use std::alloc::Global;

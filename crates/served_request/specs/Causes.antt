@@ -1,7 +1,7 @@
 -- What the entries of a served call are, and what a refusal that answers it goes back to. Own.
 use Rattle.std.specs.Prelude.{◌≡◌, ◌⊎◌, ◌<◌, ℕ, List, [], ◌∷◌, length}
-use Rattle.part_core.specs.declared.event.PartEvent.{PartEvent}
-use Rattle.part_core.specs.declared.event.PartEvent.TheVariants.{Ask, AskAt, Poll, End}
+use Rattle.part_model.specs.declared.event.PartEvent.{PartEvent}
+use Rattle.part_model.specs.declared.event.PartEvent.TheVariants.{Ask, AskAt, Poll, End}
 use Rattle.actors_api.specs.declared.reply.ApiReply.{ApiReply}
 use Rattle.actors_api.specs.declared.reply.ApiReply.TheVariants.{Refused}
 use Rattle.actors_api.specs.declared.refusal.ApiRefusal.{ApiRefusal}

@@ -1,7 +1,7 @@
 -- What the replies of parts, of the application and of other sidecars come to. Own.
 use Rattle.std.specs.Prelude.{◌≡◌, Option, Some, None, Result, Ok, Err}
-use Rattle.part_core.specs.declared.event.PartReply.{PartReply}
-use Rattle.part_core.specs.declared.event.PartReply.TheVariants as replies
+use Rattle.part_model.specs.Receipts.{PartReply}
+use Rattle.part_model.specs.declared.event.Reply.TheVariants as replies
 use Rattle.member_core.specs.declared.route.Hop.{Hop}
 use Rattle.member_core.specs.declared.route.Hop.TheVariants as hops
 use Rattle.http_edge.specs.declared.message.HttpResponse.{HttpResponse}

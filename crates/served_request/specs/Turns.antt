@@ -1,8 +1,8 @@
 -- A turn of a call on this member: how it begins, its exchange with the application, its end. Own.
 use Rattle.std.specs.Prelude.{◌≡◌, ◌≤◌, ℕ, List, [], ◌++◌, Option, Result, Ok, Err}
 use Rattle.actor_names.specs.declared.address.Address.{Address}
-use Rattle.part_core.specs.declared.event.PartReply.{PartReply}
-use Rattle.part_core.specs.declared.event.PartReply.TheVariants as replies
+use Rattle.part_model.specs.Receipts.{PartReply}
+use Rattle.part_model.specs.declared.event.Reply.TheVariants as replies
 use Rattle.http_edge.specs.declared.message.HttpRequest.{HttpRequest}
 use Rattle.actors_api.specs.declared.reply.ApiReply.{ApiReply}
 use Rattle.actors_api.specs.declared.refusal.ApiRefusal.TheVariants as refusals

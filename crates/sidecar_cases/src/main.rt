@@ -17,7 +17,7 @@
 //
 // The sidecar is `n1`, of boot 1, with one part. Its application hosts `order`, with reentrancy. There are at most six links
 // to each. It has no contracts that another crate needs. Depends on sidecar_start, sidecar_sessions, placement_beats,
-// tick_turns, reminder_turns, sidecar_node, link_exchange, part_core, actors_api, frame_wire, actor_names, actor_ports and
+// tick_turns, reminder_turns, sidecar_node, link_exchange, part_model, part_core, actors_api, frame_wire, actor_names, actor_ports and
 // case_texts.
 #![tactic(auto)]
 

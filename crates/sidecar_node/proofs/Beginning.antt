@@ -1,7 +1,7 @@
 -- A turn that begins by its event.
 use Rattle.std.proofs.Common.{◌≡◌, ℕ, List, [], ◌∷◌, Option, ◌∙◌, sym, ap, inr}
 use Rattle.actor_names.specs.declared.actor_key.ActorKey.{ActorKey}
-use Rattle.part_core.specs.declared.event.PartEvent.{PartEvent}
+use Rattle.part_model.specs.declared.event.PartEvent.{PartEvent}
 use Rattle.sidecar_node.specs.Entries.{PartEntry}
 use Rattle.sidecar_node.specs.Turns.{Said, Begins, BeginsBy, ask_of}
 

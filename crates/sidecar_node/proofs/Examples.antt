@@ -2,11 +2,11 @@
 use Rattle.std.proofs.Common.{◌≡◌, ℕ, List, [], ◌∷◌, Option, Some, None, Ok, Err, refl, inl}
 use Rattle.actor_names.specs.declared.actor_key.ActorKey.{ActorKey}
 use Rattle.step_gate.specs.declared.gate.Spent.{Spent}
-use Rattle.part_core.specs.declared.event.PartEvent.{PartEvent}
-use Rattle.part_core.specs.declared.event.PartEvent.TheVariants.{Ask, AskAt, Poll, End, StopPart}
-use Rattle.part_core.specs.declared.event.PartReply.{PartReply}
-use Rattle.part_core.specs.declared.event.PartReply.TheVariants.{Begun, Waits, Stopped, Ended, Drawn}
-use Rattle.part_core.specs.declared.event.PartReply.TheVariants as replies
+use Rattle.part_model.specs.declared.event.PartEvent.{PartEvent}
+use Rattle.part_model.specs.declared.event.PartEvent.TheVariants.{Ask, AskAt, Poll, End, StopPart}
+use Rattle.part_model.specs.Receipts.{PartReply}
+use Rattle.part_model.specs.declared.event.Reply.TheVariants.{Begun, Waits, Stopped, Ended, Drawn}
+use Rattle.part_model.specs.declared.event.Reply.TheVariants as replies
 use Rattle.sidecar_node.specs.Entries.{PartEntry, BookEntry, OnPart, OnBook, part_entries, book_entries}
 use Rattle.sidecar_node.specs.Turns.{Begins, Ends, stop_entries, first_spent}
 

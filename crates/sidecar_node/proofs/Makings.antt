@@ -8,11 +8,11 @@ use Rattle.step_gate.specs.Gates.{SeatOf, Grows, Adds, SeesLast, seen_of}
 use Rattle.step_gate.specs.Waiting.{Tries, Succeeds}
 use Rattle.step_gate.proofs.Beginnings.{prefix_self}
 use Rattle.step_gate.proofs.Waits.{adds_grows, last_grows, grows_on, succeeds_grows, tries_grow}
-use Rattle.part_core.specs.declared.event.PartEvent.{PartEvent}
-use Rattle.part_core.specs.declared.event.PartEvent.TheVariants.{Poll}
-use Rattle.part_core.specs.declared.event.PartReply.{PartReply}
-use Rattle.part_core.specs.declared.event.PartReply.TheVariants as replies
-use Rattle.part_core.specs.Rooms.{PartView}
+use Rattle.part_model.specs.declared.event.PartEvent.{PartEvent}
+use Rattle.part_model.specs.declared.event.PartEvent.TheVariants.{Poll}
+use Rattle.part_model.specs.Receipts.{PartReply}
+use Rattle.part_model.specs.declared.event.Reply.TheVariants as replies
+use Rattle.part_model.specs.Rooms.{PartView}
 use Rattle.sidecar_node.specs.Entries.{Entry, PartEntry, Makes, Steps, told}
 use Rattle.sidecar_node.specs.Turns.{Said, Polls, AfterAsk, Either, asks_again}
 

@@ -4,9 +4,9 @@ use Rattle.std.specs.Prelude.{IsSomeAnd}
 use Rattle.std.specs.List.{slice_get, slice_set, insert, remove}
 use Rattle.std.proofs.lemmas.Option.{slice_get_within}
 use Rattle.step_gate.specs.Gates.{IsSeatOf, seen_of}
-use Rattle.part_core.specs.declared.event.PartEvent.{PartEvent}
-use Rattle.part_core.specs.declared.event.PartEvent.TheVariants.{StopPart}
-use Rattle.part_core.specs.Machine.{PartAllows}
+use Rattle.part_model.specs.declared.event.PartEvent.{PartEvent}
+use Rattle.part_model.specs.declared.event.PartEvent.TheVariants.{StopPart}
+use Rattle.part_model.specs.Machine.{PartAllows}
 use Rattle.timer_book.specs.Machine.{TimerMoves}
 use Rattle.sidecar_node.specs.declared.node.SidecarNode.{SidecarNode}
 use Rattle.sidecar_node.specs.declared.node.Seats.{Seats}

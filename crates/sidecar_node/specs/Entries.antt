@@ -5,8 +5,8 @@ use Rattle.std.specs.Prelude.{Some}
 use Rattle.step_gate.specs.declared.gate.Spent.{Spent}
 use Rattle.step_gate.specs.declared.view.Made.{Made}
 use Rattle.step_gate.specs.Gates.{SeatOf, Grows, seen_of}
-use Rattle.part_core.specs.declared.event.PartEvent.{PartEvent}
-use Rattle.part_core.specs.declared.event.PartReply.{PartReply}
+use Rattle.part_model.specs.declared.event.PartEvent.{PartEvent}
+use Rattle.part_model.specs.Receipts.{PartReply}
 use Rattle.timer_book.specs.declared.event.TimerEvent.{TimerEvent}
 use Rattle.timer_book.specs.declared.event.TimerReply.{TimerReply}
 

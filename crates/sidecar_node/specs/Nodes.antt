@@ -4,12 +4,12 @@ use Rattle.std.specs.List.{slice_get}
 use Rattle.actor_names.specs.declared.actor_key.ActorKey.{ActorKey}
 use Rattle.place_table.specs.declared.host.HostInfo.{HostInfo}
 use Rattle.place_table.specs.Hosts.{key_place}
-use Rattle.part_core.specs.declared.event.PartEvent.{PartEvent}
-use Rattle.part_core.specs.declared.event.PartReply.{PartReply}
-use Rattle.part_core.specs.declared.settings.TypeSettings.{TypeSettings}
-use Rattle.part_core.specs.Machine.{PartAllows}
-use Rattle.part_core.specs.Part.{new_part}
-use Rattle.part_core.specs.Rooms.{PartView}
+use Rattle.part_model.specs.declared.event.PartEvent.{PartEvent}
+use Rattle.part_model.specs.Receipts.{PartReply}
+use Rattle.part_model.specs.declared.settings.TypeSettings.{TypeSettings}
+use Rattle.part_model.specs.Machine.{PartAllows}
+use Rattle.part_model.specs.Part.{new_part}
+use Rattle.part_model.specs.Rooms.{PartView}
 use Rattle.timer_book.specs.declared.event.TimerEvent.{TimerEvent}
 use Rattle.timer_book.specs.declared.event.TimerReply.{TimerReply}
 use Rattle.timer_book.specs.Book.{BookState, new_book}

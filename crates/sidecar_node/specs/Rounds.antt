@@ -1,7 +1,7 @@
 -- One event on each part of a node. Own.
 use Rattle.std.specs.Prelude.{ℕ, ◌+◌, List, [], ◌∷◌, ◌++◌}
-use Rattle.part_core.specs.declared.event.PartEvent.{PartEvent}
-use Rattle.part_core.specs.declared.event.PartEvent.TheVariants as events
+use Rattle.part_model.specs.declared.event.PartEvent.{PartEvent}
+use Rattle.part_model.specs.declared.event.PartEvent.TheVariants as events
 use Rattle.sidecar_node.specs.declared.rounds.RoundEvent.{RoundEvent}
 use Rattle.sidecar_node.specs.declared.rounds.RoundEvent.TheVariants.{Tick, Lock, Update, Unlock, StopPart}
 use Rattle.sidecar_node.specs.Entries.{NodeEntry, at_part, one_entry}

@@ -1,13 +1,14 @@
 // One step at the gate of a part or of a book.
 ghost use Rattle.std.specs.Prelude.{◌≡◌, ◌≢◌, ◌<◌, ◌≤◌, ℕ, length, slice_get};
-ghost use Rattle.part_core.specs.Rooms.{IsInRange};
+ghost use Rattle.part_model.specs.Rooms.{IsInRange};
 ghost use Rattle.sidecar_node.specs.Entries.{StepsAt, one_entry};
 ghost use Rattle.sidecar_node.specs.Nodes.{part_gates, part_seats, book_seats, part_at, host_of, IsSeatsOf, ActsAt, ActsAtBook, SpentAt, SpentAtBook};
 
 use crate::node::{Seats, SidecarNode};
 use crate::rows::call_row;
 use actor_names::ActorKey;
-use part_core::{PartEvent, PartReply};
+use part_core::PartReply;
+use part_model::PartEvent;
 use place_table::{HostInfo, part_of};
 use std::sync::Wait;
 use step_gate::Spent;

@@ -1,8 +1,8 @@
 // A new node.
 ghost use Rattle.std.specs.Prelude.{◌≡◌, ◌≤◌, ◌<◌, [], ℕ, length, IfOk};
-ghost use Rattle.part_core.specs.Machine.{PartAllows};
-ghost use Rattle.part_core.specs.Part.{new_part};
-ghost use Rattle.part_core.specs.Settings.{AreShallow};
+ghost use Rattle.part_model.specs.Machine.{PartAllows};
+ghost use Rattle.part_model.specs.Part.{new_part};
+ghost use Rattle.part_model.specs.Settings.{AreShallow};
 ghost use Rattle.timer_book.specs.Book.{new_book};
 ghost use Rattle.timer_book.specs.Machine.{TimerMoves};
 ghost use Rattle.sidecar_node.specs.Rows.{Along, IsNewAt};
@@ -10,7 +10,8 @@ ghost use Rattle.sidecar_node.specs.Nodes.{IsSeatsOf, IsNewNode};
 
 use crate::node::{Seats, SidecarNode};
 use actor_names::{Member, OutOfMemory};
-use part_core::{Part, PartSettings, TypeList, TypeSettings};
+use part_core::Part;
+use part_model::{PartSettings, TypeList, TypeSettings};
 use place_table::HostInfo;
 use std::alloc::Global;
 use step_gate::{Gate, Seat};

@@ -1,7 +1,8 @@
 // A sidecar's node and its seats.
 ghost use Rattle.std.specs.Prelude.{◌≡◌, ◌≤◌, length};
 
-use part_core::{Part, TypeList};
+use part_core::Part;
+use part_model::TypeList;
 use place_table::HostInfo;
 use step_gate::{Gate, Seat};
 use timer_book::TimerBook;

@@ -1,12 +1,13 @@
 // One event on each part in order.
 ghost use Rattle.std.specs.Prelude.{◌≡◌, ◌≤◌, [], length, vec_capacity, IfOk, OnOk, OnErr};
-ghost use Rattle.part_core.specs.Rooms.{IsInRange};
+ghost use Rattle.part_model.specs.Rooms.{IsInRange};
 ghost use Rattle.sidecar_node.specs.Rounds.{part_event, MayWantMemory};
 ghost use Rattle.sidecar_node.specs.Nodes.{part_gates, IsSeatsOf, GivesEach};
 
 use crate::node::{Seats, SidecarNode};
 use actor_names::OutOfMemory;
-use part_core::{PartEvent, PartReply};
+use part_core::PartReply;
+use part_model::PartEvent;
 use place_table::Table;
 use std::sync::Wait;
 use step_gate::Spent;

@@ -4,7 +4,8 @@ ghost use Rattle.sidecar_node.specs.Turns.{Said, first_spent, first_or};
 ghost use Rattle.sidecar_node.specs.Nodes.{part_gates, IsSeatsOf, StopsAll};
 
 use crate::node::{Seats, SidecarNode};
-use part_core::{PartEvent, PartReply};
+use part_core::PartReply;
+use part_model::PartEvent;
 use std::sync::Wait;
 use step_gate::Spent;
 

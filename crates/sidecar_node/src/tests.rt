@@ -7,7 +7,8 @@ use actor_names::{
     default_space, read_actor_type, read_address, read_app_id, read_key, read_member,
 };
 use actor_ports::MemClock;
-use part_core::{PartEvent, PartReply, TypeList, TypeSettings};
+use part_core::PartReply;
+use part_model::{PartEvent, TypeList, TypeSettings};
 use place_table::{ActorTypes, HostInfo, build_table};
 use std::alloc::Global;
 use std::sync::Wait;

@@ -1,7 +1,7 @@
 -- Worked examples of what replies come to.
 use Rattle.std.proofs.Common.{◌≡◌, ℕ, Ok, Err, true, false, refl}
 use Rattle.step_gate.specs.declared.gate.Spent.{Spent}
-use Rattle.part_core.specs.declared.event.PartReply.TheVariants as replies
+use Rattle.part_model.specs.declared.event.Reply.TheVariants as replies
 use Rattle.timer_book.specs.declared.event.TimerReply.TheVariants as book
 use Rattle.frame_wire.specs.declared.store_answer.StoreAnswer.TheVariants as answers
 use Rattle.frame_wire.specs.declared.store_refusal.StoreRefusal.TheVariants as refused_by

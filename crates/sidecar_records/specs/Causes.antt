@@ -1,7 +1,7 @@
 -- What a refusal that answers a request goes back to. Own.
 use Rattle.std.specs.Prelude.{◌≡◌, ◌⊎◌, ◌<◌, ℕ, List, [], ◌∷◌, Option, Some, None}
-use Rattle.part_core.specs.declared.event.PartReply.{PartReply}
-use Rattle.part_core.specs.declared.event.PartReply.TheVariants as replies
+use Rattle.part_model.specs.Receipts.{PartReply}
+use Rattle.part_model.specs.declared.event.Reply.TheVariants as replies
 use Rattle.timer_book.specs.declared.event.TimerReply.{TimerReply}
 use Rattle.timer_book.specs.declared.event.TimerReply.TheVariants as book
 use Rattle.http_edge.specs.Carry.{Carried}

@@ -1,8 +1,8 @@
 -- What replies of parts, of books of timers and of the store come to. Own.
 use Rattle.std.specs.Prelude.{Result, Ok, Err}
 use Rattle.step_gate.specs.declared.gate.Spent.{Spent}
-use Rattle.part_core.specs.declared.event.PartReply.{PartReply}
-use Rattle.part_core.specs.declared.event.PartReply.TheVariants as replies
+use Rattle.part_model.specs.Receipts.{PartReply}
+use Rattle.part_model.specs.declared.event.Reply.TheVariants as replies
 use Rattle.timer_book.specs.declared.event.TimerReply.{TimerReply}
 use Rattle.timer_book.specs.declared.event.TimerReply.TheVariants as book
 use Rattle.frame_wire.specs.declared.store_answer.StoreAnswer.{StoreAnswer}

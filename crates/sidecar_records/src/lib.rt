@@ -3,7 +3,7 @@
 // Promise: `serve_record` makes the entries, the exchanges and the answer that `specs/Serving` says of its command: an
 // actor is held while its state or its timers are used, each write bears a number that the actor's part drew, and after
 // a hold the release follows whatever came back. Nothing else is done at any gate, and nothing else is dialled. Depends
-// on `store_exchange`, `link_exchange`, `sidecar_node`, `actors_api`, `frame_wire`, `part_core` and `timer_book`.
+// on `store_exchange`, `link_exchange`, `sidecar_node`, `actors_api`, `frame_wire`, `part_model`, `part_core` and `timer_book`.
 #![tactic(auto)]
 
 mod ask;

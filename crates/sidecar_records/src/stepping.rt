@@ -1,12 +1,13 @@
 // Steps on an actor's part.
 ghost use Rattle.std.specs.Prelude.{◌≡◌, ◌<◌, ◌≤◌, length, IfOk};
-ghost use Rattle.part_core.specs.declared.event.PartEvent.TheVariants.{Hold, Release, Draw};
+ghost use Rattle.part_model.specs.declared.event.PartEvent.TheVariants.{Hold, Release, Draw};
 ghost use Rattle.sidecar_node.specs.Entries.{one_entry};
 ghost use Rattle.sidecar_node.specs.Nodes.{part_gates, part_at, IsSeatsOf, ActsAt, SpentAt};
 
 use actor_names::{ActorKey, OutOfMemory};
 use actor_ports::Clock;
-use part_core::{PartEvent, PartReply};
+use part_core::PartReply;
+use part_model::PartEvent;
 use sidecar_node::{Seats, SidecarNode};
 use std::alloc::Global;
 use std::sync::Wait;

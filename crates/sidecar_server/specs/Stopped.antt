@@ -1,7 +1,7 @@
 -- The parts of a sidecar's node, once all of them were given StopPart. Own.
 use Rattle.std.specs.Prelude.{ℕ, List, length}
 use Rattle.place_table.specs.declared.host.HostInfo.{HostInfo}
-use Rattle.part_core.specs.declared.settings.TypeSettings.{TypeSettings}
+use Rattle.part_model.specs.declared.settings.TypeSettings.{TypeSettings}
 use Rattle.sidecar_node.specs.declared.node.SidecarNode.{SidecarNode}
 use Rattle.sidecar_node.specs.declared.node.Seats.{Seats}
 use Rattle.sidecar_node.specs.Turns.{Said}

@@ -4,7 +4,8 @@ ghost use denote.Param.Send.{IsSend, IsSync};
 ghost use Rattle.sidecar_node.specs.contracts.node.Seats as seats;
 ghost use Rattle.sidecar_node.specs.contracts.node.SidecarNode as node;
 
-use part_core::{Part, TypeList};
+use part_core::Part;
+use part_model::TypeList;
 use step_gate::{Gate, Seat};
 use timer_book::TimerBook;
 

@@ -6,7 +6,7 @@ use Rattle.actor_names.specs.declared.error.NameError.{NameError}
 use Rattle.actor_names.specs.Names.{HasForm, is_node_byte, is_type_byte, text_fault, space_fault, node_fault, app_id_fault, actor_type_fault}
 use Rattle.actor_names.specs.NameLengths.{most-text_fault}
 use Rattle.place_table.specs.declared.host.HostInfo.{HostInfo}
-use Rattle.part_core.specs.declared.settings.TypeSettings.{TypeSettings}
+use Rattle.part_model.specs.declared.settings.TypeSettings.{TypeSettings}
 use Rattle.wire_fields.specs.Fields.{Field, byte, number16, number32, in_any_order, AllFit}
 use Rattle.wire_fields.specs.Parts.{named, space_name, node_name, app_name, type_name, node_place, boot, member, types, host_app, host}
 use Rattle.frame_wire.specs.declared.frame.Frame.TheVariants as frames

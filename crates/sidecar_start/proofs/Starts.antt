@@ -9,8 +9,8 @@ use Rattle.http_edge.specs.declared.error.EdgeError.{EdgeError}
 use Rattle.http_edge.specs.declared.error.EdgeError.TheVariants as edges
 use Rattle.http_edge.specs.declared.message.HttpResponse.{HttpResponse}
 use Rattle.json_text.specs.Values.{is_object}
-use Rattle.part_core.specs.declared.settings.TypeSettings.{TypeSettings}
-use Rattle.part_core.specs.Settings.{AreShallow}
+use Rattle.part_model.specs.declared.settings.TypeSettings.{TypeSettings}
+use Rattle.part_model.specs.Settings.{AreShallow}
 use Rattle.schedule_text.specs.Reading.{◌>>=◌}
 use Rattle.wire_fields.specs.Parts.{boot}
 use Rattle.frame_wire.specs.declared.frame.Frame.{Frame}

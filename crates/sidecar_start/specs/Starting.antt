@@ -1,7 +1,7 @@
 -- How a sidecar starts: a boot by the store, then a configuration by the application. Own.
 use Rattle.std.specs.Prelude.{◌≡◌, ◌⊎◌, ℕ, List, [], ◌++◌, map, Result, Ok, Err}
 use Rattle.place_table.specs.declared.host.HostInfo.{HostInfo}
-use Rattle.part_core.specs.declared.settings.TypeSettings.{TypeSettings}
+use Rattle.part_model.specs.declared.settings.TypeSettings.{TypeSettings}
 use Rattle.app_texts.specs.declared.config.AppConfig.{AppConfig}
 use Rattle.link_exchange.specs.Exchanges.{Exchange}
 use Rattle.link_exchange.specs.Replies.{place_at}

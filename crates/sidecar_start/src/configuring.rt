@@ -1,6 +1,6 @@
 // The configuration that the application says.
 ghost use Rattle.std.specs.Prelude.{◌≡◌, ◌≤◌, List, IfOk, IfSome};
-ghost use Rattle.part_core.specs.Settings.{AreShallow};
+ghost use Rattle.part_model.specs.Settings.{AreShallow};
 ghost use Rattle.http_edge.specs.Texts.{request_text};
 ghost use Rattle.app_texts.specs.Texts.{config_text};
 ghost use Rattle.link_exchange.specs.Exchanges.{Exchange, Dialling};

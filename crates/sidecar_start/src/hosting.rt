@@ -11,7 +11,7 @@ use crate::words::StartWords;
 use actor_names::Member;
 use app_texts::AppConfig;
 use lists_and_limits::OutOfMemory;
-use part_core::TypeList;
+use part_model::TypeList;
 use place_table::{ActorTypes, HostInfo};
 use std::alloc::Global;
 

@@ -1,6 +1,6 @@
 // The start of a sidecar.
 ghost use Rattle.std.specs.Prelude.{◌≡◌, ◌<◌, ◌≤◌, List, Result, Err, IfOk};
-ghost use Rattle.part_core.specs.Settings.{AreShallow};
+ghost use Rattle.part_model.specs.Settings.{AreShallow};
 ghost use Rattle.app_texts.specs.declared.config.AppConfig.{AppConfig};
 ghost use Rattle.wire_fields.specs.Parts.{boot};
 ghost use Rattle.frame_wire.specs.declared.frame.Frame.TheVariants as frames;

@@ -10,12 +10,12 @@ use Rattle.place_table.specs.declared.host.HostInfo.{HostInfo}
 use Rattle.place_table.specs.Hosts.{PlacementTable}
 use Rattle.turn_core.specs.CellSound.{In}
 use Rattle.turn_core.proofs.Elements.{In-push}
-use Rattle.part_core.specs.declared.event.PartEvent.{PartEvent}
-use Rattle.part_core.specs.declared.event.PartEvent.TheVariants as events
-use Rattle.part_core.specs.declared.event.PartReply.{PartReply}
-use Rattle.part_core.specs.Part.{PartState}
-use Rattle.member_core.specs.declared.ack.Ack as declared
-use Rattle.member_core.specs.Acks.{collected, are_stopped}
+use Rattle.part_model.specs.declared.event.PartEvent.{PartEvent}
+use Rattle.part_model.specs.declared.event.PartEvent.TheVariants as events
+use Rattle.part_model.specs.Receipts.{PartReply}
+use Rattle.part_model.specs.Part.{PartState}
+use Rattle.part_model.specs.declared.ack.Ack as declared
+use Rattle.part_model.specs.Acks.{collected, are_stopped}
 use Rattle.member_roster.specs.Members.{Joined}
 use Rattle.round_core.specs.declared.event.PlaceEvent.{PlaceEvent}
 use Rattle.round_core.specs.declared.event.PlaceEvent.TheVariants as changes

@@ -3,8 +3,8 @@ use Rattle.std.proofs.Common.{◌≡◌, ℕ, ◌<◌, ◌≤◌, Bool, true, fa
 use Rattle.std.specs.Prelude.{◌||◌}
 use Rattle.actor_names.specs.declared.address.Address.{Address}
 use Rattle.actor_ports.specs.Traffic.{Dialled}
-use Rattle.part_core.specs.declared.event.PartReply.{PartReply}
-use Rattle.part_core.specs.declared.event.PartReply.TheVariants as replies
+use Rattle.part_model.specs.Receipts.{PartReply}
+use Rattle.part_model.specs.declared.event.Reply.TheVariants as replies
 use Rattle.timer_book.specs.declared.event.TimerReply.TheVariants as answers
 use Rattle.link_exchange.specs.Replies.{Got}
 use Rattle.sidecar_node.specs.declared.node.SidecarNode.{SidecarNode}

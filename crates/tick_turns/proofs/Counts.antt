@@ -4,7 +4,7 @@ use Rattle.std.proofs.lemmas.Bool.{true≢false}
 use Rattle.std.specs.Prelude.{◌||◌}
 use Rattle.actor_names.specs.declared.address.Address.{Address}
 use Rattle.actor_ports.specs.Traffic.{Dialled}
-use Rattle.part_core.specs.declared.event.PartReply.TheVariants as replies
+use Rattle.part_model.specs.declared.event.Reply.TheVariants as replies
 use Rattle.timer_book.specs.declared.entry.DueTimer.{DueTimer}
 use Rattle.timer_book.specs.declared.event.TimerReply.TheVariants as answers
 use Rattle.link_exchange.specs.Exchanges.{Exchange, Dialling}

@@ -1,8 +1,8 @@
 -- What a timer's turn comes to: whether a call began, whether the application's connection failed, and what ends the
 -- tick. Own.
 use Rattle.std.specs.Prelude.{ℕ, ◌+◌, nat_lt, if◌then◌else◌, Bool, true, false, Option, Some, None, Ok, Err}
-use Rattle.part_core.specs.declared.event.PartReply.{PartReply}
-use Rattle.part_core.specs.declared.event.PartReply.TheVariants as replies
+use Rattle.part_model.specs.Receipts.{PartReply}
+use Rattle.part_model.specs.declared.event.Reply.TheVariants as replies
 use Rattle.link_exchange.specs.Replies.{Got}
 use Rattle.sidecar_node.specs.Turns.{Said}
 use Rattle.closing_turns.specs.declared.ends.TickEnd.{TickEnd}

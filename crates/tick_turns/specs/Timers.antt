@@ -2,7 +2,7 @@
 -- Own; timers follow the Actors API reference of Dapr.
 use Rattle.std.specs.Prelude.{◌≡◌, ◌≤◌, ◌*◌, ℕ, Bool, true, false, List, [], ◌++◌, Option, Some, None, Ok, Err}
 use Rattle.actor_names.specs.declared.address.Address.{Address}
-use Rattle.part_core.specs.declared.event.PartReply.TheVariants as replies
+use Rattle.part_model.specs.declared.event.Reply.TheVariants as replies
 use Rattle.timer_book.specs.declared.entry.DueTimer.{DueTimer}
 use Rattle.timer_book.specs.declared.event.TimerEvent.{TimerEvent}
 use Rattle.timer_book.specs.declared.event.TimerEvent.TheVariants as timers

@@ -7,12 +7,12 @@ use Rattle.actor_names.specs.declared.member.Member.{Member}
 use Rattle.actor_names.specs.declared.actor_key.ActorKey.{ActorKey}
 use Rattle.place_table.specs.declared.host.HostInfo.{HostInfo}
 use Rattle.place_table.specs.Hosts.{PlacementTable}
-use Rattle.part_cells.specs.Cells.{total}
-use Rattle.part_core.specs.declared.settings.TypeSettings.{TypeSettings}
-use Rattle.part_core.specs.declared.event.PartEvent.{PartEvent}
-use Rattle.part_core.specs.declared.event.PartEvent.TheVariants as events
-use Rattle.part_core.specs.Activity.{IsAsked}
-use Rattle.part_core.specs.Part.{PartState, part_step}
+use Rattle.part_model.specs.Cells.{total}
+use Rattle.part_model.specs.declared.settings.TypeSettings.{TypeSettings}
+use Rattle.part_model.specs.declared.event.PartEvent.{PartEvent}
+use Rattle.part_model.specs.declared.event.PartEvent.TheVariants as events
+use Rattle.part_model.specs.Activity.{IsAsked}
+use Rattle.part_model.specs.Part.{PartState, part_step}
 use Rattle.world_events.specs.declared.event.WorldEvent.{WorldEvent}
 use Rattle.world_events.specs.declared.event.WorldEvent.TheVariants as lines
 use Rattle.world_events.specs.declared.settings.WorldSettings.{WorldSettings}

@@ -4,10 +4,10 @@ use Rattle.actor_names.specs.Names.{default_space}
 use Rattle.std.specs.Prelude.{zero, suc, nat_le, nat_lt, length, slice_get, ◌==◌, ◌%◌, ◌/◌, ◌-◌, min, Result, Ok, Err, codes, decimal, if◌then◌else◌}
 use Rattle.std.proofs.lemmas.Bool.{cond_both}
 use Rattle.actor_names.specs.declared.member.Member.{Member}
-use Rattle.part_core.specs.declared.event.PartEvent.{PartEvent}
-use Rattle.part_core.specs.declared.event.PartEvent.TheVariants as events
-use Rattle.part_core.specs.declared.event.PartReply.{PartReply}
-use Rattle.part_core.specs.Part.{PartState, ring_owner}
+use Rattle.part_model.specs.declared.event.PartEvent.{PartEvent}
+use Rattle.part_model.specs.declared.event.PartEvent.TheVariants as events
+use Rattle.part_model.specs.Receipts.{PartReply}
+use Rattle.part_model.specs.Part.{PartState, ring_owner}
 use Rattle.world_events.specs.declared.event.WorldEvent.{WorldEvent}
 use Rattle.world_events.specs.declared.event.WorldEvent.TheVariants as lines
 use Rattle.world_events.specs.declared.outcome.Outcome.{Outcome}
@@ -15,7 +15,7 @@ use Rattle.world_events.specs.declared.outcome.Outcome.TheVariants as out
 use Rattle.world_events.specs.declared.error.WorldError.{WorldError}
 use Rattle.world_events.specs.declared.error.WorldError.TheVariants as refused
 use Rattle.round_core.specs.declared.event.PlaceEvent.TheVariants as changes
-use Rattle.member_core.specs.Acks.{collected, are_stopped}
+use Rattle.part_model.specs.Acks.{collected, are_stopped}
 use Rattle.cluster_model.specs.Messages.{Message, Asks, Tells, told_event}
 use Rattle.cluster_model.specs.World as world
 use Rattle.cluster_model.specs.World.{ClusterState, CallPlace, key_part, cluster_step, cluster_run, outcomes, most_events}

@@ -8,13 +8,13 @@ use Rattle.actor_names.specs.declared.actor_key.ActorKey.{ActorKey}
 use Rattle.place_table.specs.declared.host.HostInfo.{HostInfo}
 use Rattle.place_table.specs.Hosts.{PlacementTable}
 use Rattle.turn_core.specs.CellSound.{In}
-use Rattle.part_core.specs.declared.settings.TypeSettings.{TypeSettings}
-use Rattle.part_core.specs.declared.event.PartEvent.TheVariants as events
-use Rattle.part_core.specs.declared.stage.Stage.{Stage}
-use Rattle.part_core.specs.declared.stage.Stage.TheVariants.{Locked, Updated, Open, Stopped}
+use Rattle.part_model.specs.declared.settings.TypeSettings.{TypeSettings}
+use Rattle.part_model.specs.declared.event.PartEvent.TheVariants as events
+use Rattle.part_model.specs.declared.stage.Stage.{Stage}
+use Rattle.part_model.specs.declared.stage.Stage.TheVariants.{Locked, Updated, Open, Stopped}
 use Rattle.actor_names.specs.Same.{same_member}
-use Rattle.part_core.specs.Part.{PartState, is_stopped, part_step, step_at}
-use Rattle.part_core.proofs.PartTables.{part_stepped}
+use Rattle.part_model.specs.Part.{PartState, is_stopped, part_step, step_at}
+use Rattle.part_model.proofs.PartTables.{part_stepped}
 use Rattle.world_events.specs.declared.settings.WorldSettings.{WorldSettings}
 use Rattle.world_events.specs.declared.event.WorldEvent.TheVariants as lines
 use Rattle.cluster_model.specs.World as world

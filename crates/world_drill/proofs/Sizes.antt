@@ -3,7 +3,7 @@ use Rattle.std.proofs.Common.{ℕ, ◌*◌, ◌≤◌, List, [], ◌∷◌, leng
 use Rattle.std.specs.Prelude.{zero, suc, Bool, true, false, nat_lt, ◌==◌, ◌-◌, ◌%◌, min, if◌then◌else◌, Result, Ok}
 use Rattle.std.proofs.lemmas.Bool.{cond_both}
 use Rattle.actor_names.specs.declared.member.Member.{Member}
-use Rattle.part_core.specs.Part.{ring_owner}
+use Rattle.part_model.specs.Part.{ring_owner}
 use Rattle.world_events.specs.declared.event.WorldEvent.{WorldEvent}
 use Rattle.world_events.specs.declared.event.WorldEvent.TheVariants as lines
 use Rattle.world_events.specs.declared.outcome.Outcome.{Outcome}

@@ -1,7 +1,7 @@
 -- On the way through a drill: the events so far, and those that remain.
 use Rattle.std.proofs.Common.{◌≡◌, ℕ, ◌*◌, ◌≤◌, List, [], ◌∷◌, ◌++◌, refl, sym, ap, ◌∙◌, subst, append_assoc, arith}
 use Rattle.std.specs.Prelude.{suc}
-use Rattle.part_core.specs.Part.{ring_owner}
+use Rattle.part_model.specs.Part.{ring_owner}
 use Rattle.world_events.specs.declared.event.WorldEvent.{WorldEvent}
 use Rattle.cluster_model.specs.Counts.{begun_turns, over_turns}
 use Rattle.cluster_model.specs.World.{ClusterState, opening_cluster, key_part, cluster_step, cluster_run}

@@ -1,6 +1,6 @@
 -- What a step of a drill does, as the program picks it. Own.
 use Rattle.std.specs.Prelude.{◌≡◌, List, [], ◌∷◌, Option, None, Some, Result, Ok, Err}
-use Rattle.part_core.specs.Part.{ring_owner}
+use Rattle.part_model.specs.Part.{ring_owner}
 use Rattle.world_events.specs.declared.event.WorldEvent.{WorldEvent}
 use Rattle.world_events.specs.declared.outcome.Outcome.{Outcome}
 use Rattle.world_events.specs.declared.error.WorldError.{WorldError}

@@ -1,6 +1,6 @@
 // A step of a drill: what is picked, and then done.
 ghost use Rattle.std.specs.Prelude.{◌≡◌, [], ◌∷◌, IfOk, OnOk};
-ghost use Rattle.part_core.specs.Part.{ring_owner};
+ghost use Rattle.part_model.specs.Part.{ring_owner};
 ghost use Rattle.cluster_model.specs.World.{ClusterState, cluster_step, key_part};
 ghost use Rattle.world_run.specs.Worlds.{view_of};
 ghost use Rattle.world_drill.specs.Choices.{Plays, accepted, chosen};

@@ -10,7 +10,7 @@ use crate::generator::Generator;
 use crate::names::counter;
 use crate::play::step;
 use actor_names::{OutOfMemory, default_space};
-use part_core::{TypeList, TypeSettings};
+use part_model::{TypeList, TypeSettings};
 use std::alloc::Global;
 use world_events::WorldSettings;
 use world_run::World;

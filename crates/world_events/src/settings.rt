@@ -1,5 +1,5 @@
 // How the world of a cluster script is set up.
-use part_core::TypeList;
+use part_model::TypeList;
 
 /// How a cluster is set up. A member has `parts` parts, from 1 to 16. A type that isn't in `kinds` has these two times
 /// and reentrancy off; of two entries for one type the last counts.

@@ -4,7 +4,7 @@ use Rattle.std.specs.Prelude.{zero, suc, slice_get, Some}
 use Rattle.std.proofs.lemmas.List.{length-append, length-map}
 use Rattle.actor_names.specs.declared.member.Member.{Member}
 use Rattle.actor_names.specs.Same.{same_member}
-use Rattle.part_core.specs.Part.{PartState}
+use Rattle.part_model.specs.Part.{PartState}
 use Rattle.cluster_model.proofs.Basics.{same_member-true}
 use Rattle.world_run.specs.declared.home.Home.{Home}
 use Rattle.world_run.specs.Layout.{booted_at, home_of, PartTag, tag_of, tags_of, member_tags, all_tags, HasNone, IsFirst}

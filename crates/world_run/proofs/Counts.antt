@@ -15,16 +15,16 @@ use Rattle.turn_core.specs.declared.answer.CellEnd.TheVariants as ending
 use Rattle.turn_core.specs.declared.answer.CellPoll.{CellPoll}
 use Rattle.turn_core.specs.declared.answer.CellPoll.TheVariants as polling
 use Rattle.turn_core.specs.Cell.{CellState, is_free, is_open_chain}
-use Rattle.part_cells.specs.declared.actor_cell.ActorCell.{ActorCell}
-use Rattle.part_cells.specs.Cells.{cell_at, cell_of_call}
+use Rattle.part_model.specs.declared.actor_cell.ActorCell.{ActorCell}
+use Rattle.part_model.specs.Cells.{cell_at, cell_of_call}
 use Rattle.actor_names.specs.Same.{same_member}
-use Rattle.part_core.specs.declared.stage.Stage.{Stage}
-use Rattle.part_core.specs.declared.stage.Stage.TheVariants.{Locked, Updated, Open, Stopped}
-use Rattle.part_core.specs.declared.event.PartEvent.{PartEvent}
-use Rattle.part_core.specs.declared.event.PartEvent.TheVariants as events
-use Rattle.part_core.specs.Marks.{PartMark, TurnBegan, TurnEnded, BecameActive, BecameInactive, PartOpened, begun_calls, ended_calls, marks_of_begin, marks_of_next, marks_of_ends, marks_of_inactive, marks_of_stop}
-use Rattle.part_core.specs.Part as Part
-use Rattle.part_core.specs.Part.{PartState, PartStep, CellStep, each_cell, is_open, is_updated, is_locked, is_spent, is_full, found_or_first, call_chain, asked_step, ask_cell, ask_owned, ask_here, ask_found, ask_part, polled_step, poll_cell, ended_step, end_cell, draw_part, hold_cell, release_cell, lock_part, update_part, unlock_part, is_drained, open_cell, as_open, tick_cell, tick_part, is_foreign, is_own, is_overdue, may_begin, close_cell, first_to_close, closed_cell, running_step, stopped_step, step_at, part_step, ring_owner}
+use Rattle.part_model.specs.declared.stage.Stage.{Stage}
+use Rattle.part_model.specs.declared.stage.Stage.TheVariants.{Locked, Updated, Open, Stopped}
+use Rattle.part_model.specs.declared.event.PartEvent.{PartEvent}
+use Rattle.part_model.specs.declared.event.PartEvent.TheVariants as events
+use Rattle.part_model.specs.Marks.{PartMark, TurnBegan, TurnEnded, BecameActive, BecameInactive, PartOpened, begun_calls, ended_calls, marks_of_begin, marks_of_next, marks_of_ends, marks_of_inactive, marks_of_stop}
+use Rattle.part_model.specs.Part as Part
+use Rattle.part_model.specs.Part.{PartState, PartStep, CellStep, each_cell, is_open, is_updated, is_locked, is_spent, is_full, found_or_first, call_chain, asked_step, ask_cell, ask_owned, ask_here, ask_found, ask_part, polled_step, poll_cell, ended_step, end_cell, draw_part, hold_cell, release_cell, lock_part, update_part, unlock_part, is_drained, open_cell, as_open, tick_cell, tick_part, is_foreign, is_own, is_overdue, may_begin, close_cell, first_to_close, closed_cell, running_step, stopped_step, step_at, part_step, ring_owner}
 use Rattle.world_run.specs.declared.tally.Tally.{Tally}
 use Rattle.world_run.specs.Views.{began_in, ended_in, closes, is_ended, tally_of, told_calls}
 

@@ -6,12 +6,12 @@ use Rattle.place_table.specs.declared.host.HostInfo.{HostInfo}
 use Rattle.cluster_model.proofs.SpaceParts.{in_messages, of_itself}
 use Rattle.actor_names.specs.declared.member.Member.{Member}
 use Rattle.turn_core.specs.CellSound.{In}
-use Rattle.part_core.specs.declared.event.PartEvent.{PartEvent}
-use Rattle.part_core.specs.declared.event.PartEvent.TheVariants as events_of
-use Rattle.part_core.specs.declared.event.PartReply.{PartReply}
-use Rattle.part_core.specs.Part.{PartState, ring_owner}
-use Rattle.member_core.specs.declared.ack.Ack as declared
-use Rattle.member_core.specs.Acks.{collected, are_stopped}
+use Rattle.part_model.specs.declared.event.PartEvent.{PartEvent}
+use Rattle.part_model.specs.declared.event.PartEvent.TheVariants as events_of
+use Rattle.part_model.specs.Receipts.{PartReply}
+use Rattle.part_model.specs.Part.{PartState, ring_owner}
+use Rattle.part_model.specs.declared.ack.Ack as declared
+use Rattle.part_model.specs.Acks.{collected, are_stopped}
 use Rattle.round_core.specs.declared.event.PlaceReply.{PlaceReply}
 use Rattle.round_core.specs.declared.event.PlaceReply.TheVariants as replies
 use Rattle.round_core.specs.Room.{last_version}

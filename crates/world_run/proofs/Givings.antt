@@ -4,10 +4,10 @@ use Rattle.std.specs.Prelude.{zero, suc, ◌==◌, slice_get, Option, None, Some
 use Rattle.std.proofs.lemmas.Bool.{true≢false, eq-eqb}
 use Rattle.actor_names.specs.declared.member.Member.{Member}
 use Rattle.actor_names.specs.declared.actor_key.ActorKey.{ActorKey}
-use Rattle.part_core.specs.declared.event.PartEvent.{PartEvent}
-use Rattle.part_core.specs.declared.event.PartEvent.TheVariants as events_of
-use Rattle.part_core.specs.declared.event.PartReply.{PartReply}
-use Rattle.part_core.specs.Part.{PartState, PartStep, part_step, ring_owner}
+use Rattle.part_model.specs.declared.event.PartEvent.{PartEvent}
+use Rattle.part_model.specs.declared.event.PartEvent.TheVariants as events_of
+use Rattle.part_model.specs.Receipts.{PartReply}
+use Rattle.part_model.specs.Part.{PartState, PartStep, part_step, ring_owner}
 use Rattle.world_events.specs.declared.settings.WorldSettings.{WorldSettings}
 use Rattle.world_events.specs.declared.outcome.Outcome.{Outcome}
 use Rattle.world_events.specs.declared.outcome.Outcome.TheVariants as out

@@ -4,15 +4,15 @@ use Rattle.std.specs.Prelude.{zero, suc, ◌≤◌, if◌then◌else◌, bytes_e
 use Rattle.std.proofs.lemmas.Bool.{cond_both}
 use Rattle.std.proofs.lemmas.List.Elements.{All-head, All-tail}
 use Rattle.turn_core.specs.Cell.{greatest_depth}
-use Rattle.part_core.specs.Settings.{settings_or, AreShallow}
+use Rattle.part_model.specs.Settings.{settings_or, AreShallow}
 use Rattle.std.proofs.lemmas.List.{map-append}
 use Rattle.actor_names.specs.declared.member.Member.{Member}
 use Rattle.turn_core.specs.CellSound.{In}
-use Rattle.part_core.specs.declared.settings.TypeSettings.{TypeSettings}
-use Rattle.part_core.specs.Part.{PartState, new_part, ring_owner}
-use Rattle.part_core.specs.Rooms.{PartView}
-use Rattle.part_core.specs.Sound.{IsPartSound}
-use Rattle.part_core.proofs.PartTables.{new_part_sound}
+use Rattle.part_model.specs.declared.settings.TypeSettings.{TypeSettings}
+use Rattle.part_model.specs.Part.{PartState, new_part, ring_owner}
+use Rattle.part_model.specs.Rooms.{PartView}
+use Rattle.part_model.specs.Sound.{IsPartSound}
+use Rattle.part_model.proofs.PartTables.{new_part_sound}
 use Rattle.world_events.specs.declared.settings.WorldSettings.{WorldSettings}
 use Rattle.cluster_model.specs.World.{unnamed_settings, settings_in, settings_for, new_parts}
 use Rattle.cluster_model.proofs.Basics.{In-append}

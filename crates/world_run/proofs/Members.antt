@@ -2,7 +2,7 @@
 use Rattle.std.proofs.Common.{◌≡◌, ℕ, ◌+◌, ◌*◌, ◌<◌, ◌≤◌, List, [], ◌∷◌, ◌++◌, length, refl, sym, ap, ◌∙◌, subst, arith, mul-le-mul_right}
 use Rattle.std.specs.Prelude.{zero, suc, slice_get, Option, None, Some}
 use Rattle.actor_names.specs.declared.member.Member.{Member}
-use Rattle.part_core.specs.Part.{PartState}
+use Rattle.part_model.specs.Part.{PartState}
 use Rattle.world_run.specs.declared.home.Home.{Home}
 use Rattle.world_run.specs.Layout.{booted_at, PartTag, tag_of, tags_of, member_tags, all_tags, IsFirst}
 use Rattle.world_run.specs.Looks.{member_in}

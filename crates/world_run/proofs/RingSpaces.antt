@@ -5,7 +5,7 @@ use Rattle.std.proofs.lemmas.Slice.Eq.{bytes_eq-Decides}
 use Rattle.actor_names.specs.declared.actor_key.ActorKey.{ActorKey}
 use Rattle.place_table.specs.declared.host.HostInfo.{HostInfo}
 use Rattle.place_table.specs.Hosts.{PlacementTable, host_of, owner_of, table_owner}
-use Rattle.part_core.specs.Part.{ring_owner}
+use Rattle.part_model.specs.Part.{ring_owner}
 use Rattle.cluster_model.specs.Spaces.{KeepsToSpace}
 
 table_keeps : (t : PlacementTable) (k : ActorKey) (h : HostInfo) → table_owner t k ≡ Some h → k.space ≡ t.space

@@ -3,7 +3,7 @@ use Rattle.std.proofs.Common.{◌≡◌, ℕ, ◌+◌, ◌<◌, Bool, true, fals
 use Rattle.std.specs.Prelude.{zero, suc, slice_get, Option, None, Some}
 use Rattle.actor_names.specs.declared.member.Member.{Member}
 use Rattle.member_roster.specs.Members.{Joined, is_late, late_of}
-use Rattle.part_core.specs.Part.{PartState}
+use Rattle.part_model.specs.Part.{PartState}
 use Rattle.placement_core.specs.Placement.{SpaceRoom, late_in}
 use Rattle.cluster_model.specs.World.{all_stopped, running_among}
 use Rattle.world_run.specs.Post.{late_member}

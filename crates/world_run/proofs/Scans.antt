@@ -5,12 +5,12 @@ use Rattle.std.proofs.lemmas.Bool.{ne_eqb, eq-eqb, eqb-true, true≢false}
 use Rattle.std.proofs.lemmas.List.{length-append, length-map}
 use Rattle.actor_names.specs.declared.member.Member.{Member}
 use Rattle.actor_names.specs.Same.{same_member}
-use Rattle.part_core.specs.Receipts.{ReceiptState}
-use Rattle.part_core.specs.declared.receipt.SeenStage.TheVariants as seen
-use Rattle.part_core.specs.declared.stage.Stage.{Stage}
-use Rattle.part_core.specs.declared.stage.Stage.TheVariants.{Locked, Updated, Open, Stopped}
-use Rattle.part_core.specs.Part.{PartState, is_stopped, is_drained, seen_stage, receipt_of, ring_owner}
-use Rattle.member_core.specs.Acks.{is_stopped_stage, is_of_part, other_place}
+use Rattle.part_model.specs.Receipts.{ReceiptState}
+use Rattle.part_model.specs.declared.stage.SeenStage.TheVariants as seen
+use Rattle.part_model.specs.declared.stage.Stage.{Stage}
+use Rattle.part_model.specs.declared.stage.Stage.TheVariants.{Locked, Updated, Open, Stopped}
+use Rattle.part_model.specs.Part.{PartState, is_stopped, is_drained, seen_stage, receipt_of, ring_owner}
+use Rattle.part_model.specs.Acks.{is_stopped_stage, is_of_part, other_place}
 use Rattle.cluster_model.specs.World.{key_part, is_part, up, place_of_part, places_of, was_booted, all_stopped, receipts_of}
 use Rattle.cluster_model.proofs.Basics.{same_member-self}
 use Rattle.world_run.specs.Layout.{PartTag, tag_of, tags_of, member_tags, HasNone, IsFirst, with_found, segment, are_all_stopped, counted_from}

@@ -2,15 +2,15 @@
 use Rattle.std.proofs.Common.{◌≡◌, ℕ, ◌+◌, Bool, true, false, cond, List, [], ◌∷◌, ◌++◌, refl, sym, ap, ◌∙◌, arith, append-nil, append_assoc}
 use Rattle.std.specs.Prelude.{zero, suc, ◌==◌, slice_get, set, length, Option, None, Some, Result}
 use Rattle.actor_names.specs.declared.member.Member.{Member}
-use Rattle.part_core.specs.declared.event.PartEvent.{PartEvent}
-use Rattle.part_core.specs.declared.event.PartEvent.TheVariants as events
-use Rattle.part_core.specs.declared.event.PartReply.{PartReply}
-use Rattle.part_core.specs.Marks.{PartMark, TurnBegan, TurnEnded, BecameActive, BecameInactive, PartOpened}
-use Rattle.part_core.specs.Part.{PartState, part_step, ring_owner}
+use Rattle.part_model.specs.declared.event.PartEvent.{PartEvent}
+use Rattle.part_model.specs.declared.event.PartEvent.TheVariants as events
+use Rattle.part_model.specs.Receipts.{PartReply}
+use Rattle.part_model.specs.Marks.{PartMark, TurnBegan, TurnEnded, BecameActive, BecameInactive, PartOpened}
+use Rattle.part_model.specs.Part.{PartState, part_step, ring_owner}
 use Rattle.round_core.specs.declared.event.PlaceEvent.TheVariants as place_changes
 use Rattle.placement_core.specs.Placement.{late_in, placement_step, placement_restarted}
-use Rattle.member_core.specs.declared.ack.Ack as declared
-use Rattle.member_core.specs.Acks.{collected, are_stopped}
+use Rattle.part_model.specs.declared.ack.Ack as declared
+use Rattle.part_model.specs.Acks.{collected, are_stopped}
 use Rattle.world_events.specs.declared.event.WorldEvent.{WorldEvent}
 use Rattle.world_events.specs.declared.event.WorldEvent.TheVariants as lines
 use Rattle.world_events.specs.declared.error.WorldError.{WorldError}

@@ -3,10 +3,10 @@ use Rattle.std.specs.Prelude.{◌≡◌, ℕ, zero, suc, ◌<◌, ◌≤◌, Boo
 use Rattle.actor_names.specs.declared.member.Member.{Member}
 use Rattle.turn_core.specs.CellSound.{In}
 use Rattle.actor_names.specs.Same.{same_member}
-use Rattle.part_core.specs.Part.{PartState, is_stopped, ring_owner}
-use Rattle.part_core.specs.Sound.{IsPartSound}
-use Rattle.part_core.specs.Receipts.{ReceiptState}
-use Rattle.member_core.specs.Acks.{other_place}
+use Rattle.part_model.specs.Part.{PartState, is_stopped, ring_owner}
+use Rattle.part_model.specs.Sound.{IsPartSound}
+use Rattle.part_model.specs.Receipts.{ReceiptState}
+use Rattle.part_model.specs.Acks.{other_place}
 use Rattle.cluster_model.specs.World.{key_part, was_booted, receipts_of}
 use Rattle.world_run.specs.declared.home.Home.{Home}
 

@@ -1,7 +1,7 @@
 -- What a world shows of its members and messages. Own.
 use Rattle.std.specs.Prelude.{ℕ, zero, suc, Bool, true, false, List, Option, None, Some, slice_get, option_map}
 use Rattle.actor_names.specs.declared.member.Member.{Member}
-use Rattle.part_core.specs.Part.{PartState}
+use Rattle.part_model.specs.Part.{PartState}
 use Rattle.cluster_model.specs.Messages.{Message, Asks, Tells}
 
 -- whose part it is, if there is one

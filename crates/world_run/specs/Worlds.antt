@@ -1,8 +1,8 @@
 -- What contracts see of the world of a cluster script: the cluster's state without its marks, and how many turns began
 -- and ended, which come from the marks. Own.
 use Rattle.std.specs.Prelude.{◌≡◌, ◌⊎◌, ℕ, ◌+◌, ◌-◌, ◌<◌, length, slice_get, List, [], ◌∷◌, ◌++◌, MatchResult, Option, None, Some, IfSome, Result, Ok, Err}
-use Rattle.part_core.specs.Part.{PartState, ring_owner}
-use Rattle.part_core.specs.Rooms.{IsInRange}
+use Rattle.part_model.specs.Part.{PartState, ring_owner}
+use Rattle.part_model.specs.Rooms.{IsInRange}
 use Rattle.placement_core.specs.Placement.{PlacementState}
 use Rattle.world_events.specs.declared.settings.WorldSettings.{WorldSettings}
 use Rattle.world_events.specs.declared.event.WorldEvent.{WorldEvent}

@@ -1,6 +1,6 @@
 // The cluster of a world: the placement and the messages, the parts of all members, and the calls of the script.
 ghost use Rattle.std.specs.Prelude.{◌≡◌, ◌<◌, ◌≤◌, ◌*◌, suc, length, slice_get};
-ghost use Rattle.part_core.specs.Settings.{AreShallow};
+ghost use Rattle.part_model.specs.Settings.{AreShallow};
 ghost use Rattle.round_core.specs.Room.{last_version};
 ghost use Rattle.placement_core.specs.Placement.{room_of};
 ghost use Rattle.cluster_model.specs.World.{opening_cluster};
@@ -28,7 +28,7 @@ pub(crate) struct Cluster {
 
 impl Model for Cluster {
     ghost use Rattle.std.specs.Prelude.{◌≡◌};
-    ghost use Rattle.part_core.specs.Settings.{AreShallow};
+    ghost use Rattle.part_model.specs.Settings.{AreShallow};
     ghost use Rattle.world_run.specs.Worlds.{WorldView, viewed};
 
     ghost Value = { WorldView };

@@ -4,7 +4,7 @@ ghost use Rattle.place_table.specs.Hosts.{PlacementTable};
 ghost use Rattle.world_run.specs.Post.{messages_in, numbered, asked_of, kept_answer, updated_version, is_wanted, spot_for, is_request, is_register, place_wants};
 
 use actor_names::{Member, OutOfMemory, Space};
-use part_core::PartEvent;
+use part_model::PartEvent;
 use place_table::{AckStage, HostInfo, Table};
 use round_core::{PlaceEvent, PlaceReply};
 use std::alloc::Global;

@@ -1,12 +1,13 @@
 // The parts of a new member.
 ghost use Rattle.std.specs.Prelude.{◌≡◌, ◌≤◌, IfOk, unwrap_or};
 ghost use Rattle.std.specs.Option.{option_copied};
-ghost use Rattle.part_core.specs.Settings.{AreShallow};
+ghost use Rattle.part_model.specs.Settings.{AreShallow};
 ghost use Rattle.cluster_model.specs.World.{unnamed_settings, settings_in, settings_for, new_parts};
 ghost use Rattle.world_run.specs.Views.{states_of};
 
 use actor_names::{ActorType, Member, OutOfMemory};
-use part_core::{Part, PartSettings, TypeList, TypeSettings};
+use part_core::Part;
+use part_model::{PartSettings, TypeList, TypeSettings};
 use std::alloc::Global;
 use world_events::WorldSettings;
 

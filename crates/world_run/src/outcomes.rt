@@ -3,7 +3,8 @@ ghost use Rattle.std.specs.Prelude.{◌≡◌};
 ghost use Rattle.cluster_model.specs.World.{call_outcome, hold_outcome, seen_outcome, told_outcome, closing_outcome, stop_outcome, lost_outcome, dropped_outcome, ended_turns};
 
 use actor_names::Member;
-use part_core::{PartReply, Receipt, SeenStage};
+use part_core::{PartReply, Receipt};
+use part_model::SeenStage;
 use round_core::PlaceReply;
 use world_events::{Outcome, TurnOutcome};
 

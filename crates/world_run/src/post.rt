@@ -14,7 +14,7 @@ use crate::kept::{
     updated_version,
 };
 use actor_names::{Member, OutOfMemory, Space};
-use part_core::PartEvent;
+use part_model::PartEvent;
 use place_table::{Table, build_table};
 use placement_core::Placement;
 use round_core::{PlaceEvent, PlaceReply};

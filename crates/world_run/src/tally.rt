@@ -2,7 +2,8 @@
 ghost use Rattle.std.specs.Prelude.{◌≡◌};
 ghost use Rattle.world_run.specs.Views.{closes, is_ended, tally_of};
 
-use part_core::{PartEvent, PartReply};
+use part_core::PartReply;
+use part_model::PartEvent;
 
 /// How many turns a step began and ended.
 #[derive(Clone, Copy)]

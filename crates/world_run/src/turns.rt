@@ -1,6 +1,6 @@
 // Calls of actors, their turns, and what ends them.
 ghost use Rattle.std.specs.Prelude.{◌≡◌, ◌<◌, ◌≤◌, ◌+◌, ◌*◌, ◌^◌, true, false, length, IfSome, IfNone};
-ghost use Rattle.part_core.specs.Rooms.{IsInRange};
+ghost use Rattle.part_model.specs.Rooms.{IsInRange};
 ghost use Rattle.cluster_model.specs.World.{ask_of, next_number, end_outcome, closed_outcome};
 ghost use Rattle.world_run.specs.Views.{MayWant, wants};
 ghost use Rattle.world_events.specs.declared.event.WorldEvent.TheVariants as lines;
@@ -12,7 +12,8 @@ use crate::outcomes::{
     call_outcome, closing_outcome, ended_turns, hold_outcome, nothing, stop_outcome,
 };
 use actor_names::{ActorKey, ChainId, Member};
-use part_core::{PartEvent, PartReply};
+use part_core::PartReply;
+use part_model::PartEvent;
 use std::alloc::Global;
 use world_events::{Outcome, TurnOutcome, WorldError};
 

@@ -1,7 +1,7 @@
 // The world of a cluster script.
 ghost use Rattle.std.specs.Prelude.{◌≡◌, ◌<◌, ◌≤◌, length};
-ghost use Rattle.part_core.specs.Settings.{AreShallow};
-ghost use Rattle.part_core.specs.Part.{ring_owner};
+ghost use Rattle.part_model.specs.Settings.{AreShallow};
+ghost use Rattle.part_model.specs.Part.{ring_owner};
 ghost use Rattle.round_core.specs.Room.{last_version};
 ghost use Rattle.placement_core.specs.Placement.{room_of};
 ghost use Rattle.cluster_model.specs.World.{ClusterState, key_part, cluster_step, opening_cluster};
@@ -26,7 +26,7 @@ pub struct World {
 }
 
 impl Model for World {
-    ghost use Rattle.part_core.specs.Part.{ring_owner};
+    ghost use Rattle.part_model.specs.Part.{ring_owner};
     ghost use Rattle.cluster_model.specs.Invariant.{IsSafeWorld};
     ghost use Rattle.world_run.specs.Worlds.{WorldView, cluster_of};
 

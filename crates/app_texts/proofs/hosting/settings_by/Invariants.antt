@@ -1,5 +1,5 @@
 use Rattle.std.proofs.Common.{◌≡◌, ◌++◌, drop}
-use Rattle.part_core.specs.Settings.{AreShallow}
+use Rattle.part_model.specs.Settings.{AreShallow}
 use Rattle.app_texts.specs.Config.{settings_by}
 use Rattle.app_texts.proofs.hosting.settings_by.Given as goal
 

@@ -1,4 +1,4 @@
-use Rattle.part_core.specs.Machine.{PartAllows}
+use Rattle.part_model.specs.Machine.{PartAllows}
 use Rattle.step_gate.specs.Gates.{IsSeatOf}
 use Rattle.gate_trial.proofs.tests.draw_often.Given as goal
 

@@ -1,6 +1,6 @@
 use Rattle.std.proofs.Common.{◌+◌, ◌*◌, ◌≤◌, length, vec_len, vec_capacity}
 use Rattle.slab.specs.Slab.{get}
-use Rattle.part_cells.specs.Cells.{total_calls}
+use Rattle.part_model.specs.Cells.{total_calls}
 use Rattle.part_cells.specs.Slots.{slot_of, cells_in, AreSlotsKept, late_cell, late_calls, late_number}
 use Rattle.part_cells.proofs.SlotPasses.{IsInPass}
 use Rattle.part_cells.proofs.draining.drain_all.Given as goal

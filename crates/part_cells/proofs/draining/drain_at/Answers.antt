@@ -5,8 +5,8 @@ use Rattle.std.proofs.lemmas.Bool.{or_left}
 use Rattle.slab.specs.Slab.{get}
 use Rattle.turn_core.specs.Cell.{has_turn, waiter_of, turn_calls, without_turns}
 use Rattle.turn_core.proofs.Leaves.{stopped_queue, stopped_others}
-use Rattle.part_cells.specs.declared.actor_cell.ActorCell.{ActorCell}
-use Rattle.part_cells.specs.Cells.{calls_in}
+use Rattle.part_model.specs.declared.actor_cell.ActorCell.{ActorCell}
+use Rattle.part_model.specs.Cells.{calls_in}
 use Rattle.part_cells.specs.Slots.{slot_of, is_among, number_at}
 use Rattle.part_cells.proofs.Writes.{within, write_kept, write_still}
 use Rattle.part_cells.proofs.SlotPasses.{among-turns, behind}

@@ -1,7 +1,7 @@
 use Rattle.std.proofs.Common.{◌≡◌, ℕ, ◌+◌, [], ◌∷◌, ◌++◌, List, length, refl, ap, subst, arith, length-append}
 use Rattle.slab.specs.Slab.{get}
 use Rattle.actor_names.specs.declared.actor_key.ActorKey.{ActorKey}
-use Rattle.part_cells.specs.Cells.{calls_in, total_calls}
+use Rattle.part_model.specs.Cells.{calls_in, total_calls}
 use Rattle.part_cells.specs.Slots.{slot_of, cells_in, list_at, opened_cell, opened_calls, opened_moved}
 use Rattle.part_cells.proofs.SlotPasses.{IsInPass, pass_begins, pass_goes, pass_ends, stays_left, total-found, list_short, opened_calls-short}
 use Rattle.part_cells.proofs.opening.open_all.Goals as goal

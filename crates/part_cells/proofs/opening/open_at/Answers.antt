@@ -2,7 +2,7 @@ use Rattle.std.proofs.Common.{◌≡◌, ◌++◌, Some, sym, ap, ◌∙◌, ari
 use Rattle.std.specs.Prelude.{option_map}
 use Rattle.std.specs.Option.{option_copied_mut}
 use Rattle.slab.specs.Slab.{get}
-use Rattle.part_cells.specs.Cells.{calls_in}
+use Rattle.part_model.specs.Cells.{calls_in}
 use Rattle.part_cells.specs.Slots.{slot_of, number_at, list_at, opened_cell, opened_calls, opened_moved}
 use Rattle.part_cells.proofs.Writes.{written, write_with_calls}
 use Rattle.part_cells.proofs.Settled.{opened_settled, opened_keeps, opened-key}

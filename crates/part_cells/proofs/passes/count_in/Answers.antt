@@ -1,7 +1,7 @@
 use Rattle.std.proofs.Common.{◌≡◌, ℕ, [], ◌∷◌, length, ap, arith}
 use Rattle.slab.specs.Slab.{get}
 use Rattle.actor_names.specs.declared.actor_key.ActorKey.{ActorKey}
-use Rattle.part_cells.specs.Cells.{total}
+use Rattle.part_model.specs.Cells.{total}
 use Rattle.part_cells.specs.Slots.{cells_in, one_where}
 use Rattle.part_cells.proofs.SlotPasses.{total-found}
 use Rattle.part_cells.proofs.passes.count_in.Goals as goal

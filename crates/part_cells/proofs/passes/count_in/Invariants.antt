@@ -1,6 +1,6 @@
 use Rattle.std.proofs.Common.{◌≡◌, ◌+◌, ◌≤◌, length}
 use Rattle.slab.specs.Slab.{get}
-use Rattle.part_cells.specs.Cells.{total}
+use Rattle.part_model.specs.Cells.{total}
 use Rattle.part_cells.specs.Slots.{cells_in, one_where}
 use Rattle.part_cells.proofs.passes.count_in.Given as goal
 

@@ -2,7 +2,7 @@ use Rattle.std.proofs.Common.{◌≡◌, ℕ, [], ◌∷◌, ◌++◌, ◌+◌, 
 use Rattle.std.proofs.lemmas.List.{append-nil}
 use Rattle.slab.specs.Slab.{get}
 use Rattle.actor_names.specs.declared.actor_key.ActorKey.{ActorKey}
-use Rattle.part_cells.specs.Cells.{calls_in, total_calls}
+use Rattle.part_model.specs.Cells.{calls_in, total_calls}
 use Rattle.part_cells.specs.Slots.{cells_in, each_list, list_at, open_calls}
 use Rattle.part_cells.proofs.SlotPasses.{each_list-found, total-found, list_short, open_calls-short}
 use Rattle.part_cells.proofs.stopping.list_all.Goals as goal

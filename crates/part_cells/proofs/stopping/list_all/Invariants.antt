@@ -1,6 +1,6 @@
 use Rattle.std.proofs.Common.{◌≡◌, ◌+◌, ◌≤◌, ◌++◌, vec_len, vec_capacity}
 use Rattle.slab.specs.Slab.{get}
-use Rattle.part_cells.specs.Cells.{total_calls}
+use Rattle.part_model.specs.Cells.{total_calls}
 use Rattle.part_cells.specs.Slots.{cells_in, each_list, open_calls}
 use Rattle.part_cells.proofs.stopping.list_all.Given as goal
 

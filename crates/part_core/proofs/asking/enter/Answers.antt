@@ -3,10 +3,10 @@ use Rattle.std.proofs.Common.{◌≡◌, Bool, false, sym, ap, ◌∙◌, refl}
 use Rattle.std.proofs.lemmas.Bool.{cond-true, cond-false}
 use Rattle.std.specs.Option.{option_copied}
 use Rattle.turn_core.specs.Cell.{is_open_chain}
-use Rattle.part_core.specs.declared.stage.Stage.{Stage}
-use Rattle.part_core.specs.declared.stage.Stage.TheVariants.{Locked, Updated, Open, Stopped}
+use Rattle.part_model.specs.declared.stage.Stage.{Stage}
+use Rattle.part_model.specs.declared.stage.Stage.TheVariants.{Locked, Updated, Open, Stopped}
 use Rattle.part_core.specs.Actors.{state_of}
-use Rattle.part_core.specs.Part.{PartState, PartStep, is_open, ask_cell, ask_owned, ask_here, ring_owner}
+use Rattle.part_model.specs.Part.{PartState, PartStep, is_open, ask_cell, ask_owned, ask_here, ring_owner}
 use Rattle.part_core.proofs.AskedGives.{entered_by}
 use Rattle.part_core.proofs.asking.enter.Goals as goal
 

@@ -1,8 +1,8 @@
 use Rattle.std.proofs.Common.{ℕ, Option, sym, ap, ◌∙◌}
 use Rattle.std.specs.Option.{option_copied}
 use Rattle.place_table.specs.declared.host.HostInfo.{HostInfo}
-use Rattle.part_core.specs.declared.event.PartReply.TheVariants as replies
-use Rattle.part_core.specs.Part.{refused, ask_owned}
+use Rattle.part_model.specs.declared.event.Reply.TheVariants as replies
+use Rattle.part_model.specs.Part.{refused, ask_owned}
 use Rattle.part_core.specs.Actors.{state_of}
 use Rattle.part_core.proofs.asking.enter_owned.Goals as goal
 

@@ -1,6 +1,6 @@
 use Rattle.std.proofs.Common.{◌≤◌, sym, ap, subst, ℕ}
 use Rattle.turn_core.specs.Cell.{greatest_depth}
-use Rattle.part_core.specs.declared.settings.TypeSettings.{TypeSettings}
+use Rattle.part_model.specs.declared.settings.TypeSettings.{TypeSettings}
 use Rattle.part_core.proofs.Shallow.{shallow_of}
 use Rattle.part_core.proofs.settings.depth_of.Goals as goal
 

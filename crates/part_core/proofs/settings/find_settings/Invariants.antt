@@ -1,6 +1,6 @@
 use Rattle.std.proofs.Common.{◌≡◌, unwrap_or, drop}
 use Rattle.std.specs.Option.{option_copied}
-use Rattle.part_core.specs.Settings.{default_settings, settings_or, settings_of}
+use Rattle.part_model.specs.Settings.{default_settings, settings_or, settings_of}
 use Rattle.part_core.proofs.settings.find_settings.Given as goal
 
 abbrev pub invariant-loop-settings : goal.invariant-loop-settings

@@ -1,7 +1,7 @@
 use Rattle.std.proofs.Common.{sym, ap, ◌∙◌}
 use Rattle.std.proofs.lemmas.Bool.{cond-true, cond-false}
-use Rattle.part_core.specs.Part.{is_updated, is_drained, seen_stage, ring_owner}
-use Rattle.part_core.specs.declared.stage.Stage.{Stage}
+use Rattle.part_model.specs.Part.{is_updated, is_drained, seen_stage, ring_owner}
+use Rattle.part_model.specs.declared.stage.Stage.{Stage}
 use Rattle.part_core.proofs.Foreigns.{dry, wet}
 use Rattle.part_core.proofs.standing.seen_stage.Goals as goal
 

@@ -1,8 +1,8 @@
 use Rattle.std.proofs.Common.{◌<◌, ◌≤◌, ◌^◌, List, Option, Result, length, sym, subst, arith}
-use Rattle.part_core.specs.Receipts.{ReceiptState}
-use Rattle.member_core.specs.declared.ack.Ack.{Ack}
+use Rattle.part_model.specs.Receipts.{ReceiptState}
+use Rattle.part_model.specs.declared.ack.Ack.{Ack}
 use Rattle.member_core.specs.declared.ack.CollectError.{CollectError}
-use Rattle.member_core.specs.Acks.{collect_answer}
+use Rattle.member_core.specs.Answers.{collect_answer}
 use Rattle.placement_beats.specs.Beats.{IsShort}
 use Rattle.placement_beats.proofs.Shorts.{short_first}
 use Rattle.placement_beats.proofs.heartbeat.answer_of.Goals as goal

@@ -1,6 +1,6 @@
 use Rattle.std.proofs.Common.{◌≤◌, ◌^◌, Option, subst}
 use Rattle.std.specs.Prelude.{IfSome}
-use Rattle.member_core.specs.declared.ack.Ack.{Ack}
+use Rattle.part_model.specs.declared.ack.Ack.{Ack}
 use Rattle.placement_beats.proofs.Fits.{ack_fits}
 use Rattle.placement_beats.proofs.heartbeat.frame_of.Goals as goal
 

@@ -1,5 +1,5 @@
 use Rattle.std.proofs.Common.{◌∙◌, ap, Option}
-use Rattle.member_core.specs.declared.ack.Ack.{Ack}
+use Rattle.part_model.specs.declared.ack.Ack.{Ack}
 use Rattle.placement_beats.specs.Beats.{frame_of}
 use Rattle.placement_beats.proofs.Turns.{no_exchange, exchange_frame_of}
 use Rattle.placement_beats.proofs.heartbeat.send_beat.Goals as goal

@@ -1,5 +1,5 @@
 use Rattle.std.proofs.Common.{[], refl, Ok, Err}
-use Rattle.part_core.specs.declared.event.PartEvent.TheVariants.{Draw}
+use Rattle.part_model.specs.declared.event.PartEvent.TheVariants.{Draw}
 use Rattle.sidecar_node.specs.Entries.{one_entry}
 use Rattle.sidecar_node.specs.Nodes.{part_at}
 use Rattle.link_exchange.proofs.Diallings.{none_made}

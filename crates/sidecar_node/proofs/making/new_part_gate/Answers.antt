@@ -1,8 +1,8 @@
 use Rattle.std.proofs.Common.{[], IfOk, List, ap, subst, ◌∙◌}
-use Rattle.part_core.specs.declared.settings.TypeSettings.{TypeSettings}
-use Rattle.part_core.specs.Machine.{PartAllows}
-use Rattle.part_core.specs.Part.{new_part}
-use Rattle.part_core.specs.Rooms.{PartView}
+use Rattle.part_model.specs.declared.settings.TypeSettings.{TypeSettings}
+use Rattle.part_model.specs.Machine.{PartAllows}
+use Rattle.part_model.specs.Part.{new_part}
+use Rattle.part_model.specs.Rooms.{PartView}
 use Rattle.sidecar_node.specs.Rows.{IsNewAt}
 use Rattle.sidecar_node.proofs.News.{new_told}
 use Rattle.sidecar_node.proofs.making.new_part_gate.Goals as goal

@@ -1,6 +1,6 @@
 use Rattle.std.proofs.Common.{◌≡◌, [], length}
-use Rattle.part_core.specs.Machine.{PartAllows}
-use Rattle.part_core.specs.Part.{new_part}
+use Rattle.part_model.specs.Machine.{PartAllows}
+use Rattle.part_model.specs.Part.{new_part}
 use Rattle.sidecar_node.specs.Rows.{Along, IsNewAt}
 use Rattle.sidecar_node.specs.Nodes.{PartGate, PartSeat}
 use Rattle.sidecar_node.proofs.making.new_parts.Given as goal

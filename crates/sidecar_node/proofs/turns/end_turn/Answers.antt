@@ -1,5 +1,5 @@
 use Rattle.std.proofs.Common.{ℕ, sym, subst}
-use Rattle.part_core.specs.declared.event.PartEvent.TheVariants.{End}
+use Rattle.part_model.specs.declared.event.PartEvent.TheVariants.{End}
 use Rattle.sidecar_node.specs.Turns.{MakesOne}
 use Rattle.sidecar_node.specs.Nodes.{ActsAt, SpentAt}
 use Rattle.sidecar_node.proofs.Stops.{step_acts, step_spent}

@@ -1,5 +1,5 @@
 use Rattle.std.proofs.Common.{ℕ, subst}
-use Rattle.part_core.specs.declared.event.PartEvent.TheVariants.{Hold}
+use Rattle.part_model.specs.declared.event.PartEvent.TheVariants.{Hold}
 use Rattle.sidecar_node.specs.Entries.{one_entry}
 use Rattle.sidecar_node.specs.Nodes.{ActsAt, SpentAt}
 use Rattle.sidecar_records.proofs.stepping.hold_step.Goals as goal

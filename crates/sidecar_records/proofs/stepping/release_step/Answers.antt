@@ -1,5 +1,5 @@
 use Rattle.std.proofs.Common.{ℕ, sym, subst}
-use Rattle.part_core.specs.declared.event.PartEvent.TheVariants.{Release}
+use Rattle.part_model.specs.declared.event.PartEvent.TheVariants.{Release}
 use Rattle.sidecar_node.specs.Entries.{one_entry}
 use Rattle.sidecar_node.specs.Nodes.{part_at, ActsAt, SpentAt}
 use Rattle.sidecar_records.proofs.stepping.release_step.Goals as goal

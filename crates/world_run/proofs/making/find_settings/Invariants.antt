@@ -1,6 +1,6 @@
 use Rattle.std.proofs.Common.{◌≡◌, unwrap_or, drop}
 use Rattle.std.specs.Option.{option_copied}
-use Rattle.part_core.specs.Settings.{settings_or}
+use Rattle.part_model.specs.Settings.{settings_or}
 use Rattle.cluster_model.specs.World.{unnamed_settings, settings_in}
 use Rattle.world_run.proofs.making.find_settings.Given as goal
 

@@ -1,9 +1,9 @@
 use Rattle.std.proofs.Common.{◌≡◌, ap, sym, ◌∙◌, subst}
 use Rattle.std.specs.Prelude.{List, []}
-use Rattle.part_core.specs.declared.settings.TypeSettings.{TypeSettings}
-use Rattle.part_core.specs.Settings.{AreShallow}
-use Rattle.part_core.specs.Part.{new_part}
-use Rattle.part_core.specs.Rooms.{PartView}
+use Rattle.part_model.specs.declared.settings.TypeSettings.{TypeSettings}
+use Rattle.part_model.specs.Settings.{AreShallow}
+use Rattle.part_model.specs.Part.{new_part}
+use Rattle.part_model.specs.Rooms.{PartView}
 use Rattle.cluster_model.specs.World.{settings_for}
 use Rattle.world_run.specs.Views.{states_of}
 use Rattle.world_run.proofs.Makings.{made-more, shallow_for}

@@ -4,8 +4,8 @@ use Rattle.std.proofs.lemmas.Bool.{cond-true}
 use Rattle.slab.specs.Slab.{Slab, get, Updates}
 use Rattle.actor_names.specs.declared.actor_key.ActorKey.{ActorKey}
 use Rattle.actor_names.specs.Same.{key_cmp}
-use Rattle.part_cells.specs.declared.actor_cell.ActorCell.{ActorCell}
-use Rattle.part_cells.specs.Cells.{cell_at, cell_of_call, put_cell, drop_cell, is_kept}
+use Rattle.part_model.specs.declared.actor_cell.ActorCell.{ActorCell}
+use Rattle.part_model.specs.Cells.{cell_at, cell_of_call, put_cell, drop_cell, is_kept}
 use Rattle.part_cells.specs.Slots.{slot_of, cells_in, AreSlotsKept}
 use Rattle.part_cells.proofs.Keeping.{look_none, kept_added, added}
 use Rattle.part_cells.proofs.Writes.{taken_back}

@@ -6,7 +6,7 @@ use Rattle.turn_core.specs.declared.answer.CellError.{CellError}
 use Rattle.turn_core.specs.declared.answer.CellError.TheVariants as deny
 use Rattle.turn_core.specs.Cell.{AskStep, admit_call}
 use Rattle.turn_core.proofs.Joins.{asked_joins, gives_same}
-use Rattle.part_cells.specs.declared.actor_cell.ActorCell.{ActorCell}
+use Rattle.part_model.specs.declared.actor_cell.ActorCell.{ActorCell}
 use Rattle.part_cells.specs.Slots.{slot_of, AsksAt}
 use Rattle.part_cells.proofs.Keeping.{look_none}
 use Rattle.part_cells.proofs.Writes.{not_in, write_keeps, write_joined, write_still, write_same, taken_back}

@@ -1,7 +1,7 @@
 use Rattle.std.proofs.Common.{◌≡◌, [], true, Some, refl, sym, ap, ◌∙◌}
 use Rattle.std.specs.Option.{option_copied_mut}
 use Rattle.slab.specs.Slab.{get}
-use Rattle.part_cells.specs.declared.actor_cell.ActorCell.{ActorCell}
+use Rattle.part_model.specs.declared.actor_cell.ActorCell.{ActorCell}
 use Rattle.part_cells.specs.Slots.{slot_of, IsSettled}
 use Rattle.part_cells.proofs.Writes.{write_keeps, write_with_calls}
 use Rattle.part_cells.proofs.cells.Cells.close.Goals as goal

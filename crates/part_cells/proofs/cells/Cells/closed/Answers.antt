@@ -10,8 +10,8 @@ use Rattle.turn_core.specs.declared.cell.Waiter.{Waiter}
 use Rattle.turn_core.specs.Cell.{next_call, call_of}
 use Rattle.turn_core.proofs.CellSteps.{nil_of_length}
 use Rattle.turn_core.proofs.Leaves.{begins_keeps}
-use Rattle.part_cells.specs.declared.actor_cell.ActorCell.{ActorCell}
-use Rattle.part_cells.specs.Cells.{is_kept, put_cell, drop_cell}
+use Rattle.part_model.specs.declared.actor_cell.ActorCell.{ActorCell}
+use Rattle.part_model.specs.Cells.{is_kept, put_cell, drop_cell}
 use Rattle.part_cells.specs.Slots.{slot_of, cells_in, AreSlotsKept, closed_cell}
 use Rattle.part_cells.proofs.Keeping.{kept_dropped, dropped, empty_has}
 use Rattle.part_cells.proofs.Writes.{written, write_keeps, write_with_calls}

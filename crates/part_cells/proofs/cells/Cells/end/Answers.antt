@@ -3,7 +3,7 @@ use Rattle.std.specs.Option.{option_copied_mut}
 use Rattle.slab.specs.Slab.{get}
 use Rattle.turn_core.specs.Cell.{cell_end}
 use Rattle.turn_core.proofs.Leaves.{ended_open, ended_leaves, end_not, waits_not, gone_not}
-use Rattle.part_cells.specs.declared.actor_cell.ActorCell.{ActorCell}
+use Rattle.part_model.specs.declared.actor_cell.ActorCell.{ActorCell}
 use Rattle.part_cells.specs.Slots.{slot_of, IsSettled}
 use Rattle.part_cells.proofs.Writes.{within, write_keeps, write_left, write_still, write_same}
 use Rattle.part_cells.proofs.Settled.{turn_awake, awake_settled}

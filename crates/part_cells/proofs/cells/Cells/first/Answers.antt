@@ -1,7 +1,7 @@
 use Rattle.std.proofs.Common.{◌≡◌, ℕ, Option, Some, None, refl, Bor}
 use Rattle.std.specs.Option.{MatchOption}
 use Rattle.slab.specs.Slab.{get}
-use Rattle.part_cells.specs.declared.actor_cell.ActorCell.{ActorCell}
+use Rattle.part_model.specs.declared.actor_cell.ActorCell.{ActorCell}
 use Rattle.part_cells.specs.Slots.{CellsView, IsFoundAt, slot_of}
 use Rattle.part_cells.proofs.Keeping.{found_at}
 use Rattle.part_cells.proofs.cells.Cells.first.Goals as goal

@@ -3,7 +3,7 @@ use Rattle.std.specs.Option.{option_copied_mut}
 use Rattle.slab.specs.Slab.{get}
 use Rattle.turn_core.specs.Cell.{without_hold}
 use Rattle.turn_core.proofs.Presence.{KeepsCalls}
-use Rattle.part_cells.specs.declared.actor_cell.ActorCell.{ActorCell}
+use Rattle.part_model.specs.declared.actor_cell.ActorCell.{ActorCell}
 use Rattle.part_cells.specs.Slots.{slot_of, IsSettled}
 use Rattle.part_cells.proofs.Writes.{write_keeps, write_with_calls}
 use Rattle.part_cells.proofs.cells.Cells.release.Goals as goal

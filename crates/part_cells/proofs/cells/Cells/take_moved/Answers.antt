@@ -8,8 +8,8 @@ use Rattle.slab.specs.Slab.{get}
 use Rattle.actor_names.specs.Same.{key_cmp}
 use Rattle.turn_core.specs.Cell.{cell_poll}
 use Rattle.turn_core.proofs.Leaves.{polled_leaves}
-use Rattle.part_cells.specs.declared.actor_cell.ActorCell.{ActorCell}
-use Rattle.part_cells.specs.Cells.{is_kept, put_cell, drop_cell}
+use Rattle.part_model.specs.declared.actor_cell.ActorCell.{ActorCell}
+use Rattle.part_model.specs.Cells.{is_kept, put_cell, drop_cell}
 use Rattle.part_cells.specs.Slots.{slot_of, cells_in, AreSlotsKept, IsSettled}
 use Rattle.part_cells.proofs.Keeping.{kept_dropped, dropped}
 use Rattle.part_cells.proofs.Writes.{within, written, write_keeps, write_left}

@@ -1,7 +1,7 @@
 use Rattle.std.proofs.Common.{◌≡◌, ◌+◌, ◌<◌, ◌^◌, None, length, arith, vec_capacity}
 use Rattle.std.specs.Option.{option_copied}
-use Rattle.part_cells.specs.declared.actor_cell.ActorCell.{ActorCell}
-use Rattle.part_cells.specs.Cells.{cell_at, keep_cell}
+use Rattle.part_model.specs.declared.actor_cell.ActorCell.{ActorCell}
+use Rattle.part_model.specs.Cells.{cell_at, keep_cell}
 use Rattle.part_core.proofs.FirstAsks.{first_settled, first_one, first_numbered}
 use Rattle.part_core.proofs.Kept.{fresh, kept_more, kept_first}
 use Rattle.part_core.proofs.actors.Actors.add_first.Goals as goal

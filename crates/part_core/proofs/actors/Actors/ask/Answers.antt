@@ -1,10 +1,10 @@
 use Rattle.std.proofs.Common.{◌≡◌, ℕ, ◌&&◌, Bool, false, not, List, Option, sym, ap, ◌∙◌, subst, arith, vec_capacity}
 use Rattle.std.specs.declared.result.Result.TheVariants.{Err}
 use Rattle.std.specs.Option.{option_copied}
-use Rattle.part_core.specs.Part.{PartState, PartStep, call_chain, ask_here, ask_part, ring_owner}
-use Rattle.part_core.specs.Rooms.{GivesInMemory}
+use Rattle.part_model.specs.Part.{PartState, PartStep, call_chain, ask_here, ask_part, ring_owner}
+use Rattle.part_model.specs.Rooms.{GivesInMemory}
 use Rattle.part_core.specs.Actors.{ActorsState, state_of, view_of, Enters}
-use Rattle.part_cells.proofs.Elements.{In-cell_at}
+use Rattle.part_model.proofs.Elements.{In-cell_at}
 use Rattle.part_core.proofs.AskedGives.{quiet, ask_goes, known_step, refused_gives}
 use Rattle.part_core.proofs.Kept.{fresh, kept_asked, kept_refused}
 use Rattle.part_core.proofs.Owned.{own_if_active}

@@ -3,13 +3,13 @@ use Rattle.std.specs.Prelude.{nat_le}
 use Rattle.std.specs.declared.result.Result.TheVariants.{Err}
 use Rattle.std.proofs.lemmas.Bool.{le-leb, lt-leb}
 use Rattle.turn_core.specs.Cell.{CellState}
-use Rattle.part_cells.specs.declared.actor_cell.ActorCell.{ActorCell}
-use Rattle.part_cells.specs.Cells.{cell_at, first_cell}
-use Rattle.part_core.specs.declared.settings.TypeSettings.{TypeSettings}
-use Rattle.part_core.specs.declared.event.PartReply.TheVariants as replies
-use Rattle.part_core.specs.Settings.{settings_of}
-use Rattle.part_core.specs.Part.{PartState, PartStep, most_cells, call_chain, refused, ask_cell, ask_here, ring_owner}
-use Rattle.part_core.specs.Rooms.{Gives, GivesInMemory}
+use Rattle.part_model.specs.declared.actor_cell.ActorCell.{ActorCell}
+use Rattle.part_model.specs.Cells.{cell_at, first_cell}
+use Rattle.part_model.specs.declared.settings.TypeSettings.{TypeSettings}
+use Rattle.part_model.specs.declared.event.Reply.TheVariants as replies
+use Rattle.part_model.specs.Settings.{settings_of}
+use Rattle.part_model.specs.Part.{PartState, PartStep, most_cells, call_chain, refused, ask_cell, ask_here, ring_owner}
+use Rattle.part_model.specs.Rooms.{Gives, GivesInMemory}
 use Rattle.part_core.specs.Actors.{ActorsState, state_of, view_of, Enters}
 use Rattle.part_core.proofs.AskedGives.{first_step, refused_gives}
 use Rattle.part_core.proofs.FirstAsks.{and_true}

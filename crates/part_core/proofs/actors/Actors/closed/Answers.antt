@@ -1,11 +1,11 @@
 use Rattle.std.proofs.Common.{◌≡◌, ◌++◌, ℕ, List, Option, length, refl, ap, ◌∙◌, arith, vec_capacity}
 use Rattle.turn_core.specs.Cell.{next_call}
 use Rattle.turn_core.proofs.Leaves.{begins_keeps}
-use Rattle.part_cells.specs.declared.actor_cell.ActorCell.{ActorCell}
-use Rattle.part_cells.specs.Cells.{calls_in, keep_cell}
+use Rattle.part_model.specs.declared.actor_cell.ActorCell.{ActorCell}
+use Rattle.part_model.specs.Cells.{calls_in, keep_cell}
 use Rattle.part_cells.specs.Slots.{closed_cell}
-use Rattle.part_cells.proofs.Elements.{In-cell_at}
-use Rattle.part_cells.proofs.Sizes.{within_total}
+use Rattle.part_model.proofs.Elements.{In-cell_at}
+use Rattle.part_model.proofs.Sizes.{within_total}
 use Rattle.part_core.specs.Actors.{ActorsState, begun_next_in}
 use Rattle.part_core.proofs.Counts.{begun-in_queue}
 use Rattle.part_core.proofs.Numbers.{numbered_next, next_in_queue}

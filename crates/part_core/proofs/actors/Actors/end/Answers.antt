@@ -1,13 +1,13 @@
 use Rattle.std.proofs.Common.{◌≡◌, ◌++◌, ℕ, List, length, refl, sym, ap, ◌∙◌, subst, arith, vec_capacity}
 use Rattle.turn_core.proofs.Leaves.{ended_leaves}
-use Rattle.part_cells.specs.declared.actor_cell.ActorCell.{ActorCell}
-use Rattle.part_cells.specs.Cells.{calls_in, keep_cell}
+use Rattle.part_model.specs.declared.actor_cell.ActorCell.{ActorCell}
+use Rattle.part_model.specs.Cells.{calls_in, keep_cell}
 use Rattle.part_cells.specs.Slots.{ended_cell}
-use Rattle.part_cells.proofs.Elements.{In-cell_at}
-use Rattle.part_cells.proofs.Sizes.{within_total}
-use Rattle.part_core.specs.declared.event.PartReply.TheVariants as replies
-use Rattle.part_core.specs.Part.{end_part, may_begin, ring_owner}
-use Rattle.part_core.specs.Rooms.{Gives}
+use Rattle.part_model.proofs.Elements.{In-cell_at}
+use Rattle.part_model.proofs.Sizes.{within_total}
+use Rattle.part_model.specs.declared.event.Reply.TheVariants as replies
+use Rattle.part_model.specs.Part.{end_part, may_begin, ring_owner}
+use Rattle.part_model.specs.Rooms.{Gives}
 use Rattle.part_core.specs.Actors.{ActorsState, state_of, view_of, begun_next_in}
 use Rattle.part_core.proofs.Counts.{end_same, begun-short}
 use Rattle.part_core.proofs.Numbers.{numbered_end}

@@ -1,7 +1,7 @@
 use Rattle.std.proofs.Common.{◌++◌, ℕ, List, length, ap, ◌∙◌, arith, vec_capacity}
 use Rattle.part_cells.specs.Slots.{each_list, opened_calls}
 use Rattle.part_core.specs.Actors.{no_actors, state_of}
-use Rattle.part_core.specs.Part.{open_cell, ring_owner}
+use Rattle.part_model.specs.Part.{open_cell, ring_owner}
 use Rattle.part_core.proofs.EachKept.{is_mine, each-cells, each-begun, each-second, open-cell, open-begun, open-moved, length-begun, begun-few, kept_each, opening_keeps}
 use Rattle.part_core.proofs.actors.Actors.open.Goals as goal
 

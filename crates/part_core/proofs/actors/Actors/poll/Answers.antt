@@ -1,8 +1,8 @@
 use Rattle.std.proofs.Common.{◌≡◌, refl, sym, ◌∙◌, arith, vec_capacity}
 use Rattle.turn_core.specs.Cell.{cell_poll}
 use Rattle.turn_core.proofs.Leaves.{polled_leaves}
-use Rattle.part_cells.specs.declared.actor_cell.ActorCell.{ActorCell}
-use Rattle.part_cells.specs.Cells.{keep_cell}
+use Rattle.part_model.specs.declared.actor_cell.ActorCell.{ActorCell}
+use Rattle.part_model.specs.Cells.{keep_cell}
 use Rattle.part_core.specs.Actors.{state_of}
 use Rattle.part_core.proofs.Numbers.{numbered_poll}
 use Rattle.part_core.proofs.Kept.{found_numbered, kept_within}

@@ -1,11 +1,11 @@
 use Rattle.std.proofs.Common.{◌≡◌, max, refl, sym, subst, arith, vec_capacity}
 use Rattle.std.proofs.lemmas.Bool.{ne_eqb}
 use Rattle.turn_core.specs.Cell.{without_hold}
-use Rattle.part_cells.specs.declared.actor_cell.ActorCell.{ActorCell}
-use Rattle.part_cells.specs.Cells.{keep_cell}
-use Rattle.part_core.specs.declared.event.PartReply.TheVariants as replies
-use Rattle.part_core.specs.Part.{release_part, ring_owner}
-use Rattle.part_core.specs.Rooms.{Gives}
+use Rattle.part_model.specs.declared.actor_cell.ActorCell.{ActorCell}
+use Rattle.part_model.specs.Cells.{keep_cell}
+use Rattle.part_model.specs.declared.event.Reply.TheVariants as replies
+use Rattle.part_model.specs.Part.{release_part, ring_owner}
+use Rattle.part_model.specs.Rooms.{Gives}
 use Rattle.part_core.specs.Actors.{ActorsState, state_of, view_of}
 use Rattle.part_core.proofs.Numbers.{numbered_release}
 use Rattle.part_core.proofs.Kept.{found_numbered, kept_within}

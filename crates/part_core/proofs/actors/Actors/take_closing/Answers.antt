@@ -1,10 +1,10 @@
 use Rattle.std.proofs.Common.{◌≡◌, true, refl, sym, ◌∙◌, subst, arith, vec_capacity}
 use Rattle.turn_core.proofs.CellSteps.{free_turns}
-use Rattle.part_cells.specs.declared.actor_cell.ActorCell.{ActorCell}
-use Rattle.part_cells.specs.Cells.{keep_cell}
-use Rattle.part_core.specs.declared.event.PartReply.TheVariants as replies
-use Rattle.part_core.specs.Part.{take_closing, ring_owner}
-use Rattle.part_core.specs.Rooms.{GivesInMemory}
+use Rattle.part_model.specs.declared.actor_cell.ActorCell.{ActorCell}
+use Rattle.part_model.specs.Cells.{keep_cell}
+use Rattle.part_model.specs.declared.event.Reply.TheVariants as replies
+use Rattle.part_model.specs.Part.{take_closing, ring_owner}
+use Rattle.part_model.specs.Rooms.{GivesInMemory}
 use Rattle.part_core.specs.Actors.{ActorsState, no_actors, state_of, view_of}
 use Rattle.part_core.proofs.Kept.{found_numbered, kept_within}
 use Rattle.part_core.proofs.Closings.{closes_counted, taken_free}

@@ -1,7 +1,7 @@
 use Rattle.std.proofs.Common.{◌++◌, ℕ, List, ap, ◌∙◌, arith, vec_capacity}
 use Rattle.part_cells.specs.Slots.{each_list, late_calls}
 use Rattle.part_core.specs.Actors.{no_actors, state_of}
-use Rattle.part_core.specs.Part.{tick_cell, ring_owner}
+use Rattle.part_model.specs.Part.{tick_cell, ring_owner}
 use Rattle.part_core.proofs.EachKept.{is_late, each-cells, each-ended, each-first, tick-cell, tick-ended, tick-number, kept_each, ticking_keeps}
 use Rattle.part_core.proofs.actors.Actors.tick.Goals as goal
 

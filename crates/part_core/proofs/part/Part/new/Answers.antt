@@ -1,8 +1,8 @@
 use Rattle.std.proofs.Common.{◌≡◌, ℕ, List, [], ◌∷◌, ap, arith}
 use Rattle.std.specs.List.Sorted.{SwapsInRange, apply_swaps}
 use Rattle.place_table.specs.declared.host.HostInfo.{HostInfo}
-use Rattle.part_core.specs.declared.stage.Stage.TheVariants.{Locked}
-use Rattle.part_core.specs.Part.{no_table}
+use Rattle.part_model.specs.declared.stage.Stage.TheVariants.{Locked}
+use Rattle.part_model.specs.Part.{no_table}
 use Rattle.part_core.specs.Actors.{ActorsState}
 use Rattle.part_core.proofs.part.Part.new.Goals as goal
 

@@ -1,6 +1,6 @@
 use Rattle.std.proofs.Common.{not, Bool, ap, ◌∙◌}
 use Rattle.part_core.specs.Quiet.{gives_none}
-use Rattle.part_core.specs.Rooms.{PartView}
+use Rattle.part_model.specs.Rooms.{PartView}
 use Rattle.part_core.proofs.Closings.{none_given}
 use Rattle.part_core.proofs.shard.Shard.gives_none.Goals as goal
 

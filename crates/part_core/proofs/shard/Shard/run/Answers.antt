@@ -1,7 +1,7 @@
 use Rattle.std.proofs.Common.{refl}
-use Rattle.part_cells.specs.Cells.{cell_at, cell_of_call}
+use Rattle.part_model.specs.Cells.{cell_at, cell_of_call}
 use Rattle.part_core.specs.Actors.{state_of}
-use Rattle.part_core.specs.Part.{ask_part, draw_part, poll_part, end_part, hold_part, release_part, take_closing, first_to_close, ring_owner}
+use Rattle.part_model.specs.Part.{ask_part, draw_part, poll_part, end_part, hold_part, release_part, take_closing, first_to_close, ring_owner}
 use Rattle.part_core.proofs.Foreigns.{asks_steady, draws_steady, polls_steady, ends_steady, holds_steady, releases_steady, takes_steady}
 use Rattle.part_core.proofs.Drained.{kept_by, kept_in_memory}
 use Rattle.part_core.proofs.Wants.{ask_goes_on}

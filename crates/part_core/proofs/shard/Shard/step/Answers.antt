@@ -1,6 +1,6 @@
 use Rattle.std.proofs.Common.{◌≡◌, false, subst}
-use Rattle.part_core.specs.Part.{is_stopped}
-use Rattle.part_core.specs.Rooms.{PartView}
+use Rattle.part_model.specs.Part.{is_stopped}
+use Rattle.part_model.specs.Rooms.{PartView}
 use Rattle.part_core.proofs.Runnings.{runs, not_stopped}
 use Rattle.part_core.proofs.Wants.{runs_out, stopped_out}
 use Rattle.part_core.proofs.shard.Shard.step.Goals as goal

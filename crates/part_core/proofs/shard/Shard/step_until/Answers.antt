@@ -1,6 +1,6 @@
 use Rattle.std.proofs.Common.{◌≡◌, [], sym, ap, ◌∙◌}
 use Rattle.part_core.specs.Actors.{ActorsState, view_of}
-use Rattle.part_core.specs.Rooms.{PartView}
+use Rattle.part_model.specs.Rooms.{PartView}
 use Rattle.part_core.proofs.Closings.{early_gives}
 use Rattle.part_core.proofs.shard.Shard.step_until.Goals as goal
 

@@ -1,10 +1,10 @@
 use Rattle.std.proofs.Common.{◌≡◌, true, sym, ap, ◌∙◌, subst}
 use Rattle.std.proofs.lemmas.Bool.{true≢false}
 use Rattle.part_core.specs.Actors.{ActorsState, state_of, view_of}
-use Rattle.part_core.specs.Part.{PartStep, is_updated, is_drained, receipt_of, tick_part, ring_owner}
-use Rattle.part_core.specs.Receipts.{ReceiptState}
-use Rattle.part_core.specs.Rooms.{PartView, GivesEnded}
-use Rattle.part_core.specs.declared.event.PartReply.TheVariants as replies
+use Rattle.part_model.specs.Part.{PartStep, is_updated, is_drained, receipt_of, tick_part, ring_owner}
+use Rattle.part_model.specs.Receipts.{ReceiptState}
+use Rattle.part_model.specs.Rooms.{PartView, GivesEnded}
+use Rattle.part_model.specs.declared.event.Reply.TheVariants as replies
 use Rattle.part_core.proofs.Foreigns.{dry}
 use Rattle.part_core.proofs.Drained.{idle_tick, kept_tick}
 use Rattle.part_core.proofs.shard.Shard.tick.Goals as goal

@@ -1,10 +1,10 @@
 use Rattle.std.proofs.Common.{◌≡◌, true, sym, ap, ◌∙◌, subst, arith}
 use Rattle.part_core.specs.Actors.{ActorsState, state_of, view_of}
-use Rattle.part_core.specs.Part.{PartStep, is_updated, receipt_of, as_open, open_part, unlock_part, ring_owner}
-use Rattle.part_core.specs.Receipts.{ReceiptState}
-use Rattle.part_core.specs.Rooms.{PartView, Gives}
-use Rattle.part_core.specs.declared.event.PartReply.TheVariants as replies
-use Rattle.part_core.specs.declared.stage.Stage.TheVariants.{Open}
+use Rattle.part_model.specs.Part.{PartStep, is_updated, receipt_of, as_open, open_part, unlock_part, ring_owner}
+use Rattle.part_model.specs.Receipts.{ReceiptState}
+use Rattle.part_model.specs.Rooms.{PartView, Gives}
+use Rattle.part_model.specs.declared.event.Reply.TheVariants as replies
+use Rattle.part_model.specs.declared.stage.Stage.TheVariants.{Open}
 use Rattle.part_core.proofs.Foreigns.{dry, wet}
 use Rattle.part_core.proofs.Drained.{unlock_wet, unlock_dry}
 use Rattle.part_core.proofs.shard.Shard.unlock.Goals as goal

@@ -1,6 +1,6 @@
 use Rattle.std.proofs.Common.{◌≡◌, List, sym, ap, subst, ◌∙◌, map}
-use Rattle.part_core.specs.declared.settings.TypeSettings.{TypeSettings}
-use Rattle.part_core.specs.Settings.{AreShallow}
+use Rattle.part_model.specs.declared.settings.TypeSettings.{TypeSettings}
+use Rattle.part_model.specs.Settings.{AreShallow}
 use Rattle.cluster_model.specs.World.{opening_cluster}
 use Rattle.world_run.specs.Worlds.{view_of}
 use Rattle.plain_commands.specs.Scripts.{Setup, settings_of}

@@ -1,5 +1,5 @@
 use Rattle.std.proofs.Common.{length, length-append, ap, sym, subst, arith, [], ◌∷◌, List}
-use Rattle.part_core.specs.declared.event.PartEvent.{PartEvent}
+use Rattle.part_model.specs.declared.event.PartEvent.{PartEvent}
 use Rattle.sidecar_node.specs.Entries.{StepsAt}
 use Rattle.sidecar_node.specs.Rounds.{part_event}
 use Rattle.sidecar_node.specs.Turns.{Said}

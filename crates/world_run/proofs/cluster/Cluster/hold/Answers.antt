@@ -1,6 +1,6 @@
 use Rattle.std.proofs.Common.{ap, subst}
 use Rattle.std.specs.Prelude.{Some, Result, Ok}
-use Rattle.part_core.specs.declared.event.PartEvent.TheVariants as events
+use Rattle.part_model.specs.declared.event.PartEvent.TheVariants as events
 use Rattle.world_events.specs.declared.event.WorldEvent.TheVariants as lines
 use Rattle.world_events.specs.declared.outcome.Outcome.{Outcome}
 use Rattle.world_events.specs.declared.error.WorldError.{WorldError}

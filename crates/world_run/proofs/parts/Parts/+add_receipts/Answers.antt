@@ -1,8 +1,8 @@
 use Rattle.std.proofs.Common.{◌≡◌, ◌+◌, ◌-◌, ◌++◌, List, [], ◌∷◌, refl, sym, ap, ◌∙◌, subst, arith, append_assoc}
 use Rattle.std.specs.Prelude.{Option, Some, IsSome, Result, Ok, Err, OnOk, map}
 use Rattle.lists_and_limits.specs.declared.memory.OutOfMemory.{OutOfMemory}
-use Rattle.part_core.specs.Part.{PartState, receipt_of, ring_owner}
-use Rattle.part_core.specs.Receipts.{ReceiptState}
+use Rattle.part_model.specs.Part.{PartState, receipt_of, ring_owner}
+use Rattle.part_model.specs.Receipts.{ReceiptState}
 use Rattle.world_run.specs.Layout.{segment}
 use Rattle.world_run.proofs.Scans.{segment-next}
 use Rattle.world_run.proofs.Steps.{part_at}

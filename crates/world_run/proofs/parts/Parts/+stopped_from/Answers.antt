@@ -1,10 +1,10 @@
 use Rattle.std.proofs.Common.{◌≡◌, ◌≢◌, ◌≤◌, ◌+◌, ◌-◌, ℕ, Bool, true, false, List, length, refl, sym, ap, ◌∙◌, subst, arith}
 use Rattle.std.specs.Prelude.{Option, Some, IsSome, slice_get, ◌&&◌}
-use Rattle.part_core.specs.Part.{PartState, receipt_of, ring_owner}
-use Rattle.part_core.specs.declared.receipt.SeenStage.{SeenStage}
-use Rattle.part_core.specs.declared.receipt.SeenStage.TheVariants as seen
-use Rattle.member_core.specs.Acks.{is_stopped_stage}
-use Rattle.part_core.specs.Receipts.{ReceiptState}
+use Rattle.part_model.specs.Part.{PartState, receipt_of, ring_owner}
+use Rattle.part_model.specs.declared.stage.SeenStage.{SeenStage}
+use Rattle.part_model.specs.declared.stage.SeenStage.TheVariants as seen
+use Rattle.part_model.specs.Acks.{is_stopped_stage}
+use Rattle.part_model.specs.Receipts.{ReceiptState}
 use Rattle.world_run.specs.Layout.{segment, are_all_stopped}
 use Rattle.world_run.specs.Views.{PartsView}
 use Rattle.world_run.proofs.Scans.{segment-next, stopped_receipt_is}

@@ -1,9 +1,9 @@
 use Rattle.std.proofs.Common.{◌≡◌, ℕ, ◌++◌, ◌∷◌, [], List, length, sym, ap, ◌∙◌, subst}
 use Rattle.std.specs.Prelude.{suc}
 use Rattle.std.proofs.lemmas.List.{map-append}
-use Rattle.part_core.specs.Rooms.{PartView}
+use Rattle.part_model.specs.Rooms.{PartView}
 use Rattle.cluster_model.specs.World.{settings_for, new_parts}
-use Rattle.part_core.specs.Part.{PartState}
+use Rattle.part_model.specs.Part.{PartState}
 use Rattle.world_run.specs.declared.home.Home.{Home}
 use Rattle.world_run.specs.Layout.{home_of, AreLaidOut}
 use Rattle.world_run.specs.Views.{PartsView, state_in, states_of}

@@ -2,7 +2,7 @@ use Rattle.std.proofs.Common.{◌≡◌, ℕ, List}
 use Rattle.std.specs.Prelude.{Option, None, Some, is_some, MatchOption}
 use Rattle.std.proofs.Common.{sym, ◌∙◌}
 use Rattle.actor_names.specs.declared.member.Member.{Member}
-use Rattle.part_core.specs.Part.{PartState}
+use Rattle.part_model.specs.Part.{PartState}
 use Rattle.cluster_model.specs.World.{was_booted}
 use Rattle.world_run.specs.Layout.{HasNone, IsFirst}
 use Rattle.world_run.proofs.Scans.{booted-none, booted-first}

@@ -1,9 +1,9 @@
 use Rattle.std.proofs.Common.{◌≡◌, ◌<◌, ◌++◌, ℕ, List, length, sym, ap, ◌∙◌, subst, arith}
 use Rattle.std.specs.Prelude.{map}
 use Rattle.std.proofs.lemmas.List.{length-map}
-use Rattle.part_core.specs.Part.{receipt_of, ring_owner}
-use Rattle.part_core.specs.Receipts.{ReceiptState}
-use Rattle.member_core.specs.Acks.{other_place}
+use Rattle.part_model.specs.Part.{receipt_of, ring_owner}
+use Rattle.part_model.specs.Receipts.{ReceiptState}
+use Rattle.part_model.specs.Acks.{other_place}
 use Rattle.cluster_model.specs.World.{key_part, receipts_of}
 use Rattle.world_run.specs.Layout.{segment}
 use Rattle.world_run.specs.Views.{PartsView, state_in}

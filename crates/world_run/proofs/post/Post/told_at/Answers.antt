@@ -4,7 +4,7 @@ use Rattle.std.proofs.lemmas.Option.{slice_get-get_or}
 use Rattle.place_table.specs.Hosts.{PlacementTable}
 use Rattle.actor_names.specs.declared.member.Member.{Member}
 use Rattle.round_core.specs.declared.event.PlaceReply.{PlaceReply}
-use Rattle.part_core.specs.declared.event.PartEvent.TheVariants as events
+use Rattle.part_model.specs.declared.event.PartEvent.TheVariants as events
 use Rattle.cluster_model.specs.Messages.{Message}
 use Rattle.world_run.specs.declared.kept.Kept.{Kept}
 use Rattle.world_run.specs.declared.kept.Kept.TheVariants as kept

@@ -1,6 +1,6 @@
 use Rattle.std.proofs.Common.{◌≡◌, List, [], ◌∷◌, ◌++◌, sym, ap, ◌∙◌, subst}
 use Rattle.std.specs.Vec.Iter.{into_iter_items}
-use Rattle.part_core.specs.Part.{ring_owner}
+use Rattle.part_model.specs.Part.{ring_owner}
 use Rattle.world_events.specs.declared.outcome.Outcome.{Outcome}
 use Rattle.cluster_model.specs.World.{key_part, cluster_step}
 use Rattle.world_run.specs.Worlds.{Runs}

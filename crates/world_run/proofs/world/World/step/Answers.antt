@@ -1,5 +1,5 @@
 use Rattle.std.proofs.Common.{◌≡◌, ◌+◌, ℕ, sym, ap, ◌∙◌, subst, arith}
-use Rattle.part_core.specs.Part.{ring_owner}
+use Rattle.part_model.specs.Part.{ring_owner}
 use Rattle.cluster_model.specs.World.{key_part, cluster_step}
 use Rattle.cluster_model.specs.Invariant.{IsSafeWorld}
 use Rattle.world_run.specs.Worlds.{WorldView, Happens, GivesStep, cluster_of}

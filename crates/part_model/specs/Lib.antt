@@ -1,0 +1,14 @@
+pub mod Cells
+pub mod Order
+pub mod Receipts
+pub mod Settings
+pub mod Marks
+pub mod Part
+pub mod Sound
+pub mod Rooms
+pub mod PartMoves
+pub mod Activity
+pub mod PartRuns
+pub mod Machine
+pub mod Progress
+pub mod Acks
