@@ -19,6 +19,3 @@ pub use error::WordsError;
 pub use reading::{CommandWords, DrillWords, ScheduleWords, read_words};
 pub use server::{PlacementWords, ServerWords};
 pub use sidecar::SidecarWords;
-
-#[cfg(test)]
-mod tests;

@@ -14,6 +14,3 @@ pub use accept::ServerEnd;
 pub use duty::Duty;
 pub use server::{serve_port, serve_ports};
 pub use service::Service;
-
-#[cfg(test)]
-mod tests;

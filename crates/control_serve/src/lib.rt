@@ -15,6 +15,3 @@ mod state_turn;
 pub use law::placement_law;
 pub use placement::{PlacementFrames, placement_session};
 pub use state_session::placement_state_session;
-
-#[cfg(test)]
-mod tests;

@@ -19,6 +19,3 @@ pub use file::FileDisk;
 pub use law::image_law;
 pub use memory::MemDisk;
 pub use past::Past;
-
-#[cfg(test)]
-mod tests;

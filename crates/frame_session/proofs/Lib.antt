@@ -1,4 +1,3 @@
-mod Counting
 mod Replying
 mod Rounding
 mod Between

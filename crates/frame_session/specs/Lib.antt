@@ -1,4 +1,3 @@
-pub mod Counting
 pub mod Rounds
 pub mod Turns
 pub mod Sessions

@@ -13,6 +13,3 @@ mod turn;
 
 pub use answers::AnswersFrames;
 pub use session::frame_session;
-
-#[cfg(test)]
-mod tests;

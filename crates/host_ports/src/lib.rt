@@ -16,6 +16,3 @@ pub use host::Host;
 pub use memory::MemHost;
 pub use port::HostPort;
 pub use system::SystemHost;
-
-#[cfg(test)]
-mod tests;

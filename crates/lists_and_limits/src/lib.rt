@@ -15,6 +15,3 @@ pub use decimal::read_decimal;
 pub use limit::LAST_NUMBER;
 pub use memory::OutOfMemory;
 pub use text::Text;
-
-#[cfg(test)]
-mod tests;

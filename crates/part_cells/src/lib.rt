@@ -22,6 +22,3 @@ mod stopping;
 
 pub use cells::Cells;
 pub use passes::{CellNumber, CellTest};
-
-#[cfg(test)]
-mod tests;

@@ -28,6 +28,3 @@ pub use point::Point;
 pub use ring::ring_pick;
 pub use steps::Steps;
 pub use table::{Table, build_table};
-
-#[cfg(test)]
-mod tests;

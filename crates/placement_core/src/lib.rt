@@ -21,8 +21,3 @@ pub use law::{
 pub use placement::Placement;
 pub use replay::PlacementReplay;
 pub use round_core::{AckStage, PlaceEvent, PlaceReply, RestoreError, RoomRecord};
-
-#[cfg(test)]
-mod record_tests;
-#[cfg(test)]
-mod tests;

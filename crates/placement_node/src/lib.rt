@@ -19,6 +19,3 @@ pub use error::PlacementOpenError;
 pub use law::node_law;
 pub use node::PlacementNode;
 pub use reply::{NodeEvent, NodeReply, RoomSeen, SeenRooms};
-
-#[cfg(test)]
-mod tests;

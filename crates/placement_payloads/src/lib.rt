@@ -15,6 +15,3 @@ pub use entry::RoomEntry;
 pub use error::PayloadError;
 pub use law::payload_law;
 pub use payload::{MOST_ENTRIES, put_entry, put_payload_start, read_payload};
-
-#[cfg(test)]
-mod tests;

@@ -20,6 +20,3 @@ pub use law::reminder_law;
 pub use reminder::{Reminder, ReminderPayload, ReminderText};
 pub use row::{DueKey, ReminderRow};
 pub use rows::ReminderRows;
-
-#[cfg(test)]
-mod tests;

@@ -23,6 +23,3 @@ pub use record::RoomRecord;
 pub use replay::RoomReplay;
 pub use restore::RestoreError;
 pub use room::Room;
-
-#[cfg(test)]
-mod tests;

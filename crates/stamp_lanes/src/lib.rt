@@ -28,6 +28,3 @@ pub use lanes::StampLanes;
 pub use law::{lane_law, nodes_law, restored_law};
 pub use node::{MOST_NODES, NodeLanes};
 pub use prepared::PreparedBoot;
-
-#[cfg(test)]
-mod tests;

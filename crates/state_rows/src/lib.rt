@@ -23,6 +23,3 @@ pub use op::StateOp;
 pub use prepared::PreparedTx;
 pub use rows::StateRows;
 pub use text::{StateKey, StateValue};
-
-#[cfg(test)]
-mod tests;

@@ -11,8 +11,6 @@ mod gate;
 mod opening;
 mod plays;
 mod seats;
-#[cfg(test)]
-mod tests;
 mod turn;
 mod view;
 

@@ -18,6 +18,3 @@ mod store;
 pub use events::{CompactEnd, StoreEvent, StoreOutcome};
 pub use law::store_law;
 pub use store::Store;
-
-#[cfg(test)]
-mod tests;

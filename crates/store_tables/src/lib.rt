@@ -18,6 +18,3 @@ pub use law::outcome_law;
 pub use prepared::PreparedCommand;
 pub use row::{LaneNumbers, RowKey, TableRow};
 pub use tables::StoreTables;
-
-#[cfg(test)]
-mod tests;

@@ -26,6 +26,3 @@ pub use event::{TimerEvent, TimerReply};
 pub use law::timer_law;
 pub use text::TimerText;
 pub use timer::Timer;
-
-#[cfg(test)]
-mod tests;

@@ -20,6 +20,3 @@ pub use error::JournalError;
 pub use format::Format;
 pub use journal::Journal;
 pub use law::run_law;
-
-#[cfg(test)]
-mod tests;
