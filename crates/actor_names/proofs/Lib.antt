@@ -9,3 +9,4 @@ mod PaddingLemmas
 pub mod Slashes
 pub mod FormFaults
 mod Within
+mod SameTexts

@@ -121,6 +121,10 @@ impl<F: NameForm> Ord for Name<F> {
     ghost matches_eq = { texts_ties };
 
     fn cmp(&self, other: &Name<F>) -> Ordering {
+        // Most keys that are compared share their space and their type, and equality is the faster test.
+        if self == other {
+            return Ordering::Equal;
+        }
         self.as_slice().cmp(&other.as_slice())
     }
 }
