@@ -7,9 +7,10 @@ use crate::pass::Pass;
 use actor_names::Address;
 use actor_ports::{Clock, Dial};
 use connection_server::{Duty, Service};
+use control_serve::PlacementFrames;
 use disk_model::Disk;
-use frame_wire::{Frame, Refusal};
-use placement_node::{NodeEvent, NodeReply, PlacementNode};
+use frame_session::AnswersFrames;
+use placement_node::{NodeEvent, PlacementNode};
 use round_core::PlaceEvent;
 use std::sync::Wait;
 use std::sync::atomic::{AtomicBool, Ordering};
@@ -43,16 +44,6 @@ impl<D: Disk> PlacementService<'_, D> {
         if let Some(at) = self.state_at {
             knock(net, at);
         }
-    }
-}
-
-// Whether the node has lost its disk.
-fn has_lost(reply: &NodeReply) -> bool {
-    match reply {
-        NodeReply::Message {
-            frame: Frame::Refused { refusal },
-        } => matches!(refusal, Refusal::DiskFault | Refusal::Reopen),
-        _ => false,
     }
 }
 
@@ -99,7 +90,7 @@ fn tick<R: Wait, D: Disk + Drop + Send, K: Clock, N: Dial>(
         now: pass.clock.now_ms(),
     };
     let lost = match service.gate.call_in(rt, &mut pass.seat, tick) {
-        Ok(reply) => has_lost(&reply),
+        Ok(reply) => <PlacementFrames as AnswersFrames<PlacementNode<D>>>::breaks(&reply),
         Err(_) => true,
     };
     if lost {
