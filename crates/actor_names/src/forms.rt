@@ -1,9 +1,9 @@
 // The forms of names, and their readers.
 ghost use Rattle.std.specs.Prelude.{◌≡◌, None, IfOk, OnOk};
-ghost use Rattle.actor_names.specs.Names.{node_fault, space_fault, app_id_fault, actor_type_fault, actor_id_fault, record_name_fault};
+ghost use Rattle.actor_names.specs.Names.{node_fault, space_fault, app_id_fault, actor_type_fault, actor_id_fault, record_name_fault, chain_id_fault};
 ghost use Rattle.actor_names.specs.Reads.{ReadsInMemory, ReadsInPlace};
 
-use crate::byte_class::{IdBytes, NodeBytes, TypeBytes, fault_in};
+use crate::byte_class::{ChainBytes, IdBytes, NodeBytes, TypeBytes, fault_in};
 use crate::error::NameError;
 use crate::name::{Name, NameForm};
 use crate::short_name::{ShortForm, ShortName};
@@ -236,6 +236,41 @@ pub fn read_record_name(alloc: Global, text: &[u8]) -> Result<RecordName, NameEr
     ensures value { IfOk result (λ name. name ≡ text.now) }
     ensures sound { OnOk result (record_name_fault text.now ≡ None) }
     ensures refused { ReadsInMemory (record_name_fault text.now) result }
+{
+    Name::read(alloc, text)
+}
+
+/// The most bytes of a chain's identifier.
+pub const MOST_CHAIN_ID_BYTES: usize = 128;
+
+/// The form of the identifiers of reentrancy chains.
+pub struct ChainForm;
+
+impl NameForm for ChainForm {
+    ghost use Rattle.actor_names.specs.Names.{chain_id_fault};
+
+    ghost fault = { chain_id_fault };
+
+    fn fault(text: &[u8]) -> Option<NameError> {
+        fault_in::<ChainBytes>(text, 0, MOST_CHAIN_ID_BYTES)
+    }
+}
+
+/// The identifier of a reentrancy chain, which the nested calls of one request share: 1 to 128 bytes from 0x21 to 0x7E.
+pub type ChainId = Name<ChainForm>;
+
+/// Why a text isn't a chain's identifier; None if it is one.
+pub fn chain_id_fault(text: &[u8]) -> Option<NameError>
+    ensures { result ≡ chain_id_fault text.now }
+{
+    ChainForm::fault(text)
+}
+
+/// Reads a chain's identifier. A fault is reported before any memory is allocated.
+pub fn read_chain_id(alloc: Global, text: &[u8]) -> Result<ChainId, NameError>
+    ensures value { IfOk result (λ name. name ≡ text.now) }
+    ensures sound { OnOk result (chain_id_fault text.now ≡ None) }
+    ensures refused { ReadsInMemory (chain_id_fault text.now) result }
 {
     Name::read(alloc, text)
 }

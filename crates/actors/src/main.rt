@@ -1,12 +1,12 @@
 // The program: the real outside, the words of the command line, and the status.
 //
 // It promises nothing of its own: all that it does is `actors_top::run`. Depends on actors_top,
-// host_ports and actor_ports.
+// server_ports and actor_ports.
 #![tactic(auto)]
 
 use actor_ports::{ReaderSource, SystemClock, TcpDial, WriterSink};
 use actors_top::{Outside, Status, run};
-use host_ports::SystemHost;
+use server_ports::SystemHost;
 use std::fs::{File, Files};
 use std::net::{Net, TcpListener, TcpStream};
 use std::process::ExitCode;
@@ -87,6 +87,3 @@ fn words<R: Env + AllocGlobal>(rt: &R) -> io::Result<Vec<String>> {
     }
     Ok(words)
 }
-
-#[cfg(test)]
-mod tests;

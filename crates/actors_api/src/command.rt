@@ -7,7 +7,7 @@ use state_rows::StateKey;
 use timer_book::Timer;
 
 /// What a request asks for: one variant for each row of the table of routes.
-#[derive(Debug, Drop)]
+#[derive(Drop)]
 pub enum ApiCommand {
     /// Calls a method. `method` is the rest of the path as it was spelled, and the query behind it with its `?`.
     /// `least` is the version of the table that a peer knows of; a caller has none.

@@ -7,7 +7,7 @@ use state_rows::StateValue;
 
 /// What a request is answered with: one variant for the success of each command, with or without a value, and one
 /// for each way in which it isn't served here.
-#[derive(Debug, Drop)]
+#[derive(Drop)]
 pub enum ApiReply {
     /// The application's reply to a call. Its status, its first Content-Type and its body are passed on.
     Invoked {

@@ -2,7 +2,7 @@
 use Rattle.std.proofs.Common.{inl, ℕ, List, Option, Some, None, refl}
 use Rattle.actor_names.specs.declared.address.Address.{Address}
 use Rattle.actor_ports.specs.Traffic.{Place}
-use Rattle.host_ports.specs.Hosts.{Asked}
+use Rattle.server_ports.specs.Hosts.{Asked}
 use Rattle.placement_command.specs.Commands.{AsksOnly}
 use Rattle.store_command.specs.Commands.{AsksOnly as AsksStore}
 use Rattle.sidecar_command.specs.Commands.{AsksPorts}

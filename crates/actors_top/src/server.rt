@@ -7,7 +7,7 @@ use itoa::Buffer;
 use std::alloc::{AllocError, Global};
 
 /// How a server ends, by the status that the program gives to its caller.
-#[derive(Clone, Copy, Debug, PartialEq, Eq)]
+#[derive(Clone, Copy, PartialEq, Eq)]
 pub enum ServerStatus {
     /// As many connections were served as the words say.
     Done = 0,

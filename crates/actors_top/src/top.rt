@@ -1,6 +1,6 @@
 // The top call.
 ghost use Rattle.std.specs.Prelude.{◌≡◌, ◌≢◌, ◌<◌, ◌≤◌, ◌⊎◌, ◌∷◌, [], true, None, Some, map, codes, string_bytes};
-ghost use Rattle.host_ports.specs.Hosts.{place_of};
+ghost use Rattle.server_ports.specs.Hosts.{place_of};
 ghost use Rattle.command_words.specs.Reading.{Asking, Schedule, Drilling, Drill, Hosting, Placing, Placement, Store, Seating, Sidecar, has_options, reading};
 ghost use Rattle.plain_commands.specs.Drilled.{DrillEnds, DrillsHonestly};
 ghost use Rattle.plain_commands.specs.Status.{code_of};
@@ -22,9 +22,9 @@ use actor_ports::{Clock, Dial, Sink, Source};
 use command_words::{
     CommandWords, PlacementWords, ServerWords, SidecarWords, WordsError, read_words,
 };
-use host_ports::Host;
 use placement_command::{PlacementEnd, run_placement};
 use plain_commands::{Status, run_plain};
+use server_ports::Host;
 use sidecar_command::{Callees, run_sidecar};
 use std::alloc::Global;
 use std::sync::Wait;

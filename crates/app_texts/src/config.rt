@@ -15,7 +15,7 @@ use std::alloc::Global;
 const MOST_TYPES: usize = 32;
 
 /// What an application says of the actors that it hosts.
-#[derive(Debug, Drop)]
+#[derive(Drop)]
 pub struct AppConfig {
     /// The types that it hosts, each once, in the order in which it names them, with their settings.
     pub kinds: TypeList,

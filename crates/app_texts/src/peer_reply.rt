@@ -12,7 +12,7 @@ use place_table::HostInfo;
 use std::alloc::Global;
 
 /// What another sidecar's reply says.
-#[derive(Debug, Drop)]
+#[derive(Drop)]
 pub enum PeerReply {
     /// It is the application's reply.
     Application,

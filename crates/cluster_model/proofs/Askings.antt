@@ -23,7 +23,7 @@ use Rattle.world_events.specs.declared.settings.WorldSettings.{WorldSettings}
 use Rattle.cluster_model.proofs.SpaceParts.{backed}
 use Rattle.cluster_model.specs.Asked.{AskedCall, asked_by, asked_calls, chain_under, WasAsked, TurnsAreAsked}
 use Rattle.cluster_model.specs.World as world
-use Rattle.cluster_model.specs.World.{ClusterState, WorldStep, CallPlace, TraceMark, tagged, the_call, call_at, place_of_call, call_outcome, ask_of, new_parts, most_events}
+use Rattle.cluster_model.specs.World.{ClusterState, WorldStep, CallPlace, TraceMark, tagged, call_at, place_of_call, call_outcome, ask_of, new_parts, most_events}
 use Rattle.cluster_model.proofs.AskedLines.{append_nil, call_at-left, call_at-push, call_at-last, In-tagged, asked_none, asked_taken, asked_own}
 use Rattle.cluster_model.proofs.Basics.{In-append, In-set, In-slice_get}
 use Rattle.cluster_model.proofs.Boots.{In-new_parts}

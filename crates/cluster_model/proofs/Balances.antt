@@ -18,16 +18,16 @@ use Rattle.part_model.specs.Order.{AreInOrder}
 use Rattle.part_model.proofs.Elements.{In-cell_at}
 use Rattle.part_model.proofs.Sizes.{total-keep-changed, total-keep-missing}
 use Rattle.part_model.specs.declared.stage.Stage.{Stage}
-use Rattle.part_model.specs.declared.stage.Stage.TheVariants.{Locked, Updated, Open, Stopped}
+use Rattle.part_model.specs.declared.stage.Stage.TheVariants.{Stopped}
 use Rattle.part_model.specs.declared.event.PartEvent.{PartEvent}
 use Rattle.part_model.specs.declared.event.PartEvent.TheVariants as events
 use Rattle.part_model.specs.Receipts.{PartReply}
 use Rattle.part_model.specs.declared.event.Reply.TheVariants as replies
 use Rattle.part_model.specs.declared.settings.TypeSettings.{TypeSettings}
 use Rattle.actor_names.specs.Same.{same_member}
-use Rattle.part_model.specs.Marks.{PartMark, TurnBegan, TurnEnded, BecameActive, BecameInactive, PartOpened, begun_calls, ended_calls, marks_of_begin, marks_of_next, marks_of_ends, marks_of_inactive, marks_of_stop}
+use Rattle.part_model.specs.Marks.{PartMark, TurnBegan, TurnEnded, BecameInactive, PartOpened, begun_calls, ended_calls, marks_of_begin, marks_of_next, marks_of_ends, marks_of_inactive, marks_of_stop}
 use Rattle.part_model.specs.Part
-use Rattle.part_model.specs.Part.{PartState, PartStep, CellStep, asked_step, ask_cell, ask_owned, found_or_first, call_chain, is_full, is_spent, is_open, is_own, is_foreign, is_locked, is_updated, is_drained, each_cell, with_cell, part_step}
+use Rattle.part_model.specs.Part.{PartState, PartStep, CellStep, asked_step, ask_cell, ask_owned, found_or_first, call_chain, is_full, is_spent, is_open, is_own, is_foreign, is_locked, is_updated, is_drained, each_cell, part_step}
 use Rattle.part_model.specs.Sound.{IsActorSound, IsPartSound}
 use Rattle.part_model.proofs.CellLaws.{admit_cases, In-cell_of_call, first_sound}
 use Rattle.part_model.proofs.PartSteps.{In-first_to_close}
@@ -56,18 +56,14 @@ ended xs = length (ended_calls xs)
 begun-append : (xs ys : List PartMark) → begun (xs ++ ys) ≡ begun xs + begun ys
 begun-append [] ys = omega arith
 begun-append (TurnBegan key call chain ∷ xs) ys = let more = begun-append xs ys in omega arith
-begun-append (TurnEnded key call ∷ xs) ys = begun-append xs ys
-begun-append (BecameActive key version ∷ xs) ys = begun-append xs ys
-begun-append (BecameInactive key ∷ xs) ys = begun-append xs ys
 begun-append (PartOpened number version ∷ xs) ys = begun-append xs ys
+begun-append (x ∷ xs) ys = begun-append xs ys
 
 ended-append : (xs ys : List PartMark) → ended (xs ++ ys) ≡ ended xs + ended ys
 ended-append [] ys = omega arith
-ended-append (TurnBegan key call chain ∷ xs) ys = ended-append xs ys
 ended-append (TurnEnded key call ∷ xs) ys = let more = ended-append xs ys in omega arith
-ended-append (BecameActive key version ∷ xs) ys = ended-append xs ys
-ended-append (BecameInactive key ∷ xs) ys = ended-append xs ys
 ended-append (PartOpened number version ∷ xs) ys = ended-append xs ys
+ended-append (x ∷ xs) ys = ended-append xs ys
 
 begin_begun : (a : Bool) (key : ActorKey) (v call : ℕ) (chain : Option (List ℕ)) → (begun (marks_of_begin a key v call chain) ≡ 1) × (ended (marks_of_begin a key v call chain) ≡ 0)
 begin_begun true key v call chain = (refl, refl)
@@ -307,9 +303,7 @@ module _ (owner : PlacementTable → ActorKey → Option HostInfo) where
 
   balanced_at : (p : PartState) (stage : Stage) (e : PartEvent) → IsPartSound owner p → IsBalanced p (Part.step_at owner p stage e)
   balanced_at p Stopped e s = stopped_balanced p e
-  balanced_at p Locked e s = running_balanced p e s
-  balanced_at p Updated e s = running_balanced p e s
-  balanced_at p Open e s = running_balanced p e s
+  balanced_at p stage e s = running_balanced p e s
 
   pub step_balanced : (p : PartState) (e : PartEvent) → IsPartSound owner p → IsBalanced p (part_step owner p e)
   step_balanced p e s = balanced_at p p.stage e s

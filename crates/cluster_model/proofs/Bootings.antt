@@ -117,9 +117,7 @@ module _ (owner : PlacementTable → ActorKey → Option HostInfo) (part_of : Ac
 
   registers : (r : Request) (h : HostInfo) → change_of r ≡ changes.Register h → asker_of r ≡ h.member
   registers (Register host) h e = (let q : host ≡ h = cc in ap (λ (z : HostInfo). z.member) q)
-  registers (Beat m) h e = absurd (cc)
-  registers (Ack m s v) h e = absurd (cc)
-  registers (Leave m) h e = absurd (cc)
+  registers r h e = absurd (cc)
 
   pushed : (ms : List Message) (x : Message) (ps : List PartState) → ((y : Message) → In y ms → IsBooted ps (named_in y)) → IsBooted ps (named_in x) → (y : Message) → In y (ms ++ x ∷ []) → IsBooted ps (named_in y)
   pushed ms x ps old new y i = elim (In-push ms x y i) [ inl j ↦ old y j | inr e ↦ subst (λ (z : Message). IsBooted ps (named_in z)) (sym e) new ]

@@ -22,16 +22,16 @@ use Rattle.turn_core.specs.Cell.{CellState, admit_call, cell_end, cell_poll, is_
 use Rattle.part_model.specs.declared.actor_cell.ActorCell.{ActorCell}
 use Rattle.part_model.specs.Cells.{cell_at, cell_of_call}
 use Rattle.part_model.specs.declared.stage.Stage.{Stage}
-use Rattle.part_model.specs.declared.stage.Stage.TheVariants.{Locked, Updated, Open, Stopped}
+use Rattle.part_model.specs.declared.stage.Stage.TheVariants.{Stopped}
 use Rattle.part_model.specs.declared.event.PartEvent.{PartEvent}
 use Rattle.part_model.specs.declared.event.PartEvent.TheVariants as events
 use Rattle.part_model.specs.Receipts.{PartReply}
 use Rattle.part_model.specs.declared.event.Reply.TheVariants as replies
 use Rattle.actor_names.specs.Same.{same_member}
-use Rattle.part_model.specs.Marks.{PartMark, TurnBegan, TurnEnded, BecameActive, BecameInactive, PartOpened, begun_calls, ended_calls, marks_of_begin, marks_of_next, marks_of_ends, marks_of_inactive, marks_of_stop}
+use Rattle.part_model.specs.Marks.{PartMark, TurnBegan, TurnEnded, PartOpened, begun_calls, ended_calls, marks_of_begin, marks_of_next, marks_of_ends, marks_of_inactive, marks_of_stop}
 use Rattle.part_model.specs.Part
 use Rattle.part_model.specs.Part.{PartState, PartStep, CellStep, asked_step, ask_cell, ask_owned, found_or_first, call_chain, is_full, is_spent, is_open, is_own, is_foreign, is_locked, is_updated, is_drained, each_cell, ring_owner, part_step}
-use Rattle.part_model.specs.Rooms.{PartView, GivesInMemory, GivesStep}
+use Rattle.part_model.specs.Rooms.{PartView, GivesInMemory}
 use Rattle.cluster_model.specs.Counts.{begun_turns, over_turns, begun_by, ended_in, ended_by}
 use Rattle.cluster_model.specs.World.{TraceMark, tagged}
 
@@ -47,35 +47,25 @@ over_turns-append (x ∷ xs) ys = let more = over_turns-append xs ys in omega ar
 
 pub begun_turns-tagged : (m : Member) (xs : List PartMark) → begun_turns (tagged m xs) ≡ length (begun_calls xs)
 begun_turns-tagged m [] = refl
-begun_turns-tagged m (TurnBegan key call chain ∷ xs) = let more = begun_turns-tagged m xs in omega arith
-begun_turns-tagged m (TurnEnded key call ∷ xs) = let more = begun_turns-tagged m xs in omega arith
-begun_turns-tagged m (BecameActive key version ∷ xs) = let more = begun_turns-tagged m xs in omega arith
-begun_turns-tagged m (BecameInactive key ∷ xs) = let more = begun_turns-tagged m xs in omega arith
 begun_turns-tagged m (PartOpened number version ∷ xs) = let more = begun_turns-tagged m xs in omega arith
+begun_turns-tagged m (x ∷ xs) = let more = begun_turns-tagged m xs in omega arith
 
 pub over_turns-tagged : (m : Member) (xs : List PartMark) → over_turns (tagged m xs) ≡ length (ended_calls xs)
 over_turns-tagged m [] = refl
-over_turns-tagged m (TurnBegan key call chain ∷ xs) = let more = over_turns-tagged m xs in omega arith
-over_turns-tagged m (TurnEnded key call ∷ xs) = let more = over_turns-tagged m xs in omega arith
-over_turns-tagged m (BecameActive key version ∷ xs) = let more = over_turns-tagged m xs in omega arith
-over_turns-tagged m (BecameInactive key ∷ xs) = let more = over_turns-tagged m xs in omega arith
 over_turns-tagged m (PartOpened number version ∷ xs) = let more = over_turns-tagged m xs in omega arith
+over_turns-tagged m (x ∷ xs) = let more = over_turns-tagged m xs in omega arith
 
 begun_calls-append : (xs ys : List PartMark) → begun_calls xs ≡ [] → begun_calls ys ≡ [] → begun_calls (xs ++ ys) ≡ []
 begun_calls-append [] ys a b = b
 begun_calls-append (TurnBegan key call chain ∷ xs) ys a b = absurd (cc)
-begun_calls-append (TurnEnded key call ∷ xs) ys a b = begun_calls-append xs ys a b
-begun_calls-append (BecameActive key version ∷ xs) ys a b = begun_calls-append xs ys a b
-begun_calls-append (BecameInactive key ∷ xs) ys a b = begun_calls-append xs ys a b
 begun_calls-append (PartOpened number version ∷ xs) ys a b = begun_calls-append xs ys a b
+begun_calls-append (x ∷ xs) ys a b = begun_calls-append xs ys a b
 
 ended_calls-append : (xs ys : List PartMark) → ended_calls xs ≡ [] → ended_calls ys ≡ [] → ended_calls (xs ++ ys) ≡ []
 ended_calls-append [] ys a b = b
-ended_calls-append (TurnBegan key call chain ∷ xs) ys a b = ended_calls-append xs ys a b
 ended_calls-append (TurnEnded key call ∷ xs) ys a b = absurd (cc)
-ended_calls-append (BecameActive key version ∷ xs) ys a b = ended_calls-append xs ys a b
-ended_calls-append (BecameInactive key ∷ xs) ys a b = ended_calls-append xs ys a b
 ended_calls-append (PartOpened number version ∷ xs) ys a b = ended_calls-append xs ys a b
+ended_calls-append (x ∷ xs) ys a b = ended_calls-append xs ys a b
 
 pub begin_ends_none : (a : Bool) (key : ActorKey) (v call : ℕ) (chain : Option (List ℕ)) → ended_calls (marks_of_begin a key v call chain) ≡ []
 begin_ends_none true key v call chain = refl
@@ -126,10 +116,8 @@ module _ (owner : PlacementTable → ActorKey → Option HostInfo) where
 
   asked_ends : (p : PartState) (c : ActorCell) (chain : Option (List ℕ)) (inner : CellState) (answer : Result Asked CellError) → EndsNone (asked_step p c chain inner answer)
   asked_ends p c chain inner (Ok asked.Begun) = count_none _ (begin_ends_none c.active c.key p.opened (p.drawn + 1) chain)
-  asked_ends p c chain inner (Ok (asked.Waits place)) = refl
   asked_ends p c chain inner (Err (deny.Depth turns)) = refl
-  asked_ends p c chain inner (Err (deny.QueueFull n)) = refl
-  asked_ends p c chain inner (Err deny.OutOfMemory) = refl
+  asked_ends p c chain inner answer = refl
 
   ask_cell_ends : (full : Bool) (p : PartState) (c : ActorCell) (chain : Option (List ℕ)) (may : Bool) → EndsNone (ask_cell full p c chain may)
   ask_cell_ends full p c chain may = cond_both full _ _ EndsNone (λ _. refl) (λ _. asked_ends p c chain _ (admit_call c.inner (p.drawn + 1) chain may).answer)
@@ -236,9 +224,7 @@ module _ (owner : PlacementTable → ActorKey → Option HostInfo) where
 
   counted_at : (p : PartState) (stage : Stage) (e : PartEvent) → AreCounted e (Part.step_at owner p stage e)
   counted_at p Stopped e = stopped_counted p e
-  counted_at p Locked e = running_counted p e
-  counted_at p Updated e = running_counted p e
-  counted_at p Open e = running_counted p e
+  counted_at p stage e = running_counted p e
 
   pub step_counted : (p : PartState) (e : PartEvent) → AreCounted e (part_step owner p e)
   step_counted p e = counted_at p p.stage e
@@ -273,19 +259,3 @@ in_memory : (e : PartEvent) (reply : PartReply) (old : PartState) (new : PartVie
     → GivesInMemory (part_step ring_owner old e) reply old new → Counts e reply old new
 in_memory e replies.OutOfMemory old new same g = inl (refl, g.0)
 in_memory e reply old new same g = inr (counts_from e reply old new g.0 (g.1 ∙ ap (λ (z : List ℕ). let v : PartView = record { state = (part_step ring_owner old e).part; recent = z } in v) (sym same)))
-
-pub gives_counts : (e : PartEvent) (reply : PartReply) (old : PartState) (new : PartView) → GivesStep e reply old new → Counts e reply old new
-gives_counts (events.Ask key chain now) reply old new g = in_memory (events.Ask key chain now) reply old new refl g
-gives_counts (events.AskAt key chain least now) reply old new g = in_memory (events.AskAt key chain least now) reply old new refl g
-gives_counts events.Draw reply old new g = inr (counts_from events.Draw reply old new g.0 g.1)
-gives_counts (events.Poll call) reply old new g = in_memory (events.Poll call) reply old new refl g
-gives_counts (events.End call now) reply old new g = inr (counts_from (events.End call now) reply old new g.0 g.1)
-gives_counts (events.Hold key) reply old new g = inr (counts_from (events.Hold key) reply old new g.0 g.1)
-gives_counts (events.Release key now) reply old new g = inr (counts_from (events.Release key now) reply old new g.0 g.1)
-gives_counts (events.Lock version) reply old new g = inr (counts_from (events.Lock version) reply old new g.0 g.1)
-gives_counts (events.Update table now) reply old new g = inr (counts_from (events.Update table now) reply old new g.0 g.1)
-gives_counts (events.Unlock version) reply old new g = inr (counts_from (events.Unlock version) reply old new g.0 g.1)
-gives_counts (events.Tick now) reply old new g = inr (counts_from (events.Tick now) reply old new g.0 g.1)
-gives_counts (events.TakeClosing now) reply old new g = in_memory (events.TakeClosing now) reply old new refl g
-gives_counts (events.Closed key) reply old new g = inr (counts_from (events.Closed key) reply old new g.0 g.1)
-gives_counts events.StopPart reply old new g = inr (counts_from events.StopPart reply old new g.0 g.1)

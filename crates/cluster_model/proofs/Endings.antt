@@ -75,11 +75,9 @@ open_began (x ∷ xs) m k a t i =
 
 some_ended : (k : ActorKey) (call : ℕ) (xs : List PartMark) → In (TurnEnded k call) xs → 0 < length (ended_calls xs)
 some_ended k call [] i = absurd i
-some_ended k call (TurnBegan key n chain ∷ xs) i = (let more = some_ended k call xs in elim i [ inl e ↦ absurd (cc) | inr j ↦ more j ])
 some_ended k call (TurnEnded key n ∷ xs) i = omega arith
-some_ended k call (BecameActive key v ∷ xs) i = (let more = some_ended k call xs in elim i [ inl e ↦ absurd (cc) | inr j ↦ more j ])
-some_ended k call (BecameInactive key ∷ xs) i = (let more = some_ended k call xs in elim i [ inl e ↦ absurd (cc) | inr j ↦ more j ])
 some_ended k call (PartOpened number v ∷ xs) i = (let more = some_ended k call xs in elim i [ inl e ↦ absurd (cc) | inr j ↦ more j ])
+some_ended k call (x ∷ xs) i = (let more = some_ended k call xs in elim i [ inl e ↦ absurd (cc) | inr j ↦ more j ])
 
 same_ended : (k l : ActorKey) (a b : ℕ) → TurnEnded k a ≡ TurnEnded l b → (l ≡ k) × (b ≡ a)
 same_ended k l a b e = (cc, cc)

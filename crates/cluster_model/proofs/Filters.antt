@@ -1,14 +1,11 @@
 -- The elements that pass a test: where they are, and what a change of one does to them.
-use Rattle.std.proofs.Common.{◌≡◌, ℕ, Bool, true, false, List, [], ◌∷◌, set, Option, Some, refl, sym, ap, ◌∙◌, subst, inl, inr}
+use Rattle.std.proofs.Common.{◌≡◌, ℕ, Bool, true, false, List, [], ◌∷◌, set, Some, refl, sym, ap, ◌∙◌, subst, inl, inr}
 use Rattle.std.specs.Prelude.{zero, suc, slice_get, filter, if◌then◌else◌}
 use Rattle.turn_core.specs.CellSound.{In}
 
 module _ {A : Type 0} (f : A → Bool) where
   filter_yes : (x : A) (xs : List A) → f x ≡ true → filter f (x ∷ xs) ≡ x ∷ filter f xs
   filter_yes x xs e = rw e refl
-
-  filter_no : (x : A) (xs : List A) → f x ≡ false → filter f (x ∷ xs) ≡ filter f xs
-  filter_no x xs e = rw e refl
 
   pub In-filter : (xs : List A) (x : A) → In x (filter f xs) → In x xs × (f x ≡ true)
   In-filter [] x i = absurd i

@@ -129,9 +129,7 @@ turns_more x m k a =
           (let l = length-append a.turns (record { call = call; chain = chain } ∷ []) in omega arith),
         )
     go s (TurnEnded key call) q e = inl (fewer call a.turns)
-    go s (BecameActive key v) q e = inl (omega arith)
-    go s (BecameInactive key) q e = inl (omega arith)
-    go s (PartOpened j v) q e = inl (omega arith)
+    go s _ q e = inl (omega arith)
 
 some_turn : (ts : List Turn) → (ts ≡ []) ⊎ ((t : Turn) × In t ts)
 some_turn [] = inl refl

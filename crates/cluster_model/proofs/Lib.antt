@@ -27,3 +27,7 @@ pub mod Askings
 pub mod AskedRuns
 pub mod Endings
 pub mod Balances
+mod TargetRows
+mod RoundSteps
+mod Sendings
+mod Targets

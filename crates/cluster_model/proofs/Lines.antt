@@ -27,7 +27,7 @@ use Rattle.world_events.specs.declared.outcome.Outcome.TheVariants as out
 use Rattle.cluster_model.specs.Messages.{Request, Register, Beat, Ack, Leave, Answer, Message, Asks, Tells, change_of, asker_of, told_event}
 use Rattle.cluster_model.specs.World as world
 use Rattle.cluster_model.specs.World.{ClusterState, WorldStep, CallPlace, most_events, ask_of}
-use Rattle.cluster_model.specs.Invariant.{IsBooted, IsHeard, AllStopped, IsSafe, IsSafeWorld}
+use Rattle.cluster_model.specs.Invariant.{IsBooted, IsHeard, AllStopped, IsSafeWorld}
 use Rattle.cluster_model.proofs.SpaceParts.{backed}
 use Rattle.cluster_model.proofs.Named.{booted_part, all_stopped_all, none_running, same_place, told_heard, told_asks_not, ask_heard, ask_asks, In-message_at, In-receipts_of}
 

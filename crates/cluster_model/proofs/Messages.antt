@@ -10,7 +10,7 @@ use Rattle.turn_core.specs.CellSound.{In}
 use Rattle.turn_core.proofs.Elements.{In-push, In-left}
 use Rattle.part_model.specs.declared.actor_cell.ActorCell.{ActorCell}
 use Rattle.part_model.specs.declared.stage.Stage.{Stage}
-use Rattle.part_model.specs.declared.stage.Stage.TheVariants.{Locked, Updated, Open, Stopped}
+use Rattle.part_model.specs.declared.stage.Stage.TheVariants.{Stopped}
 use Rattle.part_model.specs.Part.{PartState}
 use Rattle.part_model.specs.Sound.{HasNoCellAt}
 use Rattle.part_model.proofs.PartLaws.{tied_updated}
@@ -34,9 +34,7 @@ stage_answer space last fixed stages.Unlock = UnlockAt last
 module _ (owner : PlacementTable → ActorKey → Option HostInfo) where
   no_cells : (s : Stage) (p : PartState) → p.stage ≡ s → HasNoCellAt owner s p → p.stage ≡ Stopped → p.cells ≡ []
   no_cells Stopped p e h q = h
-  no_cells Locked p e h q = absurd (let z = sym e ∙ q in cc)
-  no_cells Updated p e h q = absurd (let z = sym e ∙ q in cc)
-  no_cells Open p e h q = absurd (let z = sym e ∙ q in cc)
+  no_cells s p e h q = absurd (let z = sym e ∙ q in cc)
 
   -- what a part keeps as messages are added
   pub part_told : (ms ns : List Message) (boots : ℕ) (p : PartState) → IsPartBacked owner ms boots p → IsPartBacked owner (ms ++ ns) boots p

@@ -9,7 +9,7 @@ use Rattle.place_table.specs.Hosts.{PlacementTable}
 use Rattle.turn_core.specs.CellSound.{In}
 use Rattle.part_model.specs.declared.event.PartEvent.{PartEvent}
 use Rattle.part_model.specs.declared.stage.Stage.{Stage}
-use Rattle.part_model.specs.declared.stage.Stage.TheVariants.{Locked, Updated, Open, Stopped}
+use Rattle.part_model.specs.declared.stage.Stage.TheVariants.{Stopped}
 use Rattle.part_model.specs.Activity.{IsAsked}
 use Rattle.actor_names.specs.Same.{same_member}
 use Rattle.part_model.specs.Part.{PartState, is_stopped, receipt_of}
@@ -30,9 +30,7 @@ booted_part (p ∷ ps) m e =
 
 is_stopped-true : (t : Stage) → is_stopped t ≡ true → t ≡ Stopped
 is_stopped-true Stopped q = refl
-is_stopped-true Locked q = absurd (false≢true q)
-is_stopped-true Updated q = absurd (false≢true q)
-is_stopped-true Open q = absurd (false≢true q)
+is_stopped-true t q = absurd (false≢true q)
 
 pub all_stopped_all : (ps : List PartState) (m : Member) → all_stopped ps m ≡ true → AllStopped ps m
 all_stopped_all [] m e p i q = absurd i

@@ -20,12 +20,9 @@ use Rattle.part_model.specs.Marks.{PartMark, TurnBegan, TurnEnded, BecameActive,
 use Rattle.part_model.specs.Part.{PartState}
 use Rattle.part_model.specs.PartMoves.{Stepped}
 use Rattle.part_model.proofs.Replays.{tidy_split, unmarked, still_active, at_front, at_middle}
-use Rattle.round_core.specs.declared.phase.RoundPhase.{RoundPhase}
-use Rattle.member_roster.specs.declared.book.Known.{Known}
-use Rattle.member_roster.specs.Members.{Joined}
 use Rattle.cluster_model.specs.Messages.{Message}
 use Rattle.cluster_model.specs.World.{TraceMark, tagged}
-use Rattle.cluster_model.specs.Invariant.{Gives, IsPartBacked, IsSafeAt}
+use Rattle.cluster_model.specs.Invariant.{Gives, IsPartBacked}
 use Rattle.cluster_model.specs.History.{history, opened_at, opened_version_at, HadActive, WasGiven, AreGiven, DoVersionsRise}
 use Rattle.cluster_model.proofs.Basics.{same_member-true, same_member-self, one_owner, In-slice_get}
 use Rattle.cluster_model.proofs.Histories.{FitsHistory, get-set, get-set_same, history-append, history-mine, history-others, split_append, split_tagged, not_marked, after_at, last_seen, seen_active}
@@ -76,11 +73,8 @@ opened-others (x ∷ xs) m n i v f = ap (opened_version_at (tagged n xs) m i) (c
 
 opens-at : (xs : List PartMark) (i v w : ℕ) → AreAt w xs → opens xs i v ≡ v
 opens-at [] i v w a = refl
-opens-at (TurnBegan k c d ∷ xs) i v w a = opens-at xs i v w a.1
-opens-at (TurnEnded k c ∷ xs) i v w a = opens-at xs i v w a.1
-opens-at (BecameActive k u ∷ xs) i v w a = opens-at xs i v w a.1
-opens-at (BecameInactive k ∷ xs) i v w a = opens-at xs i v w a.1
 opens-at (PartOpened j u ∷ xs) i v w a = absurd a.0
+opens-at (x ∷ xs) i v w a = opens-at xs i v w a.1
 
 -- an actor that is active after some marks was so before, or became so among them
 became : (ys : List PartMark) (k : ActorKey) (h : Activity) → (replay ys k h).active ≡ true → (h.active ≡ true) ⊎ ((v : ℕ) × (front : List PartMark) × (back : List PartMark) × (ys ≡ front ++ BecameActive k v ∷ back))

@@ -27,7 +27,7 @@ use Rattle.part_model.specs.Activity.{IsAsked, Replays}
 use Rattle.actor_names.specs.Same.{same_member}
 use Rattle.part_model.specs.Marks.{PartMark, TurnBegan, TurnEnded, BecameInactive, PartOpened, marks_of_begin, marks_of_next, marks_of_ends, marks_of_inactive, marks_of_stop}
 use Rattle.part_model.specs.Part
-use Rattle.part_model.specs.Part.{PartState, PartStep, CellStep, asked_step, ask_cell, ask_owned, found_or_first, call_chain, is_full, is_spent, is_open, is_own, is_foreign, is_locked, is_updated, is_drained, each_cell, with_cell, part_step}
+use Rattle.part_model.specs.Part.{PartState, PartStep, CellStep, asked_step, ask_cell, ask_owned, found_or_first, call_chain, is_full, is_spent, is_open, is_own, is_foreign, is_locked, is_updated, is_drained, each_cell, part_step}
 use Rattle.part_model.specs.Settings.{settings_of}
 use Rattle.part_model.specs.declared.settings.TypeSettings.{TypeSettings}
 use Rattle.part_model.proofs.CallReplays.{call_chain-kept}
@@ -383,9 +383,7 @@ module _ (owner : PlacementTable → ActorKey → Option HostInfo) (Q : ActorKey
 
   has_at : (p : PartState) (stage : Stage) (e : PartEvent) → ((k : ActorKey) → IsAsked e k → ⊥) → AllHave p.cells → StepHas (Part.step_at owner p stage e)
   has_at p Stopped e quiet h = stopped_has p e h
-  has_at p Locked e quiet h = running_has p e quiet h
-  has_at p Updated e quiet h = running_has p e quiet h
-  has_at p Open e quiet h = running_has p e quiet h
+  has_at p stage e quiet h = running_has p e quiet h
 
   -- a step that makes no call
   pub step_has : (p : PartState) (e : PartEvent) → ((k : ActorKey) → IsAsked e k → ⊥) → AllHave p.cells → StepHas (part_step owner p e)

@@ -10,7 +10,6 @@ use Rattle.turn_core.proofs.Elements.{In-left}
 use Rattle.member_roster.specs.Members.{is_before, late_of}
 use Rattle.round_core.specs.declared.event.PlaceEvent.{PlaceEvent}
 use Rattle.round_core.specs.declared.event.PlaceEvent.TheVariants as events
-use Rattle.round_core.specs.declared.event.PlaceReply.{PlaceReply}
 use Rattle.round_core.specs.declared.event.PlaceReply.TheVariants as replies
 use Rattle.round_core.specs.Room.{RoomState, RoomStep, new_room, room_step, room_restarted}
 use Rattle.placement_core.specs.Placement.{SpaceRoom, PlacementState, PlacementStep, most_spaces, room_at, room_of, put_room, with_room, each_room, in_room, joins_room, late_in, ticked, restarted, placement_step, placement_restarted}

@@ -21,9 +21,6 @@ use Rattle.cluster_model.proofs.Joins.{In-map}
 use Rattle.cluster_model.proofs.PartKeeps.{told_unlock, told_update}
 
 module _ (owner : PlacementTable → ActorKey → Option HostInfo) where
-  pub stopped_reached : (ps : List PartState) (m : Member) (s : AckStage) (v : ℕ) → AllStopped ps m → MemberReached owner ps m s v
-  stopped_reached ps m s v h p i e = inl (h p i e)
-
   -- ---- entries that change while a round runs
 
   -- the entry is as before, except for the moment when it was heard from and, if it acknowledged, for being pending

@@ -16,7 +16,7 @@ use Rattle.world_events.specs.declared.settings.WorldSettings.{WorldSettings}
 use Rattle.world_events.specs.declared.event.WorldEvent.{WorldEvent}
 use Rattle.world_events.specs.declared.event.WorldEvent.TheVariants.{At, Boot, Beat, Collect, Leave, To, Part, Call, End, Hold, Tick, Closing, Closed, Stop, Lost, PlacementTick, Restart}
 use Rattle.world_events.specs.declared.outcome.Outcome.{Outcome}
-use Rattle.world_events.specs.declared.outcome.Outcome.TheVariants.{Turn, Stopped, Booted, BeatAdded, AckAdded, NotStopped, Answered, Ignored, Locked, Updated, Opened, TickEnded, NotMember, Dropped, Restarted}
+use Rattle.world_events.specs.declared.outcome.Outcome.TheVariants.{Turn, Stopped, Booted, BeatAdded, AckAdded, NotStopped, Answered, Ignored, Locked, Updated, Opened, TickEnded, Dropped, Restarted}
 use Rattle.world_events.specs.declared.outcome.Outcome.TheVariants as out
 use Rattle.world_events.specs.declared.outcome.TurnOutcome.TheVariants as turn
 use Rattle.world_events.specs.declared.error.WorldError.{WorldError}

@@ -1,6 +1,6 @@
 -- The parts and messages of a space among those of the cluster, and what the spaces together say of all parts.
-use Rattle.std.proofs.Common.{◌≡◌, ℕ, append-nil, Bool, true, false, List, [], ◌∷◌, ◌++◌, Option, None, Some, refl, sym, ap, ◌∙◌, subst, inl, inr}
-use Rattle.std.specs.Prelude.{zero, suc, ◌<◌, filter, if◌then◌else◌, bytes_eq}
+use Rattle.std.proofs.Common.{◌≡◌, ℕ, append-nil, Bool, true, false, List, [], ◌∷◌, ◌++◌, Option, None, Some, refl, sym, ap, ◌∙◌, subst}
+use Rattle.std.specs.Prelude.{zero, suc, ◌<◌, if◌then◌else◌, bytes_eq}
 use Rattle.std.proofs.lemmas.List.Elements.{filter-append}
 use Rattle.std.proofs.lemmas.Slice.Eq.{bytes_eq-Decides}
 use Rattle.actor_names.specs.declared.member.Member.{Member}
@@ -17,7 +17,7 @@ use Rattle.part_model.specs.Part.{PartState, new_part, is_owned_by}
 use Rattle.part_model.specs.Progress.{MemberReached}
 use Rattle.cluster_model.specs.Messages.{LockAt, UpdateTo, UnlockAt, Message, Tells, named_in}
 use Rattle.cluster_model.specs.World.{ClusterState, new_parts}
-use Rattle.cluster_model.specs.Spaces.{is_of, parts_of, messages_of, seen_in, KeepsToSpace}
+use Rattle.cluster_model.specs.Spaces.{is_of, parts_of, messages_of, KeepsToSpace}
 use Rattle.cluster_model.specs.Invariant.{IsHeard, AllStopped, Gives, IsPartBacked, IsSafeWorld, IsActiveOnce}
 use Rattle.cluster_model.proofs.Filters.{In-filter, In-passes}
 use Rattle.cluster_model.proofs.PartKeeps.{active_once}
@@ -68,17 +68,7 @@ pub heard_own : (ms : List Message) (m : Member) (e : PartEvent) (space : List �
 heard_own ms m (events.Lock v) space own h = in_messages ms (Tells m (LockAt v)) space h own
 heard_own ms m (events.Update t now) space own h = in_messages ms (Tells m (UpdateTo t)) space h own
 heard_own ms m (events.Unlock v) space own h = in_messages ms (Tells m (UnlockAt v)) space h own
-heard_own ms m (events.Ask key chain now) space own h = tt
-heard_own ms m (events.AskAt key chain least now) space own h = tt
-heard_own ms m (events.Poll call) space own h = tt
-heard_own ms m (events.End call now) space own h = tt
-heard_own ms m (events.Hold key) space own h = tt
-heard_own ms m (events.Release key now) space own h = tt
-heard_own ms m (events.Tick now) space own h = tt
-heard_own ms m (events.TakeClosing now) space own h = tt
-heard_own ms m (events.Closed key) space own h = tt
-heard_own ms m events.StopPart space own h = tt
-heard_own ms m events.Draw space own h = tt
+heard_own ms m e space own h = tt
 
 pub stopped_own : (ps : List PartState) (m : Member) (space : List ℕ) → AllStopped ps m → AllStopped (parts_of space ps) m
 stopped_own ps m space h p i e = h p (from_parts ps p space i) e

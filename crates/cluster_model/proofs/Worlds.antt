@@ -20,7 +20,7 @@ use Rattle.round_core.specs.declared.event.PlaceReply.{PlaceReply}
 use Rattle.round_core.specs.declared.event.PlaceReply.TheVariants as replies
 use Rattle.round_core.specs.declared.phase.RoundPhase.{RoundPhase}
 use Rattle.round_core.specs.declared.phase.RoundPhase.TheVariants.{Running}
-use Rattle.round_core.specs.Room.{RoomState, new_room, last_version, stage_reply, room_step, room_restarted}
+use Rattle.round_core.specs.Room.{RoomState, new_room, last_version, stage_reply, room_step}
 use Rattle.placement_core.specs.Placement.{PlacementState, PlacementStep, room_of, placement_step, new_placement}
 use Rattle.round_core.specs.Runs.{Steps, Restarts}
 use Rattle.round_core.specs.Reached.{IsReached}
@@ -30,7 +30,7 @@ use Rattle.world_events.specs.declared.settings.WorldSettings.{WorldSettings}
 use Rattle.world_events.specs.declared.event.WorldEvent.{WorldEvent}
 use Rattle.cluster_model.specs.Messages.{Request, Register, Beat, Ack, Leave, Answer, UpdateTo, Message, Asks, Tells, answer_of, change_of, asker_of, table_of}
 use Rattle.cluster_model.specs.World as world
-use Rattle.cluster_model.specs.World.{ClusterState, CallPlace, new_parts}
+use Rattle.cluster_model.specs.World.{ClusterState, new_parts}
 use Rattle.cluster_model.specs.Spaces.{SpaceState, is_of, parts_of, messages_of, seen_in, KeepsToSpace}
 use Rattle.cluster_model.specs.Invariant.{version_of, AllStopped, IsHeard, IsSafeAt, IsSafe, IsSafeSpace, IsActiveOnce}
 use Rattle.cluster_model.proofs.Basics.{In-slice_get}
@@ -68,28 +68,15 @@ stage_message space last fixed stages.Unlock = refl
 
 -- the table of an answer is of the space that it goes to
 answer_space : (space : List ℕ) (hosts : List HostInfo) (r : PlaceReply) (t : PlacementTable) → UpdateTo t ≡ answer_of space hosts r → t.space ≡ space
-answer_space space hosts (replies.Lock v) t e = absurd (cc)
 answer_space space hosts (replies.Update v) t e = let same : t ≡ table_of space v hosts = cc in ap (λ (z : PlacementTable). z.space) same
-answer_space space hosts (replies.Unlock v) t e = absurd (cc)
-answer_space space hosts replies.Idle t e = absurd (cc)
-answer_space space hosts replies.Gone t e = absurd (cc)
-answer_space space hosts (replies.Ticked n) t e = absurd (cc)
-answer_space space hosts replies.Looked t e = absurd (cc)
-answer_space space hosts (replies.StaleBoot n) t e = absurd (cc)
-answer_space space hosts (replies.NodeBusy n) t e = absurd (cc)
-answer_space space hosts (replies.NotMember n) t e = absurd (cc)
-answer_space space hosts (replies.SpacesFull n) t e = absurd (cc)
-answer_space space hosts (replies.Full m n) t e = absurd (cc)
-answer_space space hosts replies.OutOfMemory t e = absurd (cc)
+answer_space space hosts r t e = absurd (cc)
 
 tells_member : (m n : Member) (a b : Answer) → Tells m a ≡ Tells n b → m ≡ n
 tells_member m n a b e = cc
 
 asks_space : (r : Request) → event_space (change_of r) ≡ Some (asker_of r).space
 asks_space (Register h) = refl
-asks_space (Beat m) = refl
-asks_space (Ack m st v) = refl
-asks_space (Leave m) = refl
+asks_space r = refl
 
 module _ (owner : PlacementTable → ActorKey → Option HostInfo) (part_of : ActorKey → ℕ → ℕ) where
   -- ---- messages
@@ -246,10 +233,7 @@ module _ (owner : PlacementTable → ActorKey → Option HostInfo) (part_of : Ac
         tables = s.tables;
       }
   change_safe w (changes.Register host) s h = absurd h
-  change_safe w (changes.Beat m) s h = absurd h
-  change_safe w (changes.Ack m st v) s h = absurd h
-  change_safe w (changes.Leave m) s h = absurd h
-  change_safe w changes.Look s h = absurd h
+  change_safe w e s h = absurd h
 
   pub step_safe : (w : ClusterState) (n : ℕ) (p : PartState) (e : PartEvent) → IsSafeWorld owner w → slice_get w.parts n ≡ Some p → IsHeard w.messages p.member e →
       IsSafeWorld owner (world.with_step owner part_of w n p (part_step owner p e))

@@ -22,7 +22,7 @@ const USUAL_COUNT: u32 = 10;
 const MOST_STEPS: u64 = 200_000;
 
 /// What the words of `schedule` say. A text that isn't given is empty.
-#[derive(Clone, Copy, Debug)]
+#[derive(Clone, Copy)]
 pub struct ScheduleWords<'a> {
     /// The text of the moment at which the schedule is read.
     pub now: &'a str,
@@ -37,7 +37,7 @@ pub struct ScheduleWords<'a> {
 }
 
 /// What the words of `drill` say.
-#[derive(Clone, Copy, Debug)]
+#[derive(Clone, Copy)]
 pub struct DrillWords {
     /// The seed of the generator.
     pub seed: u64,
@@ -46,7 +46,7 @@ pub struct DrillWords {
 }
 
 /// A command with what its words say.
-#[derive(Clone, Copy, Debug)]
+#[derive(Clone, Copy)]
 pub enum CommandWords<'a> {
     /// `replay`: replay the script from the input.
     Replay,

@@ -15,7 +15,7 @@ use clap::ArgMatches;
 use std::alloc::Global;
 
 /// What the words of a server say.
-#[derive(Clone, Copy, Debug)]
+#[derive(Clone, Copy)]
 pub struct ServerWords<'a> {
     /// The path of the journal, at least one byte; a store's second file has `.2` behind it.
     pub journal: &'a str,
@@ -28,7 +28,7 @@ pub struct ServerWords<'a> {
 }
 
 /// What the words of `placement` say.
-#[derive(Clone, Copy, Debug)]
+#[derive(Clone, Copy)]
 pub struct PlacementWords<'a> {
     /// What they say as those of a server.
     pub server: ServerWords<'a>,

@@ -25,7 +25,7 @@ const USUAL_PARTS: u8 = 4;
 const MOST_PARTS: u64 = 16;
 
 /// What the words of `sidecar` say.
-#[derive(Clone, Copy, Debug)]
+#[derive(Clone, Copy)]
 pub struct SidecarWords<'a> {
     /// The text of the node, which `read_node` reads.
     pub node: &'a str,

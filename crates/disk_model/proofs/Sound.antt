@@ -44,5 +44,6 @@ cuts_reads len (Err OutOfMemory) d e reads same = subst ReadsAnImage (sym same) 
 
 pub syncs_reads : {T : Type 0} (r : Result T PortError) (d e : DiskState) → ReadsAnImage d → Syncs r d e → ReadsAnImage e
 syncs_reads (Ok x) d e reads syncs = subst ReadsAnImage (sym syncs) refl
-syncs_reads (Err Failed) d e reads same = subst ReadsAnImage (sym same) reads
+syncs_reads (Err Failed) d e reads (inl same) = subst ReadsAnImage (sym same) reads
+syncs_reads (Err Failed) d e reads (inr syncs) = subst ReadsAnImage (sym syncs) refl
 syncs_reads (Err OutOfMemory) d e reads same = subst ReadsAnImage (sym same) reads

@@ -74,10 +74,10 @@ Cuts len (Ok x) d e = e ≡ changed d (CutTo len) (take len d.bytes)
 Cuts len (Err Failed) d e = (e ≡ d) ⊎ ((left : List ℕ) × ((left ≡ d.bytes) ⊎ (left ≡ take len d.bytes)) × (e ≡ changed d (CutTo len) left))
 Cuts len (Err OutOfMemory) d e = e ≡ d
 
--- after a sync all changes are on the disk; a failed one changes nothing
+-- after a sync all changes are on the disk; a failed one changed nothing, or was made all the same
 abbrev pub Syncs : {T : Type 0} → Result T PortError → DiskState → DiskState → Type 0
 Syncs (Ok x) d e = e ≡ flushed d
-Syncs (Err Failed) d e = e ≡ d
+Syncs (Err Failed) d e = (e ≡ d) ⊎ (e ≡ flushed d)
 Syncs (Err OutOfMemory) d e = e ≡ d
 
 -- a read appends the bytes from there on, as many as there are up to most; after an error nothing

@@ -45,7 +45,7 @@ pub trait Disk {
         ensures memory { IsErrOf result PortError.OutOfMemory → IsSpent (disk_faults self.old) }
         ensures cause { HasCause (disk_faults self.old) (disk_faults self.new) result };
 
-    /// Puts all changes on the disk.
+    /// Puts all changes on the disk. After a failure they may be there all the same, or as before.
     fn sync(&mut self) -> Result<(), PortError>
         ensures synced { Tells (Syncs result) (told self.old) (told self.new) }
         ensures memory { IsErrOf result PortError.OutOfMemory → IsSpent (disk_faults self.old) }

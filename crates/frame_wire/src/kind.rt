@@ -6,7 +6,7 @@ ghost use Rattle.frame_wire.specs.Kinds.{kinds, store_kind_of, kind_of, byte_of}
 use crate::store_kind::{AnswerKind, CommandKind};
 
 // The kind of a frame: the first byte behind the length, which says what fields follow.
-#[derive(Clone, Copy, Debug)]
+#[derive(Clone, Copy)]
 pub(crate) enum Kind {
     Register,
     Beat,

@@ -15,7 +15,7 @@ use wire_fields::Fault;
 pub const MOST_PAYLOAD: u32 = 5_242_880;
 
 // What is at the start of some bytes: neither a whole frame nor a fault, or a frame of `len` bytes, or a fault.
-#[derive(Debug, Drop)]
+#[derive(Drop)]
 pub(crate) enum Found {
     More,
     Whole { frame: Frame, len: usize },

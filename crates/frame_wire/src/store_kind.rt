@@ -3,7 +3,7 @@ ghost use Rattle.std.specs.Prelude.{◌≡◌};
 ghost use Rattle.frame_wire.specs.Kinds.{command_kind_of, command_byte, answer_kind_of, answer_byte};
 
 // The kind of a command.
-#[derive(Clone, Copy, Debug)]
+#[derive(Clone, Copy)]
 pub(crate) enum CommandKind {
     Boot,
     Tx,
@@ -52,7 +52,7 @@ impl CommandKind {
 }
 
 // The kind of an answer.
-#[derive(Clone, Copy, Debug)]
+#[derive(Clone, Copy)]
 pub(crate) enum AnswerKind {
     Booted,
     Done,

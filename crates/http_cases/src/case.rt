@@ -1,96 +1,59 @@
 // One case and its answer.
-use crate::bytes::shown;
-use crate::replies::{exchanged, reply, unwritten, written};
-use crate::{replies, requests};
-use case_texts::escaped_bytes;
+use crate::messages::Reading;
+use crate::{api, applications, bodies, messages, values};
+use actors_api::Side;
 use std::alloc::Global;
 
 /// The answer to a case; `None` if it is none, or memory ran out.
 pub(crate) fn answer(alloc: Global, line: &str) -> Option<String> {
     let (word, rest) = line.split_once(' ')?;
     match word {
-        "request" => requests::at_every_cut(alloc, escaped_bytes(alloc, rest)?.as_slice()),
-        "head" => head(alloc, rest.parse::<u64>().ok()?),
-        "fields" => fields(alloc, rest.parse::<u64>().ok()?),
-        "stream" => stream(alloc, rest, &[]),
-        "fault" => fault(alloc, rest),
-        "response" => response(alloc, rest),
-        "unwritten" => unwritten(alloc, rest.parse::<u64>().ok()?),
-        "reply" => replies::at_every_cut(alloc, escaped_bytes(alloc, rest)?.as_slice()),
-        "ended" => ended(alloc, rest),
-        "exchange" => exchange(alloc, rest),
-        "broken" => broken(alloc, rest),
+        "request" => messages::at_every_cut(alloc, Reading::Request, rest),
+        "head" => messages::head(alloc, rest),
+        "fields" => messages::head_of_fields(alloc, rest),
+        "stream" => messages::stream(alloc, rest, &[]),
+        "fault" => messages::fault(alloc, rest),
+        "response" => messages::written(alloc, rest),
+        "unwritten" => messages::unwritten(alloc, rest),
+        "reply" => messages::at_every_cut(alloc, Reading::Reply, rest),
+        "ended" => messages::ended(alloc, rest),
+        "exchange" => messages::exchanged(alloc, rest),
+        "broken" => messages::broken(alloc, rest),
+        "config" => applications::config(alloc, rest.as_bytes()),
+        "many" => applications::config(alloc, applications::many_types(alloc, rest)?.as_bytes()),
+        "app-reply" => applications::reply_words(alloc, rest),
+        "call" => applications::text_of(alloc, &applications::call(alloc, rest)?),
+        "app-reminder" => applications::text_of(alloc, &applications::reminder(alloc, rest)?),
+        "app-timer" => applications::text_of(alloc, &applications::timer(alloc, rest)?),
+        "end" => applications::text_of(alloc, &applications::end(alloc, rest)?),
+        "ask" => applications::text_of(alloc, &applications::question(alloc, rest)?),
+        "app-peer" => applications::text_of(alloc, &applications::hand_on(alloc, rest)?),
+        _ => of_api(alloc, word, rest),
+    }
+}
+
+fn of_api(alloc: Global, word: &str, rest: &str) -> Option<String> {
+    match word {
+        "json" => values::json(alloc, rest),
+        "arrays" => values::arrays(alloc, rest),
+        "whole" => values::whole(alloc, rest),
+        "member" => values::member(alloc, rest),
+        "item" => values::item(alloc, rest),
+        "quoted" => values::quoted(alloc, rest),
+        "array" => values::array(alloc, rest),
+        "object" => values::object(alloc, rest),
+        "operations" => bodies::operations(alloc, rest),
+        "deep" => bodies::deep(alloc, rest),
+        "deletes" => bodies::deletes(alloc, rest),
+        "reminder" => bodies::reminder(alloc, rest),
+        "timer" => bodies::timer(alloc, rest),
+        "caller" => api::said(alloc, Side::Caller, rest),
+        "peer" => api::said(alloc, Side::Peer, rest),
+        "refusal" => api::told(alloc, rest),
+        "refused" => api::told_peer(alloc, rest),
+        "elsewhere" => api::elsewhere(alloc, rest),
+        "room" => api::asked(alloc, rest),
+        "state" => api::state(alloc, rest),
         _ => None,
     }
-}
-
-// What is answered to so many bytes that begin a head.
-fn head(alloc: Global, count: u64) -> Option<String> {
-    let mut bytes = Vec::new(alloc);
-    for _ in 0..count {
-        bytes.push(b'a').ok()?;
-    }
-    shown(alloc, requests::first(alloc, bytes.as_slice())?.as_slice())
-}
-
-// What is answered to a head with so many fields.
-fn fields(alloc: Global, count: u64) -> Option<String> {
-    let mut bytes = Vec::from_slice(alloc, b"GET / HTTP/1.1\r\n").ok()?;
-    for _ in 0..count {
-        bytes.extend_from_slice(b"A:\r\n").ok()?;
-    }
-    bytes.extend_from_slice(b"\r\n").ok()?;
-    shown(alloc, requests::first(alloc, bytes.as_slice())?.as_slice())
-}
-
-// `COUNT BYTES`
-fn stream(alloc: Global, text: &str, failing: &[u64]) -> Option<String> {
-    let (count, input) = text.split_once(' ')?;
-    let input = escaped_bytes(alloc, input)?;
-    requests::reads(alloc, count.parse::<u64>().ok()?, input.as_slice(), failing)
-}
-
-// `CALL COUNT BYTES`
-fn fault(alloc: Global, text: &str) -> Option<String> {
-    let (call, rest) = text.split_once(' ')?;
-    stream(alloc, rest, &[call.parse::<u64>().ok()?])
-}
-
-// `STATUS|NAME|VALUE|BODY`
-fn response(alloc: Global, text: &str) -> Option<String> {
-    let (status, rest) = text.split_once('|')?;
-    let (name, rest) = rest.split_once('|')?;
-    let (value, body) = rest.split_once('|')?;
-    let status = status.parse::<u16>().ok()?;
-    written(
-        alloc,
-        status,
-        name.as_bytes(),
-        value.as_bytes(),
-        body.as_bytes(),
-    )
-}
-
-// What an exchange answers to these bytes.
-fn ended(alloc: Global, text: &str) -> Option<String> {
-    let input = escaped_bytes(alloc, text)?;
-    shown(alloc, reply(alloc, input.as_slice(), &[])?.as_slice())
-}
-
-// `BODY|BYTES`
-fn exchange(alloc: Global, text: &str) -> Option<String> {
-    let (body, input) = text.split_once('|')?;
-    exchanged(
-        alloc,
-        body.as_bytes(),
-        escaped_bytes(alloc, input)?.as_slice(),
-    )
-}
-
-// `CALL BYTES`
-fn broken(alloc: Global, text: &str) -> Option<String> {
-    let (call, input) = text.split_once(' ')?;
-    let input = escaped_bytes(alloc, input)?;
-    let failing = [call.parse::<u64>().ok()?];
-    shown(alloc, reply(alloc, input.as_slice(), &failing)?.as_slice())
 }

@@ -5,14 +5,14 @@ use lists_and_limits::Bytes;
 use std::marker::Model;
 
 /// A field of a head: its name as it was written, and its value without the white space around it.
-#[derive(Debug, Drop)]
+#[derive(Drop)]
 pub struct HttpField {
     pub name: Bytes,
     pub value: Bytes,
 }
 
 /// The fields of a head in their order; contracts see them as a list.
-#[derive(Debug, Drop)]
+#[derive(Drop)]
 pub struct HttpFields {
     fields: Vec<HttpField>,
 }
@@ -51,7 +51,7 @@ impl HttpFields {
 }
 
 /// A request. `close` says that no further request follows on its connection.
-#[derive(Debug, Drop)]
+#[derive(Drop)]
 pub struct HttpRequest {
     pub method: Bytes,
     pub target: Bytes,
@@ -61,7 +61,7 @@ pub struct HttpRequest {
 }
 
 /// A response that is written, or a reply that is read.
-#[derive(Debug, Drop)]
+#[derive(Drop)]
 pub struct HttpResponse {
     pub status: u16,
     pub fields: HttpFields,

@@ -1,5 +1,5 @@
 -- The requests of a session add up.
-use Rattle.std.proofs.Common.{◌≡◌, ◌⊎◌, ◌<◌, ◌≤◌, ◌+◌, ◌^◌, refl, sym, ap, subst, ◌∙◌, inl, inr, ℕ, Bool, true, false, List, [], ◌∷◌, ◌++◌, length, append_assoc, length-append, arith, Option, Some, None, Result, Ok, Err}
+use Rattle.std.proofs.Common.{◌≡◌, ◌<◌, ◌≤◌, ◌+◌, ◌^◌, refl, sym, ap, subst, ◌∙◌, inl, inr, ℕ, true, false, List, [], ◌∷◌, ◌++◌, length, append_assoc, length-append, arith, Option, Some, None, Result, Ok, Err}
 use Rattle.std.proofs.lemmas.List.{append-nil}
 use Rattle.lists_and_limits.specs.declared.memory.OutOfMemory.{OutOfMemory}
 use Rattle.actor_ports.specs.declared.session.SessionEnd.{SessionEnd}
@@ -9,12 +9,12 @@ use Rattle.http_edge.specs.declared.message.HttpRequest.{HttpRequest}
 use Rattle.http_edge.specs.declared.message.HttpResponse.{HttpResponse}
 use Rattle.http_edge.specs.declared.error.EdgeError.{EdgeError}
 use Rattle.http_edge.specs.declared.error.EdgeError.TheVariants as edge
-use Rattle.http_edge.specs.Carry.{Carried, Over, AtEnd, IsFront, nothing}
-use Rattle.http_edge.specs.Requests.{IsRequestText, Refuses, Gives, ReadsNext, ReaderState, EdgeCause}
+use Rattle.http_edge.specs.Carry.{Carried, Over, AtEnd}
+use Rattle.http_edge.specs.Requests.{ReadsNext, ReaderState, EdgeCause}
 use Rattle.http_edge.specs.Texts.{WritesText}
 use Rattle.http_edge.proofs.Carried.{over_nothing, over_then, told_along}
-use Rattle.http_session.specs.Rounds.{Round, texts_of, answers_of, answer_text, GoOn, Closes, IsRound, AreRounds, Turns}
-use Rattle.http_session.specs.Sessions.{HasNoReading, IsRefusal, EndsWith, EndsCut, Went, IsCut, EndsBetween, EndsInAnswer, EndsRefused, IsSession, SessionCause, cut_end, EndsUnread}
+use Rattle.http_session.specs.Rounds.{Round, texts_of, answers_of, answer_text, GoOn, IsRound, AreRounds, Turns}
+use Rattle.http_session.specs.Sessions.{HasNoReading, IsRefusal, Went, IsCut, IsSession, SessionCause, cut_end, EndsUnread}
 
 -- ---- the end of the input stays where bytes are written
 
@@ -131,7 +131,7 @@ module _ {S : Type 0} (answers : S → HttpRequest → Result HttpResponse OutOf
         ))
 
     pub ends_unread : (f0 f1 f2 : ℕ) (t3 : Option Traffic) (error : EdgeError) (end : SessionEnd) → f0 ≤ f1 → ReadsNext reader.kept new.kept t1 t2 (Err error)
-        → EndsUnread refusal_of error n f1 f2 t2 t3 end → IsSession answers refusal_of s0 s1 t0 t3 f0 f2 end
+        → EndsUnread (refusal_of error) error n f1 f2 t2 t3 end → IsSession answers refusal_of s0 s1 t0 t3 f0 f2 end
     ends_unread f0 f1 f2 t3 edge.ConnFault end up r u =
         subst (λ (t : Option Traffic). IsSession answers refusal_of s0 s1 t0 t f0 f2 end) (sym u.0)
         (subst (λ (e : SessionEnd). IsSession answers refusal_of s0 s1 t0 t2 f0 f2 e) (sym u.1)
@@ -249,24 +249,24 @@ write_up f0 f1 (Err error) c = c
 pub write_fault : (f0 f1 : ℕ) (written : Result (Unit {0}) EdgeError) → WriteCause f0 f1 written → written ≡ Err edge.ConnFault → f0 < f1
 write_fault f0 f1 written c e = subst (λ (w : Result (Unit {0}) EdgeError). WriteCause f0 f1 w) e c
 
-pub unread_other : (refusal_of : EdgeError → Option HttpResponse) (error : EdgeError) (n f0 f1 : ℕ) (t0 t1 : Option Traffic) (end : SessionEnd)
+pub unread_other : (said : Option HttpResponse) (error : EdgeError) (n f0 f1 : ℕ) (t0 t1 : Option Traffic) (end : SessionEnd)
     → (error ≡ edge.ConnFault → ⊥) → (error ≡ edge.OutOfMemory → ⊥)
-    → (front : List ℕ) × Over t0 t1 (record { read = []; written = front }) × IsRefusal f0 f1 (refusal_of error) front × (end ≡ ends.Malformed n)
-    → EndsUnread refusal_of error n f0 f1 t0 t1 end
-unread_other refusal_of edge.ConnFault n f0 f1 t0 t1 end a b w = absurd (a refl)
-unread_other refusal_of edge.OutOfMemory n f0 f1 t0 t1 end a b w = absurd (b refl)
-unread_other refusal_of error n f0 f1 t0 t1 end a b w = w
+    → (front : List ℕ) × Over t0 t1 (record { read = []; written = front }) × IsRefusal f0 f1 said front × (end ≡ ends.Malformed n)
+    → EndsUnread said error n f0 f1 t0 t1 end
+unread_other said edge.ConnFault n f0 f1 t0 t1 end a b w = absurd (a refl)
+unread_other said edge.OutOfMemory n f0 f1 t0 t1 end a b w = absurd (b refl)
+unread_other said error n f0 f1 t0 t1 end a b w = w
 
 -- the cause of the end of a session whose reader answered an error
-pub unread_cause : (refusal_of : EdgeError → Option HttpResponse) (error : EdgeError) (n f0 f1 f2 f3 : ℕ) (t0 t1 : Option Traffic) (end : SessionEnd)
-    → f0 ≤ f1 → ReadCause f1 f2 (Err error) → f2 ≤ f3 → EndsUnread refusal_of error n f2 f3 t0 t1 end → SessionCause f0 f3 end
-unread_cause refusal_of edge.ConnFault n f0 f1 f2 f3 t0 t1 end up c on u =
+pub unread_cause : (said : Option HttpResponse) (error : EdgeError) (n f0 f1 f2 f3 : ℕ) (t0 t1 : Option Traffic) (end : SessionEnd)
+    → f0 ≤ f1 → ReadCause f1 f2 (Err error) → f2 ≤ f3 → EndsUnread said error n f2 f3 t0 t1 end → SessionCause f0 f3 end
+unread_cause said edge.ConnFault n f0 f1 f2 f3 t0 t1 end up c on u =
     let rose : f1 < f2 = c in
     let h : f0 < f3 = omega arith in
     subst (λ (e : SessionEnd). SessionCause f0 f3 e) (sym u.1) h
-unread_cause refusal_of edge.OutOfMemory n f0 f1 f2 f3 t0 t1 end up c on u =
+unread_cause said edge.OutOfMemory n f0 f1 f2 f3 t0 t1 end up c on u =
     subst (λ (e : SessionEnd). SessionCause f0 f3 e) (sym u.1) (no_less f0 f2 f3 (no_less f0 f1 f2 up c) on)
-unread_cause refusal_of error n f0 f1 f2 f3 t0 t1 end up c on u =
+unread_cause said error n f0 f1 f2 f3 t0 t1 end up c on u =
     subst (λ (e : SessionEnd). SessionCause f0 f3 e) (sym u.3) (no_less f0 f2 f3 (no_less f0 f1 f2 up c) on)
 
 -- and of one in which an answer wasn't written whole

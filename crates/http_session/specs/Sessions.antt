@@ -1,5 +1,5 @@
 -- A session: the requests of a connection, answered in order, and why it ended. Own.
-use Rattle.std.specs.Prelude.{◌≡◌, ◌⊎◌, ◌<◌, ◌≤◌, ◌^◌, ℕ, true, List, [], ◌∷◌, ◌++◌, length, Option, Some, None, Result, Ok, Err}
+use Rattle.std.specs.Prelude.{◌≡◌, ◌⊎◌, ◌<◌, ◌≤◌, ◌^◌, ℕ, true, List, [], ◌++◌, length, Option, Some, None, Result, Ok}
 use Rattle.lists_and_limits.specs.declared.memory.OutOfMemory.{OutOfMemory}
 use Rattle.actor_ports.specs.declared.session.SessionEnd.{SessionEnd}
 use Rattle.actor_ports.specs.declared.session.SessionEnd.TheVariants as ends
@@ -91,9 +91,9 @@ abbrev pub cut_end : EdgeError → ℕ → SessionEnd
 cut_end edge.ConnFault n = ends.ConnFault n
 cut_end error n = ends.OutOfMemory n
 
--- what is done about an error of reading, and how the session ends then
-abbrev pub EndsUnread : (EdgeError → Option HttpResponse) → EdgeError → ℕ → ℕ → ℕ → Option Traffic → Option Traffic → SessionEnd → Type 0
-EndsUnread refusal_of edge.ConnFault n f0 f1 t0 t1 end = (t1 ≡ t0) × (end ≡ ends.ConnFault n)
-EndsUnread refusal_of edge.OutOfMemory n f0 f1 t0 t1 end = (t1 ≡ t0) × (end ≡ ends.OutOfMemory n)
-EndsUnread refusal_of error n f0 f1 t0 t1 end =
-    (front : List ℕ) × Over t0 t1 (record { read = []; written = front }) × IsRefusal f0 f1 (refusal_of error) front × (end ≡ ends.Malformed n)
+-- what is done about an error of reading, to which this is the response, and how the session ends then
+abbrev pub EndsUnread : Option HttpResponse → EdgeError → ℕ → ℕ → ℕ → Option Traffic → Option Traffic → SessionEnd → Type 0
+EndsUnread said edge.ConnFault n f0 f1 t0 t1 end = (t1 ≡ t0) × (end ≡ ends.ConnFault n)
+EndsUnread said edge.OutOfMemory n f0 f1 t0 t1 end = (t1 ≡ t0) × (end ≡ ends.OutOfMemory n)
+EndsUnread said error n f0 f1 t0 t1 end =
+    (front : List ℕ) × Over t0 t1 (record { read = []; written = front }) × IsRefusal f0 f1 said front × (end ≡ ends.Malformed n)

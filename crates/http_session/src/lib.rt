@@ -1,16 +1,12 @@
-// A session of HTTP: the requests of a connection, answered in order by any server.
+// A session of HTTP: the requests of a connection, answered in order, whatever answers them.
 //
-// Promise: each request that is read is given to the server once, in order, and its response is written before the next
-// one is read. Each end has its cause (`specs/Sessions`). What an answer means is stated by the server (`AnswersHttp`).
-// Depends on `http_edge`, `actor_ports` and `lists_and_limits`.
+// Promise: a response is written whole, or a prefix of it if the connection failed, and the last one of a connection says
+// so; bytes that have no reading are refused as they are said to be, and each end has its cause (`specs/Sessions`). What
+// answers requests keeps the loop. Depends on `http_edge`, `actor_ports` and `lists_and_limits`.
 #![tactic(auto)]
 
 mod closing;
 mod ends;
-mod server;
-mod session;
-mod turn;
 
 pub use closing::write_sent;
-pub use server::AnswersHttp;
-pub use session::http_session;
+pub use ends::{cut_end, end_unread};

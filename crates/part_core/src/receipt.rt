@@ -7,7 +7,7 @@ use part_model::{Reply, SeenStage};
 use std::marker::Model;
 
 /// The state of a part after one of its steps. Only a step of a part makes one. A copy takes no memory.
-#[derive(Clone, Copy, Debug)]
+#[derive(Clone, Copy)]
 pub struct Receipt {
     member: Member,
     part: u8,

@@ -2,7 +2,7 @@
 use place_table::AckStage;
 
 /// An acknowledgement: the member has reached this stage of the round of `version`.
-#[derive(Clone, Copy, Debug)]
+#[derive(Clone, Copy)]
 pub struct Ack {
     /// The stage.
     pub stage: AckStage,

@@ -69,7 +69,7 @@ pub enum PartEvent {
 }
 
 /// What a part answers, with receipts of type `R`. A refused event leaves the part as it was and draws no number.
-#[derive(Debug, Drop)]
+#[derive(Drop)]
 pub enum Reply<R> {
     /// The call's turn is open. The chain is `None` if reentrancy is off.
     Begun { call: u64, chain: Option<ChainId> },

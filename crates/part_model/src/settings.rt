@@ -5,7 +5,7 @@ use actor_names::{ActorType, Member};
 use std::marker::Model;
 
 /// How the actors of one type are treated.
-#[derive(Debug, Drop)]
+#[derive(Drop)]
 pub struct TypeSettings {
     /// The type.
     pub kind: ActorType,
@@ -18,7 +18,7 @@ pub struct TypeSettings {
 }
 
 /// Settings of types, in the order given.
-#[derive(Debug, Drop)]
+#[derive(Drop)]
 pub struct TypeList {
     items: Vec<TypeSettings>,
 }
@@ -59,7 +59,7 @@ impl TypeList {
 /// Whose part it is, its number among the member's parts, and the settings of the types. A type that isn't listed
 /// has an idle time of 3,600,000 ms, a drain time of 60,000 ms and reentrancy off. If a type has two entries, the
 /// last counts.
-#[derive(Debug, Drop)]
+#[derive(Drop)]
 pub struct PartSettings {
     /// The member that the part belongs to.
     pub member: Member,

@@ -2,7 +2,7 @@
 use actor_names::Node;
 
 /// A point of a node on the ring.
-#[derive(Clone, Copy, Debug)]
+#[derive(Clone, Copy)]
 pub struct Point {
     /// Where the point is on the ring.
     pub place: u64,

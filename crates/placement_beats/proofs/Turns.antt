@@ -16,9 +16,9 @@ use Rattle.frame_wire.specs.declared.refusal.Refusal.{Refusal}
 use Rattle.frame_wire.specs.declared.refusal.Refusal.TheVariants as refusals
 use Rattle.step_gate.specs.declared.gate.Spent.{Spent}
 use Rattle.frame_wire.specs.Frames.{frame_bytes, IsFrame}
-use Rattle.frame_exchange.specs.declared.end.FrameEnd.{FrameEnd}
-use Rattle.frame_exchange.specs.declared.end.FrameEnd.TheVariants as fails
-use Rattle.frame_exchange.specs.Exchanges.{ExchangesFrame, EndCause}
+use Rattle.exchanges.specs.declared.frame_end.FrameEnd.{FrameEnd}
+use Rattle.exchanges.specs.declared.frame_end.FrameEnd.TheVariants as fails
+use Rattle.exchanges.specs.FrameExchanges.{ExchangesFrame, EndCause}
 use Rattle.sidecar_node.specs.declared.node.SidecarNode.{SidecarNode}
 use Rattle.sidecar_node.specs.declared.node.Seats.{Seats}
 use Rattle.sidecar_node.specs.declared.rounds.RoundEvent.{RoundEvent}

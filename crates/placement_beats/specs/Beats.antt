@@ -12,9 +12,9 @@ use Rattle.part_model.specs.declared.event.PartEvent.TheVariants as events
 use Rattle.frame_wire.specs.declared.frame.Frame.{Frame}
 use Rattle.frame_wire.specs.declared.frame.Frame.TheVariants as frames
 use Rattle.frame_wire.specs.Frames.{frame_bytes}
-use Rattle.frame_exchange.specs.declared.end.FrameEnd.{FrameEnd}
-use Rattle.frame_exchange.specs.declared.end.FrameEnd.TheVariants as fails
-use Rattle.frame_exchange.specs.Exchanges.{ExchangesFrame}
+use Rattle.exchanges.specs.declared.frame_end.FrameEnd.{FrameEnd}
+use Rattle.exchanges.specs.declared.frame_end.FrameEnd.TheVariants as fails
+use Rattle.exchanges.specs.FrameExchanges.{ExchangesFrame}
 use Rattle.sidecar_node.specs.declared.node.SidecarNode.{SidecarNode}
 use Rattle.sidecar_node.specs.declared.node.Seats.{Seats}
 use Rattle.sidecar_node.specs.declared.rounds.RoundEvent.{RoundEvent}

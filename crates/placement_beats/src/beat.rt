@@ -12,7 +12,7 @@ use crate::book::{PlacementBook, TurnEnd};
 use crate::heartbeat::{Beat, heartbeat};
 use crate::reply::{obey, reply_fault};
 use actor_ports::{Clock, Conn};
-use frame_exchange::FrameEnd;
+use exchanges::FrameEnd;
 use frame_wire::Frame;
 use member_core::Ack;
 use part_core::PartReply;

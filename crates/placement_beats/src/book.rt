@@ -3,7 +3,7 @@ use member_core::Ack;
 use round_core::PlaceReply;
 
 /// What a sidecar keeps of its turns with the placement.
-#[derive(Clone, Copy, Debug)]
+#[derive(Clone, Copy)]
 pub struct PlacementBook {
     /// The last acknowledgement that was sent and not refused.
     pub acked: Option<Ack>,

@@ -5,13 +5,13 @@ ghost use Rattle.part_model.specs.Acks.{stage_rank};
 ghost use Rattle.member_core.specs.Answers.{collect_answer};
 ghost use Rattle.frame_wire.specs.declared.frame.Frame.TheVariants as frames;
 ghost use Rattle.frame_wire.specs.Frames.{payload, frame_bytes};
-ghost use Rattle.frame_exchange.specs.Exchanges.{ExchangesFrame, EndCause};
+ghost use Rattle.exchanges.specs.FrameExchanges.{ExchangesFrame, EndCause};
 ghost use Rattle.placement_beats.specs.Answers.{receipts_of};
 ghost use Rattle.placement_beats.specs.Beats.{is_same_ack, is_acked, new_ack, frame_of, heartbeat_frame, IsShort};
 
 use crate::answers::receipts_of;
 use actor_ports::Conn;
-use frame_exchange::{FrameEnd, exchange_frame};
+use exchanges::{FrameEnd, exchange_frame};
 use frame_wire::{Frame, write_frame};
 use lists_and_limits::OutOfMemory;
 use member_core::{Ack, CollectError, collect};

@@ -16,7 +16,7 @@ use crate::heartbeat::send_frame;
 use crate::reply::{reply_end, reply_fault};
 use actor_names::Space;
 use actor_ports::Conn;
-use frame_exchange::FrameEnd;
+use exchanges::FrameEnd;
 use frame_wire::Frame;
 use lists_and_limits::OutOfMemory;
 use member_core::may_leave;

@@ -2,7 +2,7 @@
 //
 // Promise: a turn's entries are a Tick on each part and, by the frame read, one event on each part; an acknowledgement
 // that is sent is what the receipts of this turn's Ticks justify (`specs/Beats`). Depends on `sidecar_node`,
-// `member_core`, `frame_exchange` and `frame_wire`, and on what these stand on.
+// `member_core`, `exchanges` and `frame_wire`, and on what these stand on.
 #![tactic(auto)]
 
 mod answers;

@@ -2,7 +2,7 @@
 use Rattle.std.specs.Prelude.{◌≡◌, ◌⊎◌, ℕ, List, Option, Some, None}
 use Rattle.actor_names.specs.declared.address.Address.{Address}
 use Rattle.actor_ports.specs.Traffic.{Place}
-use Rattle.host_ports.specs.Hosts.{Asked, place_of, with_path, with_place}
+use Rattle.server_ports.specs.Hosts.{Asked, place_of, with_path, with_place}
 
 -- the place of its state over HTTP, if it has one
 abbrev pub with_state : Asked → Option Address → Asked

@@ -4,10 +4,9 @@ ghost use Rattle.std.specs.Prelude.{◌≡◌, ◌≢◌, ◌<◌, ◌≤◌, �
 use crate::command::PlacementEnd;
 use actor_names::OutOfMemory;
 use actor_ports::PortError;
-use connection_server::ServerEnd;
-use host_ports::Host;
 use placement_node::PlacementNode;
 use placement_server::PlacementServed;
+use server_ports::{Host, ServerEnd};
 
 /// Gives back the disk of a node, and answers whether it has failed.
 pub(crate) fn give_back<H: Host>(host: &mut H, node: PlacementNode<H::Store>) -> bool

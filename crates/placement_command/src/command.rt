@@ -1,20 +1,20 @@
 // The command.
 ghost use Rattle.std.specs.Prelude.{◌≡◌, ◌≢◌, ◌<◌, ◌≤◌};
-ghost use Rattle.host_ports.specs.Hosts.{place_of};
+ghost use Rattle.server_ports.specs.Hosts.{place_of};
 ghost use Rattle.placement_command.specs.Commands.{AsksOnly};
 
 use crate::ends::end_of;
 use crate::serving::serve_node;
 use actor_ports::{Clock, Dial, PortError};
 use command_words::PlacementWords;
-use host_ports::Host;
 use placement_node::PlacementNode;
+use server_ports::Host;
 use std::alloc::Global;
 use std::sync::Wait;
 use std::thread::Threads;
 
 /// How the command ended.
-#[derive(Clone, Copy, Debug, PartialEq, Eq)]
+#[derive(Clone, Copy, PartialEq, Eq)]
 pub enum PlacementEnd {
     /// As many connections were served as the words say.
     Done,

@@ -2,7 +2,7 @@
 //
 // Promise: it asks its host for nothing but its own path and addresses, gives back what it was given, and ends for a fault
 // of a disk or a port only if the host's count of such faults rose (`specs/Commands`). Depends on `placement_server`,
-// `placement_node`, `host_ports` and `command_words`.
+// `placement_node`, `server_ports` and `command_words`.
 #![tactic(auto)]
 
 mod back;

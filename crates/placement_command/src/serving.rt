@@ -1,6 +1,6 @@
 // An open placement: its ports, and the server.
 ghost use Rattle.std.specs.Prelude.{◌≡◌, ◌≢◌, ◌<◌, ◌≤◌, ◌+◌};
-ghost use Rattle.host_ports.specs.Hosts.{place_of};
+ghost use Rattle.server_ports.specs.Hosts.{place_of};
 ghost use Rattle.placement_command.specs.Commands.{AsksPorts};
 
 use crate::back::{ended, give_back, unbound};
@@ -8,9 +8,9 @@ use crate::command::PlacementEnd;
 use actor_names::Address;
 use actor_ports::{Clock, Dial};
 use command_words::{PlacementWords, ServerWords};
-use host_ports::Host;
 use placement_node::PlacementNode;
 use placement_server::{serve_placement, serve_placement_and_state};
+use server_ports::Host;
 use std::alloc::Global;
 use std::sync::Wait;
 use std::thread::Threads;

@@ -14,7 +14,7 @@ pub struct NodeEvent {
 }
 
 /// What is seen of a room.
-#[derive(Debug, Drop)]
+#[derive(Drop)]
 pub struct RoomSeen {
     /// The space of the room.
     pub space: Space,
@@ -25,7 +25,7 @@ pub struct RoomSeen {
 }
 
 /// What is seen of all rooms, in byte order of space; contracts see them as a list.
-#[derive(Debug, Drop)]
+#[derive(Drop)]
 pub struct SeenRooms {
     items: Vec<RoomSeen>,
 }
@@ -66,7 +66,7 @@ impl SeenRooms {
 }
 
 /// What a node answers.
-#[derive(Debug, Drop)]
+#[derive(Drop)]
 pub enum NodeReply {
     /// A message: to a member, or that the event was refused.
     Message { frame: Frame },

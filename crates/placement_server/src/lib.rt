@@ -1,8 +1,8 @@
 // The placement as a server: its sessions in threads, its state over HTTP, and a Tick every second.
 //
 // Promise: what all threads did is one legal history of the node's steps, from the node that was given to the one that is
-// handed back; the server ends for a fault of a port only if one of its ports has one. Depends on `control_serve`,
-// `connection_server`, `placement_node`, `step_gate` and `actor_ports`.
+// handed back; the server ends for a fault of a port only if one of its ports has one. Depends on `placement_sessions`,
+// `server_ports`, `placement_node`, `step_gate` and `actor_ports`.
 #![tactic(auto)]
 
 mod pass;

@@ -6,12 +6,12 @@ ghost use Rattle.placement_node.specs.Node.{NodeAllows};
 use crate::pass::Pass;
 use actor_names::Address;
 use actor_ports::{Clock, Dial};
-use connection_server::{Duty, Service};
-use control_serve::PlacementFrames;
 use disk_model::Disk;
 use frame_session::AnswersFrames;
 use placement_node::{NodeEvent, PlacementNode};
+use placement_sessions::PlacementFrames;
 use round_core::PlaceEvent;
+use server_ports::{Duty, MOST_AT_ONCE, SHORT_PAUSE_MS, Service};
 use std::sync::Wait;
 use std::sync::atomic::{AtomicBool, Ordering};
 use step_gate::Gate;
@@ -64,6 +64,10 @@ impl<D: Disk + Drop + Send, K: Clock, N: Dial> Service<Pass<D, K, N>> for Placem
 
     fn works(&self) -> u32 {
         1
+    }
+
+    fn most_at_once(&self) -> u64 {
+        MOST_AT_ONCE
     }
 
     fn is_over(&self) -> bool {
@@ -129,6 +133,11 @@ pub(crate) fn do_duty<R: Wait, D: Disk + Drop + Send, K: Clock, N: Dial>(
         Duty::Rest(_) => {
             let mut pass = pass;
             pass.clock.pause(PAUSE_MS);
+            pass
+        }
+        Duty::Pause => {
+            let mut pass = pass;
+            pass.clock.pause(SHORT_PAUSE_MS);
             pass
         }
         Duty::Finish(_) => pass,

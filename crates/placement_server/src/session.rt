@@ -5,8 +5,8 @@ ghost use Rattle.placement_node.specs.Node.{NodeAllows};
 use crate::pass::Pass;
 use crate::service::PlacementService;
 use actor_ports::{Clock, Conn, Dial, SessionEnd};
-use control_serve::{placement_session, placement_state_session};
 use disk_model::Disk;
+use placement_sessions::{placement_session, placement_state_session};
 use std::alloc::Global;
 use std::sync::Wait;
 

@@ -6,7 +6,8 @@ use Rattle.http_edge.specs.declared.error.EdgeError.TheVariants as edge
 use Rattle.part_model.specs.declared.event.Reply.TheVariants as replies
 use Rattle.frame_wire.specs.declared.store_answer.DueEntry.{DueEntry}
 use Rattle.frame_wire.specs.declared.store_answer.StoreAnswer.TheVariants as answers
-use Rattle.store_exchange.specs.declared.end.StoreEnd.TheVariants as stores
+use Rattle.frame_wire.specs.declared.store_refusal.StoreRefusal.TheVariants as refusals
+use Rattle.exchanges.specs.declared.store_end.StoreEnd.TheVariants as stores
 use Rattle.reminder_turns.specs.declared.ends.TickEnd.TheVariants as ends
 use Rattle.reminder_turns.specs.declared.results.Turned.TheVariants.{Called, Refused}
 use Rattle.reminder_turns.specs.declared.results.Reported.TheVariants.{Told, Undrawn}
@@ -36,12 +37,19 @@ stopped_part_ends_call = refl
 full_gate_ends_call : (spent : Spent) → run_end (Refused (Err spent)) None ≡ Some (ends.Spent spent.count)
 full_gate_ends_call spent = refl
 
--- the answers to a report: the next moment, that there is no such reminder, one that has no reading
+-- the answers to a report: the next moment, that there is no such reminder any more, that it has another moment, that the
+-- store has to be opened again, one that has no reading
 next_moment_goes_on : (r : HttpResponse) (e : Option ℕ) → (n : _) → run_end (Called (Ok r) (Ok (replies.Ended e))) (Some (Told (Ok (answers.NextIs n)))) ≡ None
 next_moment_goes_on r e n = refl
 
-missing_reminder_is_refusal : (r : HttpResponse) (e : Option ℕ) → run_end (Called (Ok r) (Ok (replies.Ended e))) (Some (Told (Ok answers.NotThere))) ≡ Some (ends.StoreRefused answers.NotThere)
-missing_reminder_is_refusal r e = refl
+removed_reminder_goes_on : (r : HttpResponse) (e : Option ℕ) → run_end (Called (Ok r) (Ok (replies.Ended e))) (Some (Told (Ok answers.NotThere))) ≡ None
+removed_reminder_goes_on r e = refl
+
+renewed_reminder_goes_on : (r : HttpResponse) (e : Option ℕ) → (m : _) → run_end (Called (Ok r) (Ok (replies.Ended e))) (Some (Told (Ok (answers.Refused (refusals.OtherMoment m))))) ≡ None
+renewed_reminder_goes_on r e m = refl
+
+refused_report_ends_call : (r : HttpResponse) (e : Option ℕ) → run_end (Called (Ok r) (Ok (replies.Ended e))) (Some (Told (Ok (answers.Refused refusals.Reopen)))) ≡ Some (ends.StoreRefused (answers.Refused refusals.Reopen))
+refused_report_ends_call r e = refl
 
 unreadable_answer_ends_call : (r : HttpResponse) (e : Option ℕ) → run_end (Called (Ok r) (Ok (replies.Ended e))) (Some (Told (Err stores.Unreadable))) ≡ Some ends.StoreReply
 unreadable_answer_ends_call r e = refl

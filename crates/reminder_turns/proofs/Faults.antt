@@ -15,15 +15,16 @@ use Rattle.frame_wire.specs.declared.frame.Frame.TheVariants.{Command}
 use Rattle.frame_wire.specs.declared.store_command.StoreCommand.{StoreCommand}
 use Rattle.frame_wire.specs.declared.store_answer.DueEntry.{DueEntry}
 use Rattle.frame_wire.specs.declared.store_answer.StoreAnswer.TheVariants as answers
+use Rattle.frame_wire.specs.declared.store_refusal.StoreRefusal.TheVariants as refusals
 use Rattle.sidecar_node.specs.declared.node.SidecarNode.{SidecarNode}
 use Rattle.sidecar_node.specs.declared.node.Seats.{Seats}
 use Rattle.sidecar_node.specs.Entries.{PartEntry}
 use Rattle.sidecar_node.specs.Turns.{Said}
-use Rattle.link_exchange.specs.Exchanges.{Exchange, Comes, IsExchange, total_rise}
-use Rattle.link_exchange.specs.Replies.{HttpCarries, IsHttpExchange}
-use Rattle.store_exchange.specs.declared.end.StoreEnd.{StoreEnd}
-use Rattle.store_exchange.specs.declared.end.StoreEnd.TheVariants as stores
-use Rattle.store_exchange.specs.Asked.{Got, FrameCarries, IsStoreExchange}
+use Rattle.exchanges.specs.Exchanges.{Exchange, Comes, IsExchange, total_rise}
+use Rattle.exchanges.specs.Replies.{HttpCarries, IsHttpExchange}
+use Rattle.exchanges.specs.declared.store_end.StoreEnd.{StoreEnd}
+use Rattle.exchanges.specs.declared.store_end.StoreEnd.TheVariants as stores
+use Rattle.exchanges.specs.Asked.{Got, FrameCarries, IsStoreExchange}
 use Rattle.reminder_turns.specs.declared.ends.TickEnd.{TickEnd}
 use Rattle.reminder_turns.specs.declared.ends.TickEnd.TheVariants as ends
 use Rattle.reminder_turns.specs.declared.results.Turned.{Turned}
@@ -170,6 +171,8 @@ store_caused n stores.OutOfMemory h = tt
 
 told_caused : (n : ℕ) (got : Got) → (got ≡ Err stores.Fault → 0 < n) → Caused n (told_end got)
 told_caused n (Ok (answers.NextIs next)) h = tt
+told_caused n (Ok answers.NotThere) h = tt
+told_caused n (Ok (answers.Refused (refusals.OtherMoment next))) h = tt
 told_caused n (Ok answer) h = tt
 told_caused n (Err end) h = store_caused n end (λ e. h (ap (λ (s : StoreEnd). Err s) e))
 

@@ -5,10 +5,11 @@ use Rattle.actor_names.specs.declared.address.Address.{Address}
 use Rattle.reminder_rows.specs.declared.row.DueKey.{DueKey}
 use Rattle.frame_wire.specs.declared.store_answer.DueEntry.{DueEntry}
 use Rattle.frame_wire.specs.declared.store_answer.StoreAnswer.TheVariants as answers
+use Rattle.frame_wire.specs.declared.store_refusal.StoreRefusal.TheVariants as refusals
 use Rattle.sidecar_node.specs.declared.node.SidecarNode.{SidecarNode}
 use Rattle.sidecar_node.specs.Entries.{PartEntry}
-use Rattle.link_exchange.specs.Exchanges.{Exchange}
-use Rattle.store_exchange.specs.Asked.{Got}
+use Rattle.exchanges.specs.Exchanges.{Exchange}
+use Rattle.exchanges.specs.Asked.{Got}
 use Rattle.reminder_turns.specs.declared.ends.TickEnd.{TickEnd}
 use Rattle.reminder_turns.specs.declared.results.Turned.{Turned}
 use Rattle.reminder_turns.specs.declared.results.Reported.{Reported}
@@ -44,6 +45,8 @@ other_none (Some end) b e = absurd (let z : ⊥ = cc in z)
 
 told_none : (got : Got) → told_end got ≡ None → IsTold (Some (Told got))
 told_none (Ok (answers.NextIs next)) e = tt
+told_none (Ok answers.NotThere) e = tt
+told_none (Ok (answers.Refused (refusals.OtherMoment next))) e = tt
 told_none (Ok answer) e = absurd (let z : ⊥ = cc in z)
 told_none (Err end) e = absurd (let z : ⊥ = cc in z)
 

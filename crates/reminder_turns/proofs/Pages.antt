@@ -12,10 +12,10 @@ use Rattle.sidecar_node.specs.declared.node.Seats.{Seats}
 use Rattle.sidecar_node.specs.Entries.{NodeEntry}
 use Rattle.sidecar_node.specs.Nodes.{Acts}
 use Rattle.sidecar_node.proofs.Actings.{acts_none, acts_then}
-use Rattle.link_exchange.specs.Exchanges.{Exchange, Dialling}
-use Rattle.link_exchange.specs.Replies.{place_at}
-use Rattle.link_exchange.proofs.Diallings.{none_made, dialling_then}
-use Rattle.store_exchange.specs.Asked.{Got, IsStoreExchange}
+use Rattle.exchanges.specs.Exchanges.{Exchange, Dialling}
+use Rattle.exchanges.specs.Replies.{place_at}
+use Rattle.exchanges.proofs.Diallings.{none_made, dialling_then}
+use Rattle.exchanges.specs.Asked.{Got, IsStoreExchange}
 use Rattle.reminder_turns.specs.declared.ends.TickEnd.{TickEnd}
 use Rattle.reminder_turns.specs.declared.standing.Stand.{Stand}
 use Rattle.reminder_turns.specs.declared.standing.Stand.TheVariants.{On, Over}

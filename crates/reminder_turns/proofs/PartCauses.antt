@@ -12,12 +12,13 @@ use Rattle.http_edge.specs.declared.error.EdgeError.TheVariants as edge
 use Rattle.reminder_rows.specs.declared.row.DueKey.{DueKey}
 use Rattle.frame_wire.specs.declared.store_answer.DueEntry.{DueEntry}
 use Rattle.frame_wire.specs.declared.store_answer.StoreAnswer.TheVariants as answers
+use Rattle.frame_wire.specs.declared.store_refusal.StoreRefusal.TheVariants as refusals
 use Rattle.sidecar_node.specs.declared.node.SidecarNode.{SidecarNode}
 use Rattle.sidecar_node.specs.Entries.{PartEntry, one_entry}
 use Rattle.sidecar_node.specs.Turns.{Said, asks_again, Either, Polls, AfterAsk, Begins, MakesOne}
-use Rattle.link_exchange.specs.Exchanges.{Exchange}
-use Rattle.store_exchange.specs.declared.end.StoreEnd.TheVariants as stores
-use Rattle.store_exchange.specs.Asked.{Got}
+use Rattle.exchanges.specs.Exchanges.{Exchange}
+use Rattle.exchanges.specs.declared.store_end.StoreEnd.TheVariants as stores
+use Rattle.exchanges.specs.Asked.{Got}
 use Rattle.reminder_turns.specs.declared.ends.TickEnd.{TickEnd}
 use Rattle.reminder_turns.specs.declared.ends.TickEnd.TheVariants as ends
 use Rattle.reminder_turns.specs.declared.results.Turned.{Turned}
@@ -115,6 +116,8 @@ module _ (R : PartReply → Type 0) (S : ℕ → Type 0) where
 
   told_goes : (got : Got) → GoesBack R S (told_end got)
   told_goes (Ok (answers.NextIs next)) = tt
+  told_goes (Ok answers.NotThere) = tt
+  told_goes (Ok (answers.Refused (refusals.OtherMoment next))) = tt
   told_goes (Ok answer) = tt
   told_goes (Err stores.Fault) = tt
   told_goes (Err stores.Unreadable) = tt

@@ -15,7 +15,7 @@ use Rattle.frame_wire.specs.declared.store_answer.DueEntry.{DueEntry}
 use Rattle.sidecar_node.specs.declared.node.SidecarNode.{SidecarNode}
 use Rattle.sidecar_node.specs.Entries.{PartEntry, one_entry}
 use Rattle.sidecar_node.specs.Turns.{Said, asks_again, Either, Polls, AfterAsk, Begins, MakesOne}
-use Rattle.link_exchange.specs.Exchanges.{Exchange}
+use Rattle.exchanges.specs.Exchanges.{Exchange}
 use Rattle.reminder_turns.specs.declared.ends.TickEnd.{TickEnd}
 use Rattle.reminder_turns.specs.declared.results.Turned.{Turned}
 use Rattle.reminder_turns.specs.declared.results.Turned.TheVariants.{Called, Refused}

@@ -10,7 +10,7 @@ use Rattle.sidecar_node.specs.declared.node.SidecarNode.{SidecarNode}
 use Rattle.sidecar_node.specs.declared.node.Seats.{Seats}
 use Rattle.sidecar_node.specs.Entries.{one_entry}
 use Rattle.sidecar_node.specs.Turns.{Said}
-use Rattle.link_exchange.specs.Exchanges.{Exchange}
+use Rattle.exchanges.specs.Exchanges.{Exchange}
 use Rattle.reminder_turns.specs.declared.results.Turned.{Turned}
 use Rattle.reminder_turns.specs.declared.results.Turned.TheVariants.{Called, Refused}
 use Rattle.reminder_turns.specs.declared.results.Reported.{Reported}

@@ -10,8 +10,8 @@ use Rattle.sidecar_node.specs.declared.node.Seats.{Seats}
 use Rattle.sidecar_node.specs.Entries.{NodeEntry}
 use Rattle.sidecar_node.specs.Nodes.{Acts}
 use Rattle.sidecar_node.proofs.Actings.{acts_none, acts_then}
-use Rattle.link_exchange.specs.Exchanges.{Exchange, Dialling}
-use Rattle.link_exchange.proofs.Diallings.{none_made, dialling_then}
+use Rattle.exchanges.specs.Exchanges.{Exchange, Dialling}
+use Rattle.exchanges.proofs.Diallings.{none_made, dialling_then}
 use Rattle.reminder_turns.specs.declared.ends.TickEnd.{TickEnd}
 use Rattle.reminder_turns.specs.Outcomes.{begun_in, fault_in}
 use Rattle.reminder_turns.specs.Runs.{Run, run_entries, RunFull, GoOn, RunsEach, runs_entries, runs_called, runs_told, runs_begun, runs_fault, LastFull, capped, RunsOne, RunsPage}

@@ -5,9 +5,10 @@ use Rattle.actor_names.specs.declared.address.Address.{Address}
 use Rattle.reminder_rows.specs.declared.row.DueKey.{DueKey}
 use Rattle.frame_wire.specs.declared.store_answer.DueEntry.{DueEntry}
 use Rattle.frame_wire.specs.declared.store_answer.StoreAnswer.TheVariants as answers
+use Rattle.frame_wire.specs.declared.store_refusal.StoreRefusal.TheVariants as refusals
 use Rattle.sidecar_node.specs.declared.node.SidecarNode.{SidecarNode}
-use Rattle.store_exchange.specs.declared.end.StoreEnd.TheVariants as stores
-use Rattle.store_exchange.specs.Asked.{Got}
+use Rattle.exchanges.specs.declared.store_end.StoreEnd.TheVariants as stores
+use Rattle.exchanges.specs.Asked.{Got}
 use Rattle.reminder_turns.specs.declared.ends.TickEnd.{TickEnd}
 use Rattle.reminder_turns.specs.declared.ends.TickEnd.TheVariants as ends
 use Rattle.reminder_turns.specs.declared.results.Turned.{Turned}
@@ -53,6 +54,8 @@ or_store gots (Some end) b p q = p
 
 told_store : (got : Got) → StoreCause (got ∷ []) (told_end got)
 told_store (Ok (answers.NextIs next)) = tt
+told_store (Ok answers.NotThere) = tt
+told_store (Ok (answers.Refused (refusals.OtherMoment next))) = tt
 told_store (Ok answer) = refl
 told_store (Err stores.Fault) = refl
 told_store (Err stores.Unreadable) = refl

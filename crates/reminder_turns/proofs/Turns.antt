@@ -12,7 +12,7 @@ use Rattle.app_texts.specs.Texts.{reminder_text}
 use Rattle.frame_wire.specs.declared.store_answer.DueEntry.{DueEntry}
 use Rattle.sidecar_node.specs.Entries.{PartEntry}
 use Rattle.sidecar_node.specs.Turns.{Said, Begins}
-use Rattle.link_exchange.specs.Exchanges.{Exchange}
+use Rattle.exchanges.specs.Exchanges.{Exchange}
 use Rattle.reminder_turns.specs.declared.results.Turned.{Turned}
 use Rattle.reminder_turns.specs.declared.results.Turned.TheVariants.{Refused}
 use Rattle.reminder_turns.specs.Callbacks.{remind_text, IsIdle, Follows, IsTurn}

@@ -12,8 +12,8 @@ use Rattle.sidecar_node.specs.declared.node.Seats.{Seats}
 use Rattle.sidecar_node.specs.Entries.{PartEntry}
 use Rattle.sidecar_node.specs.Turns.{Said, Begins, Ends}
 use Rattle.sidecar_node.specs.Nodes.{SpentAt}
-use Rattle.link_exchange.specs.Exchanges.{Exchange}
-use Rattle.link_exchange.specs.Replies.{Got, place_at, IsHttpExchange}
+use Rattle.exchanges.specs.Exchanges.{Exchange}
+use Rattle.exchanges.specs.Replies.{Got, place_at, IsHttpExchange}
 use Rattle.reminder_turns.specs.declared.results.Turned.{Turned}
 use Rattle.reminder_turns.specs.declared.results.Turned.TheVariants.{Called, Refused}
 

@@ -5,10 +5,11 @@ use Rattle.part_model.specs.declared.event.Reply.TheVariants as replies
 use Rattle.reminder_rows.specs.declared.row.DueKey.{DueKey}
 use Rattle.frame_wire.specs.declared.store_answer.DueEntry.{DueEntry}
 use Rattle.frame_wire.specs.declared.store_answer.StoreAnswer.TheVariants as answers
+use Rattle.frame_wire.specs.declared.store_refusal.StoreRefusal.TheVariants as refusals
 use Rattle.sidecar_node.specs.Entries.{PartEntry}
 use Rattle.sidecar_node.specs.Turns.{Said}
-use Rattle.store_exchange.specs.declared.end.StoreEnd.TheVariants as stores
-use Rattle.store_exchange.specs.Asked.{Got}
+use Rattle.exchanges.specs.declared.store_end.StoreEnd.TheVariants as stores
+use Rattle.exchanges.specs.Asked.{Got}
 use Rattle.reminder_turns.specs.declared.ends.TickEnd.{TickEnd}
 use Rattle.reminder_turns.specs.declared.ends.TickEnd.TheVariants as ends
 use Rattle.reminder_turns.specs.declared.results.Turned.{Turned}
@@ -31,12 +32,14 @@ IsListing place [] = ⊥
 IsListing place (p ∷ []) = (p.place ≡ place) × (page_of p.got ≡ Ok []) × (p.runs ≡ [])
 IsListing place (p ∷ q ∷ ps) = (p.place ≡ place) × (page_of p.got ≡ Ok (map entry_in p.runs)) × IsListing (last_key (map entry_in p.runs)) (q ∷ ps)
 
--- the store answered the report by the reminder's next moment
+-- the store answered the report by the reminder's next moment, or that this registration is gone
 abbrev pub IsTold : Option Reported → Type 0
 IsTold (Some (Told (Ok (answers.NextIs next)))) = Unit {0}
+IsTold (Some (Told (Ok answers.NotThere))) = Unit {0}
+IsTold (Some (Told (Ok (answers.Refused (refusals.OtherMoment next))))) = Unit {0}
 IsTold reported = ⊥
 
--- no report is owed, or it was made and the store took it
+-- no report is owed, or it was made and is over
 abbrev pub IsSettled : Run → Type 0
 IsSettled r = (is_owed r.turned ≡ false) ⊎ IsTold r.reported
 

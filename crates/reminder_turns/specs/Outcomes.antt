@@ -8,10 +8,11 @@ use Rattle.part_model.specs.declared.event.Reply.TheVariants as replies
 use Rattle.reminder_rows.specs.declared.row.DueKey.{DueKey}
 use Rattle.frame_wire.specs.declared.store_answer.DueEntry.{DueEntry}
 use Rattle.frame_wire.specs.declared.store_answer.StoreAnswer.TheVariants as answers
+use Rattle.frame_wire.specs.declared.store_refusal.StoreRefusal.TheVariants as refusals
 use Rattle.sidecar_node.specs.Turns.{Said}
-use Rattle.store_exchange.specs.declared.end.StoreEnd.{StoreEnd}
-use Rattle.store_exchange.specs.declared.end.StoreEnd.TheVariants as stores
-use Rattle.store_exchange.specs.Asked.{Got}
+use Rattle.exchanges.specs.declared.store_end.StoreEnd.{StoreEnd}
+use Rattle.exchanges.specs.declared.store_end.StoreEnd.TheVariants as stores
+use Rattle.exchanges.specs.Asked.{Got}
 use Rattle.reminder_turns.specs.declared.ends.TickEnd.{TickEnd}
 use Rattle.reminder_turns.specs.declared.ends.TickEnd.TheVariants as ends
 use Rattle.reminder_turns.specs.declared.results.Turned.{Turned}
@@ -90,9 +91,12 @@ store_end stores.Fault = ends.StoreFault
 store_end stores.Unreadable = ends.StoreReply
 store_end stores.OutOfMemory = ends.OutOfMemory
 
--- what ends after a Fired: any answer but the next moment is a refusal, that there is no such reminder too
+-- What ends after a Fired. That there is no such reminder any more, or that it has another moment, says that the callback
+-- removed it or registered it anew: the report is over, and the turn goes on. Any other refusal ends the whole call.
 abbrev pub told_end : Got → Option TickEnd
 told_end (Ok (answers.NextIs next)) = None
+told_end (Ok answers.NotThere) = None
+told_end (Ok (answers.Refused (refusals.OtherMoment next))) = None
 told_end (Ok answer) = Some (ends.StoreRefused answer)
 told_end (Err end) = Some (store_end end)
 

@@ -9,9 +9,9 @@ use Rattle.sidecar_node.specs.declared.node.SidecarNode.{SidecarNode}
 use Rattle.sidecar_node.specs.declared.node.Seats.{Seats}
 use Rattle.sidecar_node.specs.Entries.{NodeEntry}
 use Rattle.sidecar_node.specs.Nodes.{Acts}
-use Rattle.link_exchange.specs.Exchanges.{Exchange, Dialling}
-use Rattle.link_exchange.specs.Replies.{place_at}
-use Rattle.store_exchange.specs.Asked.{Got, IsStoreExchange}
+use Rattle.exchanges.specs.Exchanges.{Exchange, Dialling}
+use Rattle.exchanges.specs.Replies.{place_at}
+use Rattle.exchanges.specs.Asked.{Got, IsStoreExchange}
 use Rattle.reminder_turns.specs.declared.ends.TickEnd.{TickEnd}
 use Rattle.reminder_turns.specs.declared.ends.TickEnd.TheVariants as ends
 use Rattle.reminder_turns.specs.declared.standing.Stand.{Stand}

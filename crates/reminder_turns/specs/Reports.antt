@@ -13,9 +13,9 @@ use Rattle.sidecar_node.specs.declared.node.Seats.{Seats}
 use Rattle.sidecar_node.specs.Entries.{PartEntry, one_entry}
 use Rattle.sidecar_node.specs.Turns.{Said}
 use Rattle.sidecar_node.specs.Nodes.{host_of, part_at, SpentAt}
-use Rattle.link_exchange.specs.Exchanges.{Exchange}
-use Rattle.link_exchange.specs.Replies.{place_at}
-use Rattle.store_exchange.specs.Asked.{Got, IsStoreExchange}
+use Rattle.exchanges.specs.Exchanges.{Exchange}
+use Rattle.exchanges.specs.Replies.{place_at}
+use Rattle.exchanges.specs.Asked.{Got, IsStoreExchange}
 use Rattle.reminder_turns.specs.declared.results.Turned.{Turned}
 use Rattle.reminder_turns.specs.declared.results.Reported.{Reported}
 use Rattle.reminder_turns.specs.declared.results.Reported.TheVariants.{Told, Undrawn}

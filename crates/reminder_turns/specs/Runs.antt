@@ -7,7 +7,7 @@ use Rattle.sidecar_node.specs.declared.node.SidecarNode.{SidecarNode}
 use Rattle.sidecar_node.specs.declared.node.Seats.{Seats}
 use Rattle.sidecar_node.specs.Entries.{NodeEntry, PartEntry, at_part}
 use Rattle.sidecar_node.specs.Nodes.{part_at, Acts}
-use Rattle.link_exchange.specs.Exchanges.{Exchange, Dialling}
+use Rattle.exchanges.specs.Exchanges.{Exchange, Dialling}
 use Rattle.reminder_turns.specs.declared.ends.TickEnd.{TickEnd}
 use Rattle.reminder_turns.specs.declared.results.Turned.{Turned}
 use Rattle.reminder_turns.specs.declared.results.Reported.{Reported}

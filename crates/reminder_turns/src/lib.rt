@@ -3,7 +3,7 @@
 //
 // Promise: each reminder of each page has its Ask; a turn that began has one exchange with the application's callback and
 // then its End; one that reached the application is reported by one Draw and one Fired; nothing else is done at any gate,
-// and nothing else is dialled (`specs/Pages`). Depends on `store_exchange`, `link_exchange`, `sidecar_node`, `app_texts`,
+// and nothing else is dialled (`specs/Pages`). Depends on `exchanges`, `sidecar_node`, `app_texts`,
 // `frame_wire` and on what these stand on.
 #![tactic(auto)]
 

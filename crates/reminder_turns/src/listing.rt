@@ -6,9 +6,9 @@ use crate::ends::TickEnd;
 use crate::outcomes::undrawn_end;
 use crate::results::Reported;
 use crate::standing::or_end;
-use frame_wire::{DueEntries, DueEntry, StoreAnswer};
+use exchanges::StoreEnd;
+use frame_wire::{DueEntries, DueEntry, StoreAnswer, StoreRefusal};
 use reminder_rows::DueKey;
-use store_exchange::StoreEnd;
 
 // The end of the call that an exchange without an answer brings.
 fn store_end(end: StoreEnd) -> TickEnd
@@ -21,12 +21,18 @@ fn store_end(end: StoreEnd) -> TickEnd
     }
 }
 
-// What the answer to a Fired ends.
+// What the answer to a Fired ends: nothing if the reminder goes on, is gone, or was registered anew.
 fn told_end(got: Result<StoreAnswer, StoreEnd>) -> Option<TickEnd>
     ensures { result ≡ told_end got }
 {
     match got {
         Ok(StoreAnswer::NextIs { .. }) => None,
+        Ok(StoreAnswer::NotThere) => None,
+        Ok(
+            StoreAnswer::Refused {
+                refusal: StoreRefusal::OtherMoment { .. },
+            },
+        ) => None,
         Ok(answer) => Some(TickEnd::StoreRefused { answer }),
         Err(end) => Some(store_end(end)),
     }

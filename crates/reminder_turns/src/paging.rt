@@ -11,12 +11,12 @@ use crate::running::{Ran, run_page};
 use crate::standing::{Stand, stand_after};
 use actor_names::Address;
 use actor_ports::{Clock, Dial};
+use exchanges::ask_store;
 use frame_wire::{DueEntries, MOST_DUE, StoreCommand};
 use reminder_rows::DueKey;
 use sidecar_node::{Seats, SidecarNode};
 use std::alloc::Global;
 use std::sync::Wait;
-use store_exchange::ask_store;
 
 /// What a page came to.
 #[derive(Drop)]

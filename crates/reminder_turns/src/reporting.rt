@@ -3,14 +3,15 @@ ghost use Rattle.std.specs.Prelude.{◌≡◌, List, Ok};
 ghost use Rattle.part_model.specs.declared.event.PartEvent.TheVariants.{Draw};
 ghost use Rattle.sidecar_node.specs.Entries.{PartEntry, one_entry};
 ghost use Rattle.sidecar_node.specs.Nodes.{part_at, IsSeatsOf, ActsAt, SpentAt};
-ghost use Rattle.link_exchange.specs.Exchanges.{Exchange, Dialling};
-ghost use Rattle.link_exchange.specs.Replies.{place_at};
-ghost use Rattle.store_exchange.specs.Asked.{IsStoreExchange};
+ghost use Rattle.exchanges.specs.Exchanges.{Exchange, Dialling};
+ghost use Rattle.exchanges.specs.Replies.{place_at};
+ghost use Rattle.exchanges.specs.Asked.{IsStoreExchange};
 ghost use Rattle.reminder_turns.specs.Reports.{stamp_of, fired_command, AfterDraw, IsReport, ReportedFull};
 
 use crate::results::Reported;
 use actor_names::{ActorKey, Address};
 use actor_ports::Dial;
+use exchanges::{StoreEnd, ask_store};
 use frame_wire::{Stamp, StoreAnswer, StoreCommand};
 use part_core::PartReply;
 use part_model::PartEvent;
@@ -19,7 +20,6 @@ use sidecar_node::{Seats, SidecarNode};
 use std::alloc::Global;
 use std::sync::Wait;
 use step_gate::Spent;
-use store_exchange::{StoreEnd, ask_store};
 
 // The stamp of a number that the actor's part drew.
 fn stamp_of(node: &SidecarNode, actor: &ActorKey, n: u64) -> Stamp

@@ -1,9 +1,9 @@
 // What a turn and its report came to.
+use exchanges::StoreEnd;
 use frame_wire::StoreAnswer;
 use http_edge::{EdgeError, HttpResponse};
 use part_core::PartReply;
 use step_gate::Spent;
-use store_exchange::StoreEnd;
 
 /// What a turn with a callback came to.
 #[derive(Drop)]

@@ -9,7 +9,7 @@ use crate::running::either;
 use crate::standing::{Stand, done_end};
 use actor_names::Address;
 use actor_ports::{Clock, Dial};
-use link_exchange::Links;
+use exchanges::Links;
 use sidecar_node::{Seats, SidecarNode};
 use std::alloc::Global;
 use std::sync::Wait;

@@ -2,7 +2,7 @@
 use place_table::AckStage;
 
 /// Whether a round is running, and in which stage; its version is the last one used.
-#[derive(Clone, Copy, Debug, PartialEq, Eq)]
+#[derive(Clone, Copy, PartialEq, Eq)]
 pub enum RoundPhase {
     /// No round is running.
     Quiet,

@@ -5,7 +5,7 @@ ghost use Rattle.actor_ports.specs.Memory.{AreFaultless};
 use crate::node::address;
 use actor_ports::{MemConn, MemDial};
 use case_texts::{add, add_escaped, cut, escaped_bytes};
-use link_exchange::Links;
+use exchanges::Links;
 use std::alloc::Global;
 
 // A connection whose other end sends these bytes, and whose call of this number is to fail: none if it is 0.

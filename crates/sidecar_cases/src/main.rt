@@ -16,8 +16,8 @@
 //     NAME leave BYTES                       the same of a turn in which it leaves, and how the turn with the placement after it ends
 //
 // The sidecar is `n1`, of boot 1, with one part. Its application hosts `order`, with reentrancy. There are at most six links
-// to each. It has no contracts that another crate needs. Depends on sidecar_start, sidecar_sessions, placement_beats,
-// tick_turns, reminder_turns, sidecar_node, link_exchange, part_model, part_core, actors_api, frame_wire, actor_names, actor_ports and
+// to each. It has no contracts that another crate needs. Depends on sidecar_start, sidecar_requests, placement_beats,
+// clock_turns, reminder_turns, sidecar_node, exchanges, part_model, part_core, actors_api, frame_wire, actor_names, actor_ports and
 // case_texts.
 #![tactic(auto)]
 

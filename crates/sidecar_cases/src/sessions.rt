@@ -7,16 +7,16 @@ use crate::node::{clock, later_clock, open_node};
 use actor_ports::{MemClock, MemConn, MemDial};
 use actors_api::Side;
 use case_texts::{add, add_escaped, cut};
-use link_exchange::Links;
+use clock_turns::tick_turn;
+use exchanges::Links;
 use reminder_turns::reminder_turn;
 use sidecar_node::{Seats, SidecarNode};
-use sidecar_sessions::sidecar_session;
+use sidecar_requests::sidecar_session;
 use std::alloc::Global;
 use std::sync::Wait;
-use tick_turns::tick_turn;
 
 /// What follows the sessions of a case.
-#[derive(Clone, Copy, Debug, PartialEq, Eq)]
+#[derive(Clone, Copy, PartialEq, Eq)]
 pub(crate) enum Then {
     Nothing,
     /// A tick, and a turn with the reminders.

@@ -1,7 +1,7 @@
 -- What a run of a sidecar asks its host for, and how it ends. Own.
 use Rattle.std.specs.Prelude.{◌≡◌, ◌⊎◌, ℕ, Option, Some, None}
 use Rattle.actor_ports.specs.Traffic.{Place, Traffic}
-use Rattle.host_ports.specs.Hosts.{Asked, with_place}
+use Rattle.server_ports.specs.Hosts.{Asked, with_place}
 use Rattle.sidecar_server.specs.Causes.{IsCause}
 use Rattle.sidecar_server.specs.Stopped.{AllStopped}
 use Rattle.sidecar_start.specs.declared.end.StartEnd.{StartEnd}

@@ -1,6 +1,6 @@
 // The command.
 ghost use Rattle.std.specs.Prelude.{◌≡◌, ◌<◌, ◌≤◌, ◌⊎◌, IfOk};
-ghost use Rattle.host_ports.specs.Hosts.{place_of};
+ghost use Rattle.server_ports.specs.Hosts.{place_of};
 ghost use Rattle.sidecar_command.specs.Commands.{AsksPorts, IsEnd};
 
 use crate::callees::Callees;
@@ -9,7 +9,7 @@ use crate::serving::serve_started;
 use actor_names::{OutOfMemory, read_app_id, read_node, read_space};
 use actor_ports::{Clock, Dial};
 use command_words::SidecarWords;
-use host_ports::Host;
+use server_ports::Host;
 use sidecar_node::SidecarNode;
 use sidecar_start::{StartWords, Started, start};
 use std::alloc::Global;

@@ -5,12 +5,12 @@ ghost use Rattle.sidecar_start.specs.declared.end.StartEnd.{StartEnd};
 ghost use Rattle.sidecar_server.specs.declared.watch.StopCause.{StopCause};
 
 use actor_ports::PortError;
-use connection_server::ServerEnd;
+use server_ports::ServerEnd;
 use sidecar_server::{SidecarServed, StopCause};
 use sidecar_start::StartEnd;
 
 /// How the command ended.
-#[derive(Debug, Drop)]
+#[derive(Drop)]
 pub enum SidecarEnd {
     /// As many connections of callers were served as the words say.
     Done,

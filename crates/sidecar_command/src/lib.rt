@@ -2,8 +2,8 @@
 //
 // Promise: it asks its host for nothing but the addresses of its words, and gives back each port; it ends for a port only if
 // a count of faults rose, and says that it had to stop only for a sound cause (`specs/Commands`). What it prints is
-// `end_text` (`specs/Telling`). Depends on `sidecar_server`, `sidecar_start`, `sidecar_node`, `link_exchange`,
-// `host_ports`, `connection_server`, `command_words`, `round_core` and `actor_ports`.
+// `end_text` (`specs/Telling`). Depends on `sidecar_server`, `sidecar_start`, `sidecar_node`, `exchanges`,
+// `server_ports`, `command_words`, `round_core` and `actor_ports`.
 #![tactic(auto)]
 
 mod callees;

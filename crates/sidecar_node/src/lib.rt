@@ -19,6 +19,3 @@ pub use node::{Seats, SidecarNode};
 pub use rounds::RoundEvent;
 pub use stopping::stop_turn;
 pub use turns::{begin_turn, end_turn};
-
-#[cfg(test)]
-mod tests;

@@ -6,10 +6,9 @@ use crate::pass::Pass;
 use crate::service::SidecarService;
 use crate::watch::WatchEvent;
 use actor_ports::{Clock, Dial};
-use closing_turns::closing_turn;
+use clock_turns::{closing_turn, tick_turn};
 use reminder_turns::reminder_turn;
 use std::sync::Wait;
-use tick_turns::tick_turn;
 
 /// Looks whether the placement is still heard.
 pub(crate) fn look<R: Wait, N: Dial, K: Clock>(

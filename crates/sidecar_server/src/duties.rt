@@ -6,7 +6,7 @@ use crate::clocked::{close_idle, look, run_reminders, run_timers};
 use crate::pass::Pass;
 use crate::service::SidecarService;
 use actor_ports::{Clock, Dial};
-use connection_server::Duty;
+use server_ports::{Duty, SHORT_PAUSE_MS};
 use std::sync::Wait;
 
 // The works: the turns with the placement, the watch, the deactivation of idle actors, timers, and reminders as the last.
@@ -76,6 +76,11 @@ pub(crate) fn do_duty<R: Wait, N: Dial, K: Clock>(
         Duty::Rest(work) => {
             let mut pass = pass;
             pass.clock.pause(pause_of(work));
+            pass
+        }
+        Duty::Pause => {
+            let mut pass = pass;
+            pass.clock.pause(SHORT_PAUSE_MS);
             pass
         }
         Duty::Finish(work) => {

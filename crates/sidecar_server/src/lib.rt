@@ -3,8 +3,8 @@
 // Promise: each thread has seats of its own at the gates of the sidecar's parts; the server stops of its own accord only if
 // the placement wasn't heard for 5,000 milliseconds by its clocks, or has refused the sidecar in a turn (`specs/Causes`); at
 // the end every part is given StopPart (`specs/Stopped`); it ends for a fault of a port only if one of its ports has one.
-// Depends on `sidecar_sessions`, `placement_beats`, `closing_turns`, `tick_turns`, `reminder_turns`, `sidecar_node`,
-// `connection_server`, `step_gate`, `link_exchange` and `actor_ports`.
+// Depends on `sidecar_requests`, `placement_beats`, `clock_turns`, `reminder_turns`, `sidecar_node`,
+// `server_ports`, `step_gate`, `exchanges` and `actor_ports`.
 #![tactic(auto)]
 
 mod beats;

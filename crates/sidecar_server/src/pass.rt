@@ -1,7 +1,7 @@
 // What a thread of a sidecar has to itself.
 use crate::watch::Watch;
 use actor_ports::{Clock, Dial};
-use link_exchange::Links;
+use exchanges::Links;
 use placement_beats::PlacementBook;
 use sidecar_node::Seats;
 use step_gate::Seat;

@@ -1,6 +1,6 @@
 // The server.
 ghost use Rattle.std.specs.Prelude.{◌≡◌, ◌<◌, ◌≤◌, ◌⊎◌, List, IfOk, length};
-ghost use Rattle.connection_server.specs.declared.accept.ServerEnd.TheVariants.{PortFault};
+ghost use Rattle.server_ports.specs.declared.accept.ServerEnd.TheVariants.{PortFault};
 ghost use Rattle.frame_wire.specs.declared.frame.Frame.TheVariants as frames;
 ghost use Rattle.frame_wire.specs.Frames.{payload};
 ghost use Rattle.sidecar_node.specs.Turns.{Said};
@@ -18,9 +18,9 @@ use crate::watch::{StopCause, Watch};
 use actor_names::{Address, OutOfMemory};
 use actor_ports::{Clock, Conn, Dial, Listen};
 use actors_api::Side;
-use connection_server::{Duty, ServerEnd, serve_ports};
-use link_exchange::Links;
+use exchanges::Links;
 use placement_beats::PlacementBook;
+use server_ports::{Duty, ServerEnd, serve_ports};
 use sidecar_node::{Seats, SidecarNode, stop_turn};
 use std::alloc::Global;
 use std::sync::Wait;
@@ -29,7 +29,7 @@ use std::thread::Threads;
 use step_gate::Gate;
 
 /// Where a sidecar listens for its callers and for other sidecars, and where the placement listens.
-#[derive(Clone, Copy, Debug)]
+#[derive(Clone, Copy)]
 pub struct SidecarPlaces {
     pub callers: Address,
     pub peers: Address,

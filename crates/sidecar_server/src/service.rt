@@ -5,9 +5,9 @@ use crate::pass::Pass;
 use crate::watch::Watch;
 use actor_names::Address;
 use actor_ports::{Clock, Dial};
-use connection_server::Service;
-use link_exchange::Links;
+use exchanges::Links;
 use placement_beats::PlacementBook;
+use server_ports::{MOST_AT_ONCE, Service};
 use sidecar_node::SidecarNode;
 use std::alloc::Global;
 use std::sync::atomic::{AtomicBool, Ordering};
@@ -91,6 +91,10 @@ impl<N: Dial, K: Clock> Service<Pass<N, K>> for SidecarService<'_, N, K> {
 
     fn works(&self) -> u32 {
         WORKS
+    }
+
+    fn most_at_once(&self) -> u64 {
+        MOST_AT_ONCE
     }
 
     fn is_over(&self) -> bool {

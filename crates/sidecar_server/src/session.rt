@@ -5,7 +5,7 @@ use crate::pass::Pass;
 use crate::service::SidecarService;
 use actor_ports::{Clock, Conn, Dial};
 use actors_api::Side;
-use sidecar_sessions::sidecar_session;
+use sidecar_requests::sidecar_session;
 use std::sync::Wait;
 
 /// Serves a connection of this port until it ends.

@@ -9,7 +9,7 @@ use std::marker::{Model, PhantomData};
 use step_gate::{Machine, News};
 
 /// Why a sidecar has to stop.
-#[derive(Clone, Copy, Debug)]
+#[derive(Clone, Copy)]
 pub enum StopCause {
     /// When the placement was heard last, and a moment at least 5,000 milliseconds later at which this was seen.
     Silent { heard: u64, now: u64 },
@@ -18,7 +18,7 @@ pub enum StopCause {
 }
 
 /// What the watch is told.
-#[derive(Clone, Copy, Debug)]
+#[derive(Clone, Copy)]
 pub enum WatchEvent {
     /// The placement was heard at this moment, which a clock showed.
     Heard { at: u64 },

@@ -12,11 +12,11 @@ use Rattle.http_edge.specs.Settled.{Settles}
 use Rattle.frame_wire.specs.declared.frame.Frame.{Frame}
 use Rattle.frame_wire.specs.Frames.{frame_bytes}
 use Rattle.frame_wire.specs.Laws.{ReadsSpelling, NoPrefix}
-use Rattle.frame_exchange.specs.declared.end.FrameEnd.{FrameEnd}
-use Rattle.frame_exchange.specs.declared.end.FrameEnd.TheVariants.{NoFrame, ConnFault, OutOfMemory}
-use Rattle.frame_exchange.specs.Exchanges.{ExchangesFrame, EndCause}
-use Rattle.frame_exchange.proofs.NoFrames.{no_frame_alone, not_spelled}
-use Rattle.link_exchange.proofs.Replied.{gives_alone}
+use Rattle.exchanges.specs.declared.frame_end.FrameEnd.{FrameEnd}
+use Rattle.exchanges.specs.declared.frame_end.FrameEnd.TheVariants.{NoFrame, ConnFault, OutOfMemory}
+use Rattle.exchanges.specs.FrameExchanges.{ExchangesFrame, EndCause}
+use Rattle.exchanges.proofs.NoFrames.{no_frame_alone, not_spelled}
+use Rattle.exchanges.proofs.Replied.{gives_alone}
 use Rattle.app_texts.specs.declared.config.AppConfig.{AppConfig}
 use Rattle.app_texts.specs.Texts.{config_text}
 use Rattle.sidecar_start.specs.declared.end.StartEnd.{StartEnd}

@@ -4,7 +4,7 @@ use Rattle.app_texts.specs.declared.config_error.ConfigError.TheVariants as erro
 use Rattle.frame_wire.specs.declared.frame.Frame.TheVariants.{Answer, Idle}
 use Rattle.frame_wire.specs.declared.store_answer.StoreAnswer.TheVariants.{Booted, Done, Refused}
 use Rattle.frame_wire.specs.declared.store_refusal.StoreRefusal.TheVariants.{NodesFull, Spent}
-use Rattle.frame_exchange.specs.declared.end.FrameEnd.TheVariants.{NoFrame, ConnFault}
+use Rattle.exchanges.specs.declared.frame_end.FrameEnd.TheVariants.{NoFrame, ConnFault}
 use Rattle.sidecar_start.specs.declared.end.StartEnd.TheVariants.{StoreRefused, AppConfig, DialFault}
 use Rattle.sidecar_start.specs.Booting.{boot_in}
 use Rattle.sidecar_start.specs.Ends.{end_line}

@@ -17,13 +17,13 @@ use Rattle.frame_wire.specs.declared.frame.Frame.{Frame}
 use Rattle.frame_wire.specs.declared.frame.Frame.TheVariants.{Answer}
 use Rattle.frame_wire.specs.declared.store_answer.StoreAnswer.TheVariants.{Booted, Refused}
 use Rattle.frame_wire.specs.Frames.{payload, frame_bytes, IsFrame}
-use Rattle.frame_exchange.specs.declared.end.FrameEnd.{FrameEnd}
-use Rattle.frame_exchange.specs.declared.end.FrameEnd.TheVariants.{NoFrame, ConnFault}
-use Rattle.frame_exchange.specs.declared.end.FrameEnd.TheVariants as frame_ends
-use Rattle.frame_exchange.specs.Exchanges.{ExchangesFrame}
-use Rattle.link_exchange.specs.Exchanges.{Exchange, Dialling, total_rise}
-use Rattle.link_exchange.specs.Replies.{place_at}
-use Rattle.link_exchange.proofs.Diallings.{dialling_then}
+use Rattle.exchanges.specs.declared.frame_end.FrameEnd.{FrameEnd}
+use Rattle.exchanges.specs.declared.frame_end.FrameEnd.TheVariants.{NoFrame, ConnFault}
+use Rattle.exchanges.specs.declared.frame_end.FrameEnd.TheVariants as frame_ends
+use Rattle.exchanges.specs.FrameExchanges.{ExchangesFrame}
+use Rattle.exchanges.specs.Exchanges.{Exchange, Dialling, total_rise}
+use Rattle.exchanges.specs.Replies.{place_at}
+use Rattle.exchanges.proofs.Diallings.{dialling_then}
 use Rattle.app_texts.specs.declared.config.AppConfig.{AppConfig}
 use Rattle.app_texts.specs.declared.config_error.ConfigError.{ConfigError}
 use Rattle.app_texts.specs.declared.config_error.ConfigError.TheVariants as errors

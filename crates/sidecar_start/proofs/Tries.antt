@@ -3,8 +3,8 @@ use Rattle.std.proofs.Common.{refl, ◌≡◌, ◌<◌, ◌≤◌, ◌-◌, ℕ,
 use Rattle.actor_ports.specs.declared.port.PortError.TheVariants as ports
 use Rattle.actor_ports.specs.Traffic.{Place, Traffic, Dialled, Dials, TakesBack, Counts}
 use Rattle.http_edge.specs.Carry.{Carried, Over}
-use Rattle.link_exchange.specs.Exchanges.{Exchange, Dialling}
-use Rattle.link_exchange.proofs.Diallings.{none_made, none_dialled, failed_told, link_told, dialling_then}
+use Rattle.exchanges.specs.Exchanges.{Exchange, Dialling}
+use Rattle.exchanges.proofs.Diallings.{none_made, none_dialled, failed_told, link_told, dialling_then}
 use Rattle.sidecar_start.specs.declared.end.StartEnd.{StartEnd}
 use Rattle.sidecar_start.specs.declared.end.StartEnd.TheVariants.{DialFault, OutOfMemory}
 use Rattle.sidecar_start.specs.Tries.{IsTry, AreVain, tried, IsRun}

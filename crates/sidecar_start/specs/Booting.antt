@@ -7,9 +7,9 @@ use Rattle.frame_wire.specs.declared.store_command.StoreCommand.TheVariants.{Boo
 use Rattle.frame_wire.specs.declared.store_answer.StoreAnswer.TheVariants.{Booted, Refused}
 use Rattle.frame_wire.specs.Frames.{frame_bytes, IsFrame}
 use Rattle.frame_wire.specs.StoreParts.{store_refusal_tag}
-use Rattle.frame_exchange.specs.declared.end.FrameEnd.{FrameEnd}
-use Rattle.frame_exchange.specs.declared.end.FrameEnd.TheVariants.{NoFrame, ConnFault, OutOfMemory}
-use Rattle.frame_exchange.specs.Exchanges.{ExchangesFrame}
+use Rattle.exchanges.specs.declared.frame_end.FrameEnd.{FrameEnd}
+use Rattle.exchanges.specs.declared.frame_end.FrameEnd.TheVariants.{NoFrame, ConnFault, OutOfMemory}
+use Rattle.exchanges.specs.FrameExchanges.{ExchangesFrame}
 use Rattle.sidecar_start.specs.declared.end.StartEnd.{StartEnd}
 use Rattle.sidecar_start.specs.declared.end.StartEnd.TheVariants as ends
 use Rattle.sidecar_start.specs.declared.words.StartWords.{StartWords}

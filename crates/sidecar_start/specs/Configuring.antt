@@ -5,7 +5,7 @@ use Rattle.http_edge.specs.declared.error.EdgeError.{EdgeError}
 use Rattle.http_edge.specs.declared.error.EdgeError.TheVariants as edges
 use Rattle.http_edge.specs.declared.message.HttpResponse.{HttpResponse}
 use Rattle.http_edge.specs.Carry.{Carried}
-use Rattle.link_exchange.specs.Replies.{HttpCarries}
+use Rattle.exchanges.specs.Replies.{HttpCarries}
 use Rattle.app_texts.specs.declared.config.AppConfig.{AppConfig}
 use Rattle.app_texts.specs.declared.config_error.ConfigError.{ConfigError}
 use Rattle.app_texts.specs.declared.config_error.ConfigError.TheVariants as errors

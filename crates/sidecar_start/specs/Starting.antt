@@ -3,8 +3,8 @@ use Rattle.std.specs.Prelude.{◌≡◌, ◌⊎◌, ℕ, List, [], ◌++◌, map
 use Rattle.place_table.specs.declared.host.HostInfo.{HostInfo}
 use Rattle.part_model.specs.declared.settings.TypeSettings.{TypeSettings}
 use Rattle.app_texts.specs.declared.config.AppConfig.{AppConfig}
-use Rattle.link_exchange.specs.Exchanges.{Exchange}
-use Rattle.link_exchange.specs.Replies.{place_at}
+use Rattle.exchanges.specs.Exchanges.{Exchange}
+use Rattle.exchanges.specs.Replies.{place_at}
 use Rattle.sidecar_start.specs.declared.end.StartEnd.{StartEnd}
 use Rattle.sidecar_start.specs.declared.end.StartEnd.TheVariants.{OutOfMemory}
 use Rattle.sidecar_start.specs.declared.hosting.Started.{Started}

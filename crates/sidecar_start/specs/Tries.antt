@@ -2,7 +2,7 @@
 use Rattle.std.specs.Prelude.{◌≡◌, ◌<◌, ℕ, List, [], ◌∷◌, ◌++◌, Option, Some, None, Result, Ok, Err}
 use Rattle.actor_ports.specs.Traffic.{Place}
 use Rattle.http_edge.specs.Carry.{Carried}
-use Rattle.link_exchange.specs.Exchanges.{Exchange}
+use Rattle.exchanges.specs.Exchanges.{Exchange}
 use Rattle.sidecar_start.specs.declared.end.StartEnd.{StartEnd}
 use Rattle.sidecar_start.specs.declared.end.StartEnd.TheVariants.{DialFault, OutOfMemory}
 

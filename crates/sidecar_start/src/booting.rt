@@ -1,8 +1,8 @@
 // The boot that the store draws.
 ghost use Rattle.std.specs.Prelude.{◌≡◌, ◌≤◌, List, IfOk, Ok};
 ghost use Rattle.frame_wire.specs.Frames.{frame_bytes, payload};
-ghost use Rattle.link_exchange.specs.Exchanges.{Exchange, Dialling};
-ghost use Rattle.link_exchange.specs.Replies.{place_at};
+ghost use Rattle.exchanges.specs.Exchanges.{Exchange, Dialling};
+ghost use Rattle.exchanges.specs.Replies.{place_at};
 ghost use Rattle.sidecar_start.specs.Tries.{IsTry, IsRun};
 ghost use Rattle.sidecar_start.specs.Booting.{boot_frame, boot_in, BootCarries};
 
@@ -10,7 +10,7 @@ use crate::end::StartEnd;
 use crate::fits::fits_place;
 use crate::words::StartWords;
 use actor_ports::{Clock, Dial, PortError};
-use frame_exchange::{FrameEnd, exchange_frame};
+use exchanges::{FrameEnd, exchange_frame};
 use frame_wire::{Frame, StoreAnswer, StoreCommand, frame_law, write_frame};
 use lists_and_limits::OutOfMemory;
 use std::alloc::Global;

@@ -3,8 +3,8 @@ ghost use Rattle.std.specs.Prelude.{◌≡◌, ◌≤◌, List, IfOk, IfSome};
 ghost use Rattle.part_model.specs.Settings.{AreShallow};
 ghost use Rattle.http_edge.specs.Texts.{request_text};
 ghost use Rattle.app_texts.specs.Texts.{config_text};
-ghost use Rattle.link_exchange.specs.Exchanges.{Exchange, Dialling};
-ghost use Rattle.link_exchange.specs.Replies.{place_at};
+ghost use Rattle.exchanges.specs.Exchanges.{Exchange, Dialling};
+ghost use Rattle.exchanges.specs.Replies.{place_at};
 ghost use Rattle.sidecar_start.specs.Tries.{IsTry, IsRun};
 ghost use Rattle.sidecar_start.specs.Configuring.{SaysConfig, ReplyComes, ConfigComes, ConfigCarries, config_end};
 

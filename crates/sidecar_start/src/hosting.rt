@@ -16,7 +16,7 @@ use place_table::{ActorTypes, HostInfo};
 use std::alloc::Global;
 
 /// What a sidecar is once it has started: its host, and the settings of the types that its application hosts.
-#[derive(Debug, Drop)]
+#[derive(Drop)]
 pub struct Started {
     /// Its member, its application, the address of its peer port, and the types in the order of `kinds`.
     pub host: HostInfo,

@@ -2,7 +2,7 @@
 //
 // Promise: `start` makes exchanges with the store until one ends, and then with the application until one ends, and no
 // others; its answer follows from what the last ones read (`specs/Starting`). The host that it answers fits a Register
-// frame, and its depths are those that parts need. Depends on `frame_exchange`, `link_exchange`, `app_texts`,
+// frame, and its depths are those that parts need. Depends on `exchanges`, `app_texts`,
 // `frame_wire`, `wire_fields`, `http_edge`, `part_model`, `place_table`, `actor_names` and `actor_ports`.
 #![tactic(auto)]
 

@@ -2,7 +2,7 @@
 use actor_names::{Address, AppId, Node, Space};
 
 /// What a sidecar is told of itself and of what it calls, by the words of its command.
-#[derive(Debug, Drop)]
+#[derive(Drop)]
 pub struct StartWords {
     /// The space of its node.
     pub space: Space,

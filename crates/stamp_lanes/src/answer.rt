@@ -20,7 +20,7 @@ pub struct KeptNumber {
 }
 
 /// How a stamp stands in its lane, if it isn't refused.
-#[derive(Clone, Copy, Debug, PartialEq, Eq)]
+#[derive(Clone, Copy, PartialEq, Eq)]
 pub enum StampLook {
     /// It wasn't accepted yet, and may be.
     Fresh,

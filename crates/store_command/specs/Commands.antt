@@ -1,7 +1,7 @@
 -- What a run of the store asks its host for. Own.
 use Rattle.std.specs.Prelude.{◌≡◌, ◌⊎◌, ℕ, List, ◌++◌, codes, Option, Some, None}
 use Rattle.actor_ports.specs.Traffic.{Place}
-use Rattle.host_ports.specs.Hosts.{Asked, with_path, with_place}
+use Rattle.server_ports.specs.Hosts.{Asked, with_path, with_place}
 
 -- the path of the second file
 abbrev pub second_path : List ℕ → List ℕ

@@ -1,7 +1,7 @@
 // The two disks of a store, as they are given back.
 ghost use Rattle.std.specs.Prelude.{◌≡◌, ◌<◌, ◌≤◌, ◌+◌, IsTrue};
 
-use host_ports::Host;
+use server_ports::Host;
 use store_core::Store;
 
 /// Gives back two disks, and answers whether one has failed.

@@ -1,6 +1,6 @@
 // The command.
 ghost use Rattle.std.specs.Prelude.{◌≡◌, ◌≢◌, ◌<◌, ◌≤◌, ◌+◌, IfOk, string_bytes};
-ghost use Rattle.host_ports.specs.Hosts.{place_of};
+ghost use Rattle.server_ports.specs.Hosts.{place_of};
 ghost use Rattle.store_command.specs.Commands.{second_path, AsksOnly, AsksPort, AsksSecond};
 
 use crate::back::give_both;
@@ -8,7 +8,7 @@ use crate::ends::end_of;
 use crate::serving::serve_opened;
 use actor_ports::{Clock, Dial, PortError};
 use command_words::ServerWords;
-use host_ports::Host;
+use server_ports::Host;
 use std::alloc::{AllocError, Global};
 use std::sync::Wait;
 use std::thread::Threads;

@@ -2,7 +2,7 @@
 //
 // Promise: it asks its host for nothing but its own two paths and its address, gives back what it was given, and ends for
 // a fault of a disk or a port only if the host's count of such faults rose (`specs/Commands`). Depends on `store_server`,
-// `store_core`, `host_ports` and `command_words`.
+// `store_core`, `server_ports` and `command_words`.
 #![tactic(auto)]
 
 mod back;

@@ -1,14 +1,13 @@
 // An open store: its port, and the server.
 ghost use Rattle.std.specs.Prelude.{◌≡◌, ◌≢◌, ◌<◌, ◌≤◌, ◌+◌};
-ghost use Rattle.host_ports.specs.Hosts.{place_of};
+ghost use Rattle.server_ports.specs.Hosts.{place_of};
 ghost use Rattle.store_command.specs.Commands.{AsksPort};
 
 use crate::back::give_back;
 use crate::command::StoreEnd;
 use actor_ports::{Clock, Dial, PortError};
 use command_words::ServerWords;
-use connection_server::ServerEnd;
-use host_ports::Host;
+use server_ports::{Host, ServerEnd};
 use std::alloc::Global;
 use std::sync::Wait;
 use std::thread::Threads;

@@ -14,7 +14,7 @@ use tx_journal::JournalError;
 pub(crate) const USUAL_LEAST: u64 = 67_108_864;
 
 /// What came of a compaction, to the loop that asks for them.
-#[derive(Clone, Copy, Debug, PartialEq, Eq)]
+#[derive(Clone, Copy, PartialEq, Eq)]
 pub(crate) enum Compaction {
     /// The file was written anew.
     Made,

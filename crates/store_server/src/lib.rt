@@ -1,15 +1,21 @@
-// The store as a server: its sessions in threads, and a compaction where the file has grown.
+// The store as a server: its sessions, each in a thread, and a compaction where the file has grown.
 //
-// Promise: what all threads did is one legal history of the store's steps, from the store that was given to the one that
-// is handed back; the server ends for a fault of its port only if the port has one. Depends on `store_serve`,
-// `connection_server`, `store_core`, `step_gate` and `actor_ports`.
+// Promise: each frame that is sent to the store is one step of it at a gate, and what is written are the spellings of the
+// answers, in order (`specs/Commands`); the answer to each command may be sent (`specs/Laws`). What all threads did is one
+// legal history of the store's steps, from the store that was given to the one that is handed back; the server ends for a
+// fault of its port only if the port has one. Depends on `frame_session`, `server_ports`, `store_core`, `step_gate`,
+// `frame_wire` and `actor_ports`.
 #![tactic(auto)]
 
 mod compacting;
 mod crossing;
+mod frames;
+mod law;
 mod pass;
 mod server;
 mod service;
 mod session;
 
+pub use frames::{StoreFrames, store_session};
+pub use law::store_serve_law;
 pub use server::{StoreServed, serve_store};

@@ -1,6 +1,6 @@
 // The server.
 ghost use Rattle.std.specs.Prelude.{◌≡◌, ◌<◌, ◌≤◌, List, IfOk};
-ghost use Rattle.connection_server.specs.declared.accept.ServerEnd.TheVariants.{PortFault};
+ghost use Rattle.server_ports.specs.declared.accept.ServerEnd.TheVariants.{PortFault};
 ghost use Rattle.step_gate.specs.declared.view.HistoryEntry.{HistoryEntry};
 ghost use Rattle.step_gate.specs.Gates.{IsSeatOf};
 ghost use Rattle.step_gate.specs.History.{HistoryLeadsTo};
@@ -15,8 +15,8 @@ use crate::service::{StoreService, do_duty};
 use crate::session::serve_one;
 use actor_names::{Address, OutOfMemory};
 use actor_ports::{Clock, Conn, Dial, Listen};
-use connection_server::{Duty, ServerEnd, serve_port};
 use disk_model::Disk;
+use server_ports::{Duty, ServerEnd, serve_port};
 use std::alloc::Global;
 use std::sync::Wait;
 use std::sync::atomic::AtomicBool;

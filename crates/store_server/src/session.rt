@@ -2,6 +2,7 @@
 ghost use Rattle.step_gate.specs.Gates.{IsSeatOf};
 ghost use Rattle.store_core.specs.Events.{Allows};
 
+use crate::frames::store_session;
 use crate::pass::Pass;
 use crate::service::StoreService;
 use actor_ports::{Clock, Conn, Dial, SessionEnd};
@@ -9,7 +10,6 @@ use disk_model::Disk;
 use std::alloc::Global;
 use std::sync::Wait;
 use std::sync::atomic::Ordering;
-use store_serve::store_session;
 
 /// Serves a connection until it ends. The server is over if the store has lost its disk; then the loop that waits for a
 /// connection is woken by one.

@@ -10,7 +10,7 @@ use schedule_text::{Moment, Next, Schedule};
 use std::alloc::Global;
 
 /// A registered timer, as a book keeps it.
-#[derive(Debug, Drop)]
+#[derive(Drop)]
 pub struct TimerEntry {
     /// The actor.
     pub key: ActorKey,
@@ -29,7 +29,7 @@ pub struct TimerEntry {
 }
 
 /// A timer that is due.
-#[derive(Debug, Drop)]
+#[derive(Drop)]
 pub struct DueTimer {
     /// The actor.
     pub key: ActorKey,

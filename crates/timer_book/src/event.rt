@@ -5,7 +5,7 @@ use actor_names::{ActorKey, RecordName};
 use schedule_text::{Moment, Next};
 
 /// What happens to a book: each event is the call with the same name.
-#[derive(Debug, Drop)]
+#[derive(Drop)]
 pub enum TimerEvent {
     /// A timer is registered.
     Set {
@@ -42,7 +42,7 @@ pub enum TimerEvent {
 }
 
 /// What a book answers.
-#[derive(Debug, Drop)]
+#[derive(Drop)]
 pub enum TimerReply {
     /// The number of the registration.
     WasSet { number: u64 },

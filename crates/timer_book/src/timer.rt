@@ -7,7 +7,7 @@ use schedule_text::Schedule;
 use std::alloc::Global;
 
 /// A timer: when it fires, and what its callback is given. The texts are kept as they were given, and may be empty.
-#[derive(Debug, Drop)]
+#[derive(Drop)]
 pub struct Timer {
     /// When it fires, as read from the texts.
     pub schedule: Schedule,

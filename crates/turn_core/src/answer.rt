@@ -2,7 +2,7 @@
 use thiserror::Error;
 
 /// What happened to a call that asked for a turn.
-#[derive(Clone, Copy, Debug, PartialEq, Eq)]
+#[derive(Clone, Copy, PartialEq, Eq)]
 pub enum Asked {
     /// Its turn is open.
     Begun,
@@ -25,7 +25,7 @@ pub enum CellError {
 }
 
 /// The outcome of ending a turn.
-#[derive(Clone, Copy, Debug, PartialEq, Eq)]
+#[derive(Clone, Copy, PartialEq, Eq)]
 pub enum CellEnd {
     /// It has ended. If `next` is a call, the turn of that call has begun.
     Ended { next: Option<u64> },
@@ -36,7 +36,7 @@ pub enum CellEnd {
 }
 
 /// The state of a call.
-#[derive(Clone, Copy, Debug, PartialEq, Eq)]
+#[derive(Clone, Copy, PartialEq, Eq)]
 pub enum CellPoll {
     /// Its turn is open.
     Begun,

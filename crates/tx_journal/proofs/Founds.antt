@@ -30,9 +30,13 @@ use Rattle.tx_journal.proofs.Chosen.{rest_generation}
 use Rattle.tx_journal.proofs.Lifts.{both_tell, holds_two}
 use Rattle.tx_journal.proofs.Rowed.{both_of}
 
+synced_done : {T : Type 0} (x : T) (d e : DiskState) → Syncs (Ok x) d e → Synced d e
+synced_done x d e syncs = ((stage_synced (IsSame d.bytes) d e x syncs refl).later, synced_bytes x d e syncs)
+
 pub synced_any : {T : Type 0} (r : Result T PortError) (d e : DiskState) → Syncs r d e → Synced d e
-synced_any (Ok x) d e syncs = ((stage_synced (IsSame d.bytes) d e x syncs refl).later, synced_bytes x d e syncs)
-synced_any (Err Failed) d e same = subst (Synced d) (sym same) (later_here (IsSame d.bytes) d, refl)
+synced_any (Ok x) d e syncs = synced_done x d e syncs
+synced_any (Err Failed) d e (inl same) = subst (Synced d) (sym same) (later_here (IsSame d.bytes) d, refl)
+synced_any (Err Failed) d e (inr syncs) = synced_done {T = Unit {0}} tt d e syncs
 synced_any (Err port_memory) d e same = subst (Synced d) (sym same) (later_here (IsSame d.bytes) d, refl)
 
 -- a step, with a claim about the state reported after it

@@ -130,7 +130,8 @@ since_front d e front later = record { start = λ file image. inl (leaves_unmade
 
 pub finish_1 : {T : Type 0} (r : Result T PortError) (d e : DiskState) → Syncs r d e → Finishes d e
 finish_1 (Ok x) d e sync front = since_front d e front (synced d front x e sync).later
-finish_1 (Err Failed) d e sync front = since_front d e front (subst (λ s. Later (IsMadeOrNot (opened d.bytes)) d s) (sym sync) (later_here (IsMadeOrNot (opened d.bytes)) d))
+finish_1 (Err Failed) d e (inl same) front = since_front d e front (subst (λ s. Later (IsMadeOrNot (opened d.bytes)) d s) (sym same) (later_here (IsMadeOrNot (opened d.bytes)) d))
+finish_1 (Err Failed) d e (inr sync) front = since_front d e front (synced d front {T = Unit {0}} tt e sync).later
 finish_1 (Err OutOfMemory) d e sync front = since_front d e front (subst (λ s. Later (IsMadeOrNot (opened d.bytes)) d s) (sym sync) (later_here (IsMadeOrNot (opened d.bytes)) d))
 
 pub finish_2 : {T U : Type 0} (x : T) (r : Result U PortError) (d f : DiskState) → Then (Syncs (Ok x)) (Writes 0 (1 ∷ []) r) d f → Finishes d f

@@ -1,5 +1,5 @@
 -- An opening, whichever way it went.
-use Rattle.std.proofs.Common.{◌≡◌, inl, ℕ, Bool, true, false, List, [], ◌∷◌, length, take, Option, Some, Result, Ok, Err, refl, sym, ◌∙◌, ap, subst}
+use Rattle.std.proofs.Common.{◌≡◌, inl, inr, ℕ, Bool, true, false, List, [], ◌∷◌, length, take, Option, Some, Result, Ok, Err, refl, sym, ◌∙◌, ap, subst}
 use Rattle.std.specs.Prelude.{IfOk, IfErr, not, ◌&&◌, is_err}
 use Rattle.actor_ports.specs.declared.port.PortError.{PortError}
 use Rattle.actor_ports.specs.declared.port.PortError.TheVariants.{Failed, OutOfMemory as port_memory}
@@ -109,7 +109,8 @@ refuses_on newest create (Full len) x d a syncs refuses = (refuses.0 ∙ ap leng
 
 pub sync_failed : {T : Type 0} (newest : Format) (create : Bool) (r : Result T PortError) (d e : DiskState) → is_err r ≡ true → Syncs r d e → KeepsFile newest create d e
 sync_failed newest create (Ok x) d e failed syncs = absurd cc
-sync_failed newest create (Err Failed) d e failed syncs = subst (KeepsFile newest create d) (sym syncs) (keeps_nothing newest create d)
+sync_failed newest create (Err Failed) d e failed (inl same) = subst (KeepsFile newest create d) (sym same) (keeps_nothing newest create d)
+sync_failed newest create (Err Failed) d e failed (inr syncs) = synced_keeps {T = Unit {0}} newest create d e tt syncs
 sync_failed newest create (Err port_memory) d e failed syncs = subst (KeepsFile newest create d) (sym syncs) (keeps_nothing newest create d)
 
 -- a sync that is done

@@ -10,7 +10,7 @@ use disk_model::Disk;
 use std::alloc::Global;
 
 // What the first eight bytes of a file say.
-#[derive(Clone, Copy, Debug)]
+#[derive(Clone, Copy)]
 pub(crate) enum FileKind {
     Unmade,
     Other,

@@ -18,7 +18,7 @@ use disk_model::Disk;
 use std::alloc::Global;
 
 // What an opening of two files found.
-#[derive(Clone, Copy, Debug)]
+#[derive(Clone, Copy)]
 pub(crate) struct Found {
     pub(crate) is_second_live: bool,
     pub(crate) format: Format,

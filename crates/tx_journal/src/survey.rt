@@ -15,7 +15,7 @@ use disk_model::Disk;
 use std::alloc::Global;
 
 // What was seen of a file: its length, its kind, and its Generation.
-#[derive(Clone, Copy, Debug)]
+#[derive(Clone, Copy)]
 pub(crate) struct Seen {
     pub(crate) len: u64,
     pub(crate) kind: FileKind,

@@ -9,7 +9,7 @@ use std::alloc::{AllocError, AllocFailed};
 
 /// Why a field isn't read: there is no memory for its value, or the bytes aren't a field. `left` is the number of bytes
 /// from the first byte of the first field that fails to the end.
-#[derive(Clone, Copy, Debug)]
+#[derive(Clone, Copy)]
 pub enum Fault {
     Memory,
     Field { left: usize },

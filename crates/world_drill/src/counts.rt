@@ -1,7 +1,7 @@
 // What a drill counts.
 
 /// What a drill counts.
-#[derive(Clone, Copy, Debug, PartialEq, Eq)]
+#[derive(Clone, Copy, PartialEq, Eq)]
 pub struct DrillCounts {
     /// The steps.
     pub steps: u64,

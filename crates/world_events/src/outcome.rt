@@ -6,7 +6,7 @@ use round_core::PlaceReply;
 
 /// What comes of a call, of its end or poll, and of a hold, in both kinds of world. Calls are given by the script's
 /// numbers.
-#[derive(Clone, Copy, Debug, PartialEq, Eq)]
+#[derive(Clone, Copy, PartialEq, Eq)]
 pub enum TurnOutcome {
     /// The call's turn is open.
     Begun { call: u64 },
@@ -35,7 +35,7 @@ pub enum TurnOutcome {
 }
 
 /// What comes of an event of a cluster script. Messages are numbered from 1.
-#[derive(Debug, Drop)]
+#[derive(Drop)]
 pub enum Outcome {
     /// What comes of a call or a hold, if the part does it.
     Turn {

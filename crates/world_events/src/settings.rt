@@ -3,7 +3,7 @@ use part_model::TypeList;
 
 /// How a cluster is set up. A member has `parts` parts, from 1 to 16. A type that isn't in `kinds` has these two times
 /// and reentrancy off; of two entries for one type the last counts.
-#[derive(Debug, Drop)]
+#[derive(Drop)]
 pub struct WorldSettings {
     /// How many parts a member has.
     pub parts: u8,

@@ -5,7 +5,7 @@ use std::marker::Model;
 
 /// A version for each room of a placement, in byte order of space: that of the round that starts there, 0 if none
 /// starts.
-#[derive(Debug, Drop)]
+#[derive(Drop)]
 pub struct Versions {
     items: Vec<u64>,
 }

@@ -1,28 +1,33 @@
 // A listener over TCP.
-ghost use Rattle.std.specs.Prelude.{◌≡◌, ◌<◌, IfOk};
+ghost use Rattle.std.specs.Prelude.{◌≡◌, ◌<◌, IfOk, IfSome};
 ghost use Rattle.actor_ports.specs.Port.{HasCause, faults_after};
 
 use super::stream::StreamConn;
 use super::timed::set_wait;
 use crate::port::{Listen, PortError};
 use std::alloc::Global;
-use std::io::ErrorKind;
 use std::marker::Model;
 use std::net::{OpenListener, TcpStream};
+use std::time::{Clock, Duration};
+use std::{io, thread};
+
+// How long it waits before it accepts again where the system had no room for a connection, in milliseconds.
+const PAUSE_MS: u64 = 50;
 
 /// A listener over TCP.
 ///
 /// In `main(rt: HostRuntime)`, for connections that fail after a minute without a byte:
-/// `let listener = TcpListen::new(rt.alloc(), TcpListener::bind(&rt, "127.0.0.1:7400")?, Some(60_000));`
+/// `let listener = TcpListen::new(rt.alloc(), rt, TcpListener::bind(&rt, "127.0.0.1:7400")?, Some(60_000));`
 #[derive(Drop)]
-pub struct TcpListen<L: OpenListener<Stream = TcpStream> + Drop + Send> {
+pub struct TcpListen<L: OpenListener<Stream = TcpStream> + Drop + Send, C: Clock + Copy> {
     alloc: Global,
+    clock: C,
     listener: L,
     wait_ms: Option<u64>,
     faults: u64,
 }
 
-impl<L: OpenListener<Stream = TcpStream> + Drop + Send> Model for TcpListen<L> {
+impl<L: OpenListener<Stream = TcpStream> + Drop + Send, C: Clock + Copy> Model for TcpListen<L, C> {
     ghost use Rattle.actor_ports.specs.Real.{Counted};
 
     ghost Value = { Counted L };
@@ -30,14 +35,15 @@ impl<L: OpenListener<Stream = TcpStream> + Drop + Send> Model for TcpListen<L> {
     ghost view = { λ s. record { inner = s.listener; faults = s.faults } };
 }
 
-impl<L: OpenListener<Stream = TcpStream> + Drop + Send> TcpListen<L> {
+impl<L: OpenListener<Stream = TcpStream> + Drop + Send, C: Clock + Copy> TcpListen<L, C> {
     /// A listener whose connections fail after `wait_ms` milliseconds in which no byte comes or goes. `None` waits for
-    /// as long as the system does, and 0 counts as 1.
-    pub fn new(alloc: Global, listener: L, wait_ms: Option<u64>) -> TcpListen<L>
+    /// as long as the system does, and 0 counts as 1. By the clock it waits while the system has no room for a connection.
+    pub fn new(alloc: Global, clock: C, listener: L, wait_ms: Option<u64>) -> TcpListen<L, C>
         ensures { result ≡ record { inner = listener; faults = 0 } }
     {
         TcpListen {
             alloc,
+            clock,
             listener,
             wait_ms,
             faults: 0,
@@ -45,13 +51,16 @@ impl<L: OpenListener<Stream = TcpStream> + Drop + Send> TcpListen<L> {
     }
 }
 
-impl<L: OpenListener<Stream = TcpStream> + Drop + Send> Listen for TcpListen<L> {
+impl<L: OpenListener<Stream = TcpStream> + Drop + Send, C: Clock + Copy + Send> Listen
+    for TcpListen<L, C> {
     type Link = StreamConn<TcpStream>;
 
     ghost listen_faults = { λ s. s.faults };
 
-    /// Waits for the next connection; a failure is counted. After 2^64 - 1 failures no further one can be counted: it
-    /// answers `OutOfMemory` and accepts nothing.
+    /// Waits for the next connection. Only a port that is lost fails, and is counted: where the system has no room for a
+    /// connection (too many open files, no memory), it waits and tries again; a connection that is gone before it is
+    /// accepted, or that fails as it is set up, is nobody's fault, and the next one is waited for. After 2^64 - 1 failures
+    /// no further one can be counted: it answers `OutOfMemory` and accepts nothing.
     fn accept(&mut self) -> Result<StreamConn<TcpStream>, PortError>
         ensures fresh { IfOk result (λ link. link.faults ≡ 0) }
         ensures cause { HasCause self.old.faults self.new.faults result }
@@ -61,31 +70,66 @@ impl<L: OpenListener<Stream = TcpStream> + Drop + Send> Listen for TcpListen<L> 
         if self.faults == u64::MAX {
             return Err(PortError::OutOfMemory);
         }
-        let Some(stream) = accept_stream(&self.listener, self.wait_ms) else {
+        let Some(conn) = accept_next(self.alloc, &self.clock, &self.listener, self.wait_ms) else {
             self.faults += 1;
             return Err(PortError::Failed);
         };
-        StreamConn::new(self.alloc, stream)
+        Ok(conn)
     }
 }
 
-// The next stream; it tries again after each interruption.
-fn accept_stream(
+// What is to be done after an error of the system's `accept`.
+#[derive(Clone, Copy)]
+enum Remedy {
+    // The port is lost.
+    GiveUp,
+    // That connection is gone.
+    TakeNext,
+    // There is no room for a connection now.
+    Wait,
+}
+
+// By Linux's numbers: EBADF, EFAULT, EINVAL, ENOTSOCK and EOPNOTSUPP are of the port. EINTR, ENONET, EPROTO, ENOPROTOOPT,
+// ENETDOWN, ENETUNREACH, ECONNABORTED, ETIMEDOUT, EHOSTDOWN and EHOSTUNREACH are of one connection, whose errors accept(2)
+// passes on. An error without a number isn't the system's.
+fn remedy_for(error: &io::Error) -> Remedy {
+    match error.raw_os_error() {
+        None | Some(9 | 14 | 22 | 88 | 95) => Remedy::GiveUp,
+        Some(4 | 64 | 71 | 92 | 100 | 101 | 103 | 110 | 112 | 113) => Remedy::TakeNext,
+        Some(_) => Remedy::Wait,
+    }
+}
+
+// The next connection; none if the port is lost.
+fn accept_next(
+    alloc: Global,
+    clock: &impl Clock,
     listener: &impl OpenListener<Stream = TcpStream>,
     wait_ms: Option<u64>,
-) -> Option<TcpStream> {
+) -> Option<StreamConn<TcpStream>>
+    ensures { IfSome result (λ conn. conn.faults ≡ 0) }
+{
     for _ in 0..u64::MAX {
         match listener.accept() {
             Ok((stream, _)) => {
-                set_wait(&stream, wait_ms).ok()?;
-                return Some(stream);
-            }
-            Err(error) => {
-                if error.kind() != ErrorKind::Interrupted {
-                    return None;
+                if let Some(conn) = set_up(alloc, stream, wait_ms) {
+                    return Some(conn);
                 }
             }
+            Err(error) => match remedy_for(&error) {
+                Remedy::GiveUp => return None,
+                Remedy::TakeNext => {}
+                Remedy::Wait => thread::sleep(clock, Duration::from_millis(PAUSE_MS)),
+            },
         }
     }
     None
+}
+
+// A connection over this stream, unless it is gone or there is no memory for it.
+fn set_up(alloc: Global, stream: TcpStream, wait_ms: Option<u64>) -> Option<StreamConn<TcpStream>>
+    ensures { IfSome result (λ conn. conn.faults ≡ 0) }
+{
+    set_wait(&stream, wait_ms).ok()?;
+    StreamConn::new(alloc, stream).ok()
 }

@@ -3,7 +3,7 @@ use Rattle.plain_commands.specs.declared.status.Status.TheVariants as status
 use Rattle.actors_top.specs.declared.server.ServerStatus.TheVariants as server
 use Rattle.actors_top.specs.declared.sidecar.SidecarStatus.TheVariants as seat
 use Rattle.sidecar_command.specs.declared.ends.SidecarEnd.TheVariants as ends
-use Rattle.host_ports.specs.Hosts.{place_of}
+use Rattle.server_ports.specs.Hosts.{place_of}
 use Rattle.world_drill.proofs.Honest.{drill_honest}
 use Rattle.actors_top.proofs.Same.{nothing_written, nothing_asked_for, no_store_asked, no_ports_asked}
 use Rattle.actors_top.proofs.top.run.Goals as goal

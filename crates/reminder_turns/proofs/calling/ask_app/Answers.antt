@@ -1,7 +1,7 @@
 use Rattle.std.proofs.Common.{refl, subst, ◌∙◌, ℕ, List, []}
 use Rattle.app_texts.specs.Texts.{reminder_text}
-use Rattle.link_exchange.specs.Replies.{IsHttpExchange, place_at}
-use Rattle.link_exchange.proofs.Diallings.{none_made}
+use Rattle.exchanges.specs.Replies.{IsHttpExchange, place_at}
+use Rattle.exchanges.proofs.Diallings.{none_made}
 use Rattle.reminder_turns.proofs.Turns.{remind_text_of}
 use Rattle.reminder_turns.proofs.calling.ask_app.Goals as goal
 

@@ -1,6 +1,6 @@
 use Rattle.std.proofs.Common.{subst, ℕ, List}
 use Rattle.std.specs.Option.{option_copied}
-use Rattle.link_exchange.specs.Replies.{IsHttpExchange, place_at}
+use Rattle.exchanges.specs.Replies.{IsHttpExchange, place_at}
 use Rattle.reminder_turns.proofs.Turns.{remind_text_by}
 use Rattle.reminder_turns.proofs.calling.call_back.Goals as goal
 

@@ -1,6 +1,6 @@
 use Rattle.std.proofs.Common.{[], refl}
 use Rattle.sidecar_node.proofs.Actings.{acts_none}
-use Rattle.link_exchange.proofs.Diallings.{none_made}
+use Rattle.exchanges.proofs.Diallings.{none_made}
 use Rattle.reminder_turns.proofs.Turns.{follows_other}
 use Rattle.reminder_turns.proofs.calling.follow.Goals as goal
 

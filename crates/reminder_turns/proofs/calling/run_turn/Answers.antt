@@ -1,5 +1,5 @@
 use Rattle.std.proofs.Common.{subst, ℕ, List, Option}
-use Rattle.link_exchange.specs.Replies.{IsHttpExchange, place_at}
+use Rattle.exchanges.specs.Replies.{IsHttpExchange, place_at}
 use Rattle.reminder_turns.specs.Callbacks.{entry_text}
 use Rattle.reminder_turns.proofs.calling.run_turn.Goals as goal
 

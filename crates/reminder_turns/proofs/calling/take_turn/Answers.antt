@@ -1,6 +1,6 @@
 use Rattle.std.proofs.Common.{[], ◌++◌, Ok}
 use Rattle.sidecar_node.proofs.Actings.{acts_at_then}
-use Rattle.link_exchange.proofs.Diallings.{none_made}
+use Rattle.exchanges.proofs.Diallings.{none_made}
 use Rattle.reminder_turns.proofs.Turns.{turn_follows, turn_spent}
 use Rattle.reminder_turns.proofs.calling.take_turn.Goals as goal
 

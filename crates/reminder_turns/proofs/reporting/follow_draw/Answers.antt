@@ -1,5 +1,5 @@
 use Rattle.std.proofs.Common.{refl, []}
-use Rattle.link_exchange.proofs.Diallings.{none_made}
+use Rattle.exchanges.proofs.Diallings.{none_made}
 use Rattle.reminder_turns.proofs.Reports.{draw_refused}
 use Rattle.reminder_turns.proofs.reporting.follow_draw.Goals as goal
 

@@ -2,7 +2,7 @@ use Rattle.std.proofs.Common.{[], refl, Ok, Err}
 use Rattle.part_model.specs.declared.event.PartEvent.TheVariants.{Draw}
 use Rattle.sidecar_node.specs.Entries.{one_entry}
 use Rattle.sidecar_node.specs.Nodes.{part_at}
-use Rattle.link_exchange.proofs.Diallings.{none_made}
+use Rattle.exchanges.proofs.Diallings.{none_made}
 use Rattle.reminder_turns.specs.declared.results.Reported.TheVariants.{Undrawn}
 use Rattle.reminder_turns.proofs.Reports.{report_follows, replied_full}
 use Rattle.reminder_turns.proofs.reporting.report.Goals as goal

@@ -1,8 +1,8 @@
 use Rattle.std.proofs.Common.{refl, subst, []}
 use Rattle.reminder_rows.specs.declared.row.DueKey.{DueKey}
-use Rattle.link_exchange.specs.Replies.{place_at}
-use Rattle.link_exchange.proofs.Diallings.{none_made}
-use Rattle.store_exchange.specs.Asked.{IsStoreExchange}
+use Rattle.exchanges.specs.Replies.{place_at}
+use Rattle.exchanges.proofs.Diallings.{none_made}
+use Rattle.exchanges.specs.Asked.{IsStoreExchange}
 use Rattle.reminder_turns.specs.Reports.{fired_command}
 use Rattle.reminder_turns.proofs.reporting.tell_fired.Goals as goal
 

@@ -1,8 +1,8 @@
 use Rattle.std.proofs.Common.{subst}
 use Rattle.frame_wire.specs.declared.store_command.Stamp.{Stamp}
 use Rattle.frame_wire.specs.declared.store_command.StoreCommand.TheVariants.{Fired}
-use Rattle.link_exchange.specs.Replies.{place_at}
-use Rattle.store_exchange.specs.Asked.{IsStoreExchange}
+use Rattle.exchanges.specs.Replies.{place_at}
+use Rattle.exchanges.specs.Asked.{IsStoreExchange}
 use Rattle.reminder_turns.proofs.reporting.tell_store.Goals as goal
 
 pub returns : goal.returns

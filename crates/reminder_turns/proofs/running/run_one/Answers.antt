@@ -1,7 +1,7 @@
 use Rattle.std.proofs.Common.{◌∙◌, Option, [], Some, None, refl, sym, ap}
 use Rattle.sidecar_node.specs.Nodes.{part_at}
 use Rattle.sidecar_node.proofs.Actings.{acts_none, acts_at_then}
-use Rattle.link_exchange.proofs.Diallings.{none_made}
+use Rattle.exchanges.proofs.Diallings.{none_made}
 use Rattle.reminder_turns.specs.declared.ends.TickEnd.{TickEnd}
 use Rattle.reminder_turns.specs.Outcomes.{reported_end}
 use Rattle.reminder_turns.proofs.Reports.{owed_full}

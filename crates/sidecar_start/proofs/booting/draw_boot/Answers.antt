@@ -1,4 +1,4 @@
-use Rattle.link_exchange.specs.Replies.{place_at}
+use Rattle.exchanges.specs.Replies.{place_at}
 use Rattle.sidecar_start.specs.Booting.{boot_frame, BootCarries}
 use Rattle.sidecar_start.proofs.Tries.{none_tried}
 use Rattle.sidecar_start.proofs.booting.draw_boot.Goals as goal

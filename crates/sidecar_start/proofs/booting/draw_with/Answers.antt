@@ -1,5 +1,5 @@
 use Rattle.std.proofs.Common.{Ok, Err, arith}
-use Rattle.link_exchange.specs.Replies.{place_at}
+use Rattle.exchanges.specs.Replies.{place_at}
 use Rattle.sidecar_start.specs.Booting.{boot_frame, BootCarries}
 use Rattle.sidecar_start.proofs.Tries.{begins, goes_on, ends_with}
 use Rattle.sidecar_start.proofs.booting.draw_with.Goals as goal

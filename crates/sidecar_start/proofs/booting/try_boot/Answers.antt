@@ -1,4 +1,4 @@
-use Rattle.link_exchange.specs.Replies.{place_at}
+use Rattle.exchanges.specs.Replies.{place_at}
 use Rattle.sidecar_start.specs.Booting.{boot_frame, BootCarries}
 use Rattle.sidecar_start.proofs.Carryings.{boot_carries}
 use Rattle.sidecar_start.proofs.Tries.{no_dial, failed_dial, one_link}

@@ -1,4 +1,4 @@
-use Rattle.link_exchange.specs.Replies.{place_at}
+use Rattle.exchanges.specs.Replies.{place_at}
 use Rattle.sidecar_start.specs.Configuring.{ConfigCarries}
 use Rattle.sidecar_start.proofs.Tries.{none_tried}
 use Rattle.sidecar_start.proofs.configuring.ask_config.Goals as goal

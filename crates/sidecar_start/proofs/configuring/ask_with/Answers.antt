@@ -1,5 +1,5 @@
 use Rattle.std.proofs.Common.{Ok, Err, arith}
-use Rattle.link_exchange.specs.Replies.{place_at}
+use Rattle.exchanges.specs.Replies.{place_at}
 use Rattle.sidecar_start.specs.Configuring.{ConfigCarries}
 use Rattle.sidecar_start.proofs.Tries.{begins, goes_on, ends_with}
 use Rattle.sidecar_start.proofs.configuring.ask_with.Goals as goal

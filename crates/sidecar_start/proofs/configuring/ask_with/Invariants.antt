@@ -1,5 +1,5 @@
 use Rattle.std.proofs.Common.{◌≤◌}
-use Rattle.link_exchange.specs.Replies.{place_at}
+use Rattle.exchanges.specs.Replies.{place_at}
 use Rattle.sidecar_start.specs.Configuring.{ConfigCarries}
 use Rattle.sidecar_start.proofs.Tries.{Going}
 use Rattle.sidecar_start.proofs.configuring.ask_with.Given as goal

@@ -1,5 +1,5 @@
 use Rattle.http_edge.specs.Texts.{request_text}
-use Rattle.link_exchange.specs.Replies.{place_at}
+use Rattle.exchanges.specs.Replies.{place_at}
 use Rattle.sidecar_start.specs.Configuring.{ConfigCarries}
 use Rattle.sidecar_start.proofs.Carryings.{config_carries}
 use Rattle.sidecar_start.proofs.Tries.{no_dial, failed_dial, one_link}

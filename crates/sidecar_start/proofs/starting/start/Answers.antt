@@ -1,4 +1,4 @@
-use Rattle.link_exchange.specs.Replies.{place_at}
+use Rattle.exchanges.specs.Replies.{place_at}
 use Rattle.sidecar_start.specs.Booting.{boot_frame}
 use Rattle.sidecar_start.proofs.Starts.{without_boot, with_boot, start_fault, drawn_fits}
 use Rattle.sidecar_start.proofs.starting.start.Goals as goal

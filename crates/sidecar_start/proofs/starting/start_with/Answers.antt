@@ -1,5 +1,5 @@
 use Rattle.std.proofs.Common.{Ok, Err, refl}
-use Rattle.link_exchange.specs.Replies.{place_at}
+use Rattle.exchanges.specs.Replies.{place_at}
 use Rattle.sidecar_start.proofs.Starts.{by_config, shallow_in, config_few}
 use Rattle.sidecar_start.proofs.starting.start_with.Goals as goal
 

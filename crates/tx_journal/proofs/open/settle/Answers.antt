@@ -4,8 +4,13 @@ use Rattle.disk_model.specs.Disk.{Tells}
 use Rattle.disk_model.proofs.Stages.{tells_map, tells_on, tells_then}
 use Rattle.tx_journal.specs.declared.format.Format.TheVariants.{One}
 use Rattle.tx_journal.specs.Journal.{KeepsFile}
-use Rattle.tx_journal.proofs.Openings.{synced_keeps, synced_ok, keeps_on, refuses_on}
+use Rattle.tx_journal.proofs.Openings.{synced_keeps, synced_ok, sync_failed, keeps_on, refuses_on}
 use Rattle.tx_journal.proofs.open.settle.Goals as goal
+
+pub returns-then-is_err-clause-crash : goal.returns-then-is_err-clause-crash
+returns-then-is_err-clause-crash g c =
+    let failed = sym c.is_err.ensures.value ∙ c.if-is_err.true in
+    tells_map _ _ _ _ (λ d e. sync_failed One c.args.create c.sync.result d e failed) c.sync.ensures.synced
 
 pub returns-in-Err-clause-crash : goal.returns-in-Err-clause-crash
 returns-in-Err-clause-crash g c =

@@ -1,0 +1,7 @@
+pub mod Texts
+pub mod Servings
+pub mod Routings
+mod OwnerTexts
+mod PeerReads
+mod Causes
+pub mod Acting

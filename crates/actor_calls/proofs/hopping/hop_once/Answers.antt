@@ -1,0 +1,30 @@
+use Rattle.std.proofs.Common.{refl, sym, ◌∙◌, inl, inr, []}
+use Rattle.sidecar_node.proofs.Actings.{acts_none}
+use Rattle.exchanges.proofs.Diallings.{none_made}
+use Rattle.actor_calls.proofs.Servings.{idle}
+use Rattle.actor_calls.proofs.Acting.{none_kept}
+use Rattle.actor_calls.proofs.hopping.hop_once.Goals as goal
+
+pub returns-then-eq-clause-hop : goal.returns-then-eq-clause-hop
+returns-then-eq-clause-hop g c =
+    let a = c.ask_here.ensures.asked in (
+      a.0,
+      a.1,
+      [],
+      a.2,
+      a.3,
+      none_kept g.L.Dial.dialled g.L.Dial.dial_faults c.args.links.now.peers c.ask_here.new.links.peers c.ask_here.ensures.others.0,
+      inl (sym c.eq.ensures ∙ c.if-eq.true, refl, a.4),
+    )
+
+pub returns-clause-hop : goal.returns-clause-hop
+returns-clause-hop g c =
+    let p = c.call_peer.ensures in (
+      [],
+      [],
+      p.0,
+      acts_none c.args.seats,
+      none_made _ _,
+      p.2,
+      inr (sym c.eq.ensures ∙ c.if-eq.false, idle _, p.1),
+    )

@@ -1,0 +1,79 @@
+-- A served call: the request, its entries on the part of its actor, its exchanges with the application and with other
+-- sidecars, and its answer. Own.
+use Rattle.std.specs.Prelude.{◌≡◌, ◌⊎◌, ◌≤◌, ℕ, List, [], ◌++◌, Result, Ok, Err}
+use Rattle.actor_names.specs.declared.member.Member.{Member}
+use Rattle.actor_names.specs.declared.address.Address.{Address}
+use Rattle.http_edge.specs.declared.message.HttpRequest.{HttpRequest}
+use Rattle.actors_api.specs.declared.reply.ApiReply.{ApiReply}
+use Rattle.actors_api.specs.declared.side.Side.{Side}
+use Rattle.actors_api.specs.declared.side.Side.TheVariants.{Caller, Peer}
+use Rattle.actors_api.specs.declared.reply.ApiReply.TheVariants as replies
+use Rattle.actors_api.specs.declared.refusal.ApiRefusal.{ApiRefusal}
+use Rattle.actors_api.specs.declared.command.ApiCommand.{ApiCommand}
+use Rattle.actors_api.specs.declared.command.ApiCommand.TheVariants as commands
+use Rattle.actors_api.specs.Commands.{command_of, ReadsCommand}
+use Rattle.sidecar_node.specs.declared.node.SidecarNode.{SidecarNode}
+use Rattle.sidecar_node.specs.Entries.{PartEntry, NodeEntry, at_part}
+use Rattle.sidecar_node.specs.Nodes.{host_of, part_at}
+use Rattle.exchanges.specs.Exchanges.{Exchange}
+use Rattle.actor_calls.specs.declared.invoke.Invoke.{Invoke}
+use Rattle.actor_calls.specs.declared.next.Next.{Next}
+use Rattle.actor_calls.specs.declared.next.Next.TheVariants.{Answered, Moves}
+use Rattle.actor_calls.specs.declared.served.Served.{Served}
+use Rattle.actor_calls.specs.declared.served.Served.TheVariants as served
+use Rattle.actor_calls.specs.Turns.{IsIdle, IsAsked}
+use Rattle.actor_calls.specs.Hops.{IsRouted}
+
+module _ (me : Member) (app : Address) (q : Invoke) (request : HttpRequest) where
+  -- What follows the first Ask. If the actor belongs to another member, a peer is told so, and a caller's request hops.
+  abbrev pub GoesOn : Side → Next → ℕ → ℕ → List PartEntry → List Exchange → List Exchange → ApiReply → Type 0
+  GoesOn side (Answered reply) first last es xs ys answer = IsIdle first last es xs × (ys ≡ []) × (answer ≡ reply)
+  GoesOn Peer (Moves version owner) first last es xs ys answer = IsIdle first last es xs × (ys ≡ []) × (answer ≡ replies.Elsewhere version owner)
+  GoesOn Caller (Moves version owner) first last es xs ys answer = IsRouted me app q request [] version owner first last es xs ys answer
+
+  -- a served call
+  pub record IsInvoked (side : Side) (first last : ℕ) (es : List PartEntry) (xs ys : List Exchange) (answer : ApiReply) : Type 0 where
+    pub middle : ℕ
+    pub front : List PartEntry
+    pub back : List PartEntry
+    pub early : List Exchange
+    pub late : List Exchange
+    pub next : Next
+    pub entries : es ≡ front ++ back
+    pub exchanges : xs ≡ early ++ late
+    pub asked : IsAsked app q request q.least first middle front early next
+    pub goes_on : GoesOn side next middle last back late ys answer
+
+-- ---- requests that are read first; `ns` are the entries on all gates of the node
+
+-- nothing was done
+pub record IsDone (first last : ℕ) (ns : List NodeEntry) (xs ys : List Exchange) (what outcome : Served) : Type 0 where
+  pub now : last ≡ first
+  pub entries : ns ≡ []
+  pub app : xs ≡ []
+  pub peers : ys ≡ []
+  pub is : outcome ≡ what
+
+module _ (node : SidecarNode) (app : Address) (side : Side) (request : HttpRequest) where
+  -- a call was served, with entries on the part of its actor alone
+  pub record IsCallServed (q : Invoke) (first last : ℕ) (ns : List NodeEntry) (xs ys : List Exchange) (outcome : Served) : Type 0 where
+    pub es : List PartEntry
+    pub answer : ApiReply
+    pub entries : ns ≡ at_part (part_at node q.actor) es
+    pub invoked : IsInvoked (host_of node).member app q request side first last es xs ys answer
+    pub is : outcome ≡ served.Answered answer
+
+  -- what follows the reading of a request: a refusal is its answer, and any other command than a call is handed back
+  abbrev pub FollowsRead : Result ApiCommand ApiRefusal → ℕ → ℕ → List NodeEntry → List Exchange → List Exchange → Served → Type 0
+  FollowsRead (Ok (commands.Invoke actor method chain least)) first last ns xs ys outcome =
+      IsCallServed (record { actor = actor; method = method; chain = chain; least = least }) first last ns xs ys outcome
+  FollowsRead (Ok command) first last ns xs ys outcome = IsDone first last ns xs ys (served.Other command) outcome
+  FollowsRead (Err refusal) first last ns xs ys outcome = IsDone first last ns xs ys (served.Answered (replies.Refused refusal)) outcome
+
+  -- a served request: it was read at a moment of the clock; memory may have run out meanwhile
+  pub record IsServed (first last : ℕ) (ns : List NodeEntry) (xs ys : List Exchange) (outcome : Served) : Type 0 where
+    pub now : ℕ
+    pub read : Result ApiCommand ApiRefusal
+    pub later : first ≤ now
+    pub reads : ReadsCommand (command_of (host_of node).member.space side request now) read
+    pub follows : FollowsRead read now last ns xs ys outcome

@@ -1,0 +1,92 @@
+// Exchanges with the application and with other sidecars.
+ghost use Rattle.std.specs.Prelude.{◌≡◌, List};
+ghost use Rattle.std.specs.Option.{option_copied};
+ghost use Rattle.exchanges.specs.Exchanges.{Exchange, Dialling};
+ghost use Rattle.exchanges.specs.Replies.{IsHttpExchange, place_at};
+ghost use Rattle.actor_calls.specs.Texts.{call_text, forward_text};
+ghost use Rattle.actor_calls.specs.Hops.{IsPeerAsked};
+
+use crate::invoke::Invoke;
+use crate::next::Next;
+use crate::peers::peer_next;
+use actor_names::{Address, ChainId};
+use actor_ports::Dial;
+use app_texts::{MethodCall, PeerCall, invoke_request, peer_request};
+use exchanges::{Links, exchange_at};
+use http_edge::{EdgeError, HttpRequest, HttpResponse};
+use place_table::HostInfo;
+use std::alloc::Global;
+
+// One exchange with the application at this address.
+fn call_method<L: Dial>(
+    alloc: Global,
+    app: &mut L,
+    at: &Address,
+    call: &MethodCall<'_>,
+) -> Result<HttpResponse, EdgeError>
+    ensures { (xs : List Exchange)
+        × IsHttpExchange (call_text at.now call.now.actor.now call.now.method.now (option_copied call.now.chain) call.now.request.now) (place_at at.now) xs result
+        × Dialling xs (L.dialled app.old) (L.dialled app.new) (L.dial_faults app.old) (L.dial_faults app.new) }
+{
+    match invoke_request(alloc, at, call) {
+        Err(_) => Err(EdgeError::OutOfMemory),
+        Ok(asked) => exchange_at(alloc, app, at, &asked),
+    }
+}
+
+// Calls the method at the application, under the chain of the turn.
+pub(crate) fn call_app<L: Dial>(
+    alloc: Global,
+    links: &mut Links<L>,
+    invoke: &Invoke,
+    request: &HttpRequest,
+    chain: Option<&ChainId>,
+) -> Result<HttpResponse, EdgeError>
+    ensures exchange { (xs : List Exchange)
+        × IsHttpExchange (call_text links.old.app_at invoke.now.actor invoke.now.method (option_copied chain.entry) request.now) (place_at links.old.app_at) xs result
+        × Dialling xs (L.dialled links.old.app) (L.dialled links.new.app) (L.dial_faults links.old.app) (L.dial_faults links.new.app) }
+    ensures places { (links.new.app_at ≡ links.old.app_at) × (links.new.store_at ≡ links.old.store_at) }
+    ensures others { (links.new.peers ≡ links.old.peers) × (links.new.store ≡ links.old.store) }
+{
+    let at = links.app_at;
+    let call = MethodCall {
+        actor: &invoke.actor,
+        method: invoke.method.as_slice(),
+        chain,
+        request,
+    };
+    call_method(alloc, &mut links.app, &at, &call)
+}
+
+// One exchange with the sidecar at this address.
+fn hand_on<L: Dial>(
+    alloc: Global,
+    peers: &mut L,
+    at: &Address,
+    call: &PeerCall<'_>,
+) -> Result<HttpResponse, EdgeError>
+    ensures { (ys : List Exchange)
+        × IsHttpExchange (forward_text at.now call.now.request.now call.now.least) (place_at at.now) ys result
+        × Dialling ys (L.dialled peers.old) (L.dialled peers.new) (L.dial_faults peers.old) (L.dial_faults peers.new) }
+{
+    match peer_request(alloc, at, call) {
+        Err(_) => Err(EdgeError::OutOfMemory),
+        Ok(asked) => exchange_at(alloc, peers, at, &asked),
+    }
+}
+
+// Hands the request on to the owner's sidecar, and says where the call stands then.
+pub(crate) fn call_peer<L: Dial>(
+    alloc: Global,
+    peers: &mut L,
+    request: &HttpRequest,
+    least: u64,
+    owner: &HostInfo,
+) -> Next
+    ensures { (ys : List Exchange) × IsPeerAsked request.now least owner.now ys result
+        × Dialling ys (L.dialled peers.old) (L.dialled peers.new) (L.dial_faults peers.old) (L.dial_faults peers.new) }
+{
+    let call = PeerCall { request, least };
+    let got = hand_on(alloc, peers, &owner.address, &call);
+    peer_next(alloc, got)
+}

@@ -1,0 +1,105 @@
+// A call of an actor's method.
+ghost use Rattle.std.specs.Prelude.{◌≡◌, List};
+ghost use Rattle.sidecar_node.specs.Entries.{PartEntry};
+ghost use Rattle.sidecar_node.specs.Nodes.{part_at, host_of, IsSeatsOf, ActsAt};
+ghost use Rattle.exchanges.specs.Exchanges.{Exchange, Dialling};
+ghost use Rattle.actor_calls.specs.Serving.{GoesOn, IsInvoked};
+
+use crate::asking::ask_here;
+use crate::hopping::hop_on;
+use crate::invoke::Invoke;
+use crate::next::Next;
+use actor_names::Member;
+use actor_ports::{Clock, Dial};
+use actors_api::{ApiReply, Side};
+use exchanges::Links;
+use http_edge::HttpRequest;
+use member_core::Route;
+use sidecar_node::{Seats, SidecarNode};
+use std::alloc::Global;
+use std::sync::Wait;
+
+// What follows the first Ask.
+fn go_on<R: Wait, L: Dial, K: Clock>(
+    rt: &R,
+    alloc: Global,
+    node: &SidecarNode,
+    seats: Seats,
+    me: &Member,
+    side: Side,
+    invoke: &Invoke,
+    request: &HttpRequest,
+    next: Next,
+    links: &mut Links<L>,
+    clock: &mut K,
+) -> (Seats, ApiReply)
+    requires { IsSeatsOf node.now seats }
+    ensures seats { IsSeatsOf node.now result.0 }
+    ensures goes_on { (es : List PartEntry) × (xs : List Exchange) × (ys : List Exchange) × ActsAt (part_at node.now invoke.now.actor) es seats result.0
+        × Dialling xs (L.dialled links.old.app) (L.dialled links.new.app) (L.dial_faults links.old.app) (L.dial_faults links.new.app)
+        × Dialling ys (L.dialled links.old.peers) (L.dialled links.new.peers) (L.dial_faults links.old.peers) (L.dial_faults links.new.peers)
+        × GoesOn me.now links.old.app_at invoke.now request.now side next (K.shown clock.old) (K.shown clock.new) es xs ys result.1 }
+    ensures places { (links.new.app_at ≡ links.old.app_at) × (links.new.store_at ≡ links.old.store_at) }
+    ensures store { links.new.store ≡ links.old.store }
+{
+    match next {
+        Next::Answered { reply } => (seats, reply),
+        Next::Moves { version, owner } => match side {
+            Side::Peer => (seats, ApiReply::Elsewhere { version, owner }),
+            Side::Caller => hop_on(
+                rt,
+                alloc,
+                node,
+                seats,
+                me,
+                invoke,
+                request,
+                Route::start(),
+                version,
+                owner,
+                links,
+                clock,
+            ),
+        },
+    }
+}
+
+/// Serves a call of an actor's method that came on this port. If the actor belongs to another member, a peer is told so,
+/// and a caller's request is handed on. Want of memory is answered as a refusal.
+pub fn serve_invoke<R: Wait, L: Dial, K: Clock>(
+    rt: &R,
+    alloc: Global,
+    node: &SidecarNode,
+    seats: Seats,
+    side: Side,
+    invoke: &Invoke,
+    request: &HttpRequest,
+    links: &mut Links<L>,
+    clock: &mut K,
+) -> (Seats, ApiReply)
+    requires { IsSeatsOf node.now seats }
+    ensures seats { IsSeatsOf node.now result.0 }
+    ensures invoked { (es : List PartEntry) × (xs : List Exchange) × (ys : List Exchange) × ActsAt (part_at node.now invoke.now.actor) es seats result.0
+        × Dialling xs (L.dialled links.old.app) (L.dialled links.new.app) (L.dial_faults links.old.app) (L.dial_faults links.new.app)
+        × Dialling ys (L.dialled links.old.peers) (L.dialled links.new.peers) (L.dial_faults links.old.peers) (L.dial_faults links.new.peers)
+        × IsInvoked (host_of node.now).member links.old.app_at invoke.now request.now side (K.shown clock.old) (K.shown clock.new) es xs ys result.1 }
+    ensures places { (links.new.app_at ≡ links.old.app_at) × (links.new.store_at ≡ links.old.store_at) }
+    ensures store { links.new.store ≡ links.old.store }
+{
+    let host = node.host();
+    let least = invoke.least;
+    let (seats, next) = ask_here(rt, alloc, node, seats, invoke, request, least, links, clock);
+    go_on(
+        rt,
+        alloc,
+        node,
+        seats,
+        &host.member,
+        side,
+        invoke,
+        request,
+        next,
+        links,
+        clock,
+    )
+}

@@ -1,0 +1,36 @@
+// What the words of a served request guarantee.
+ghost use Rattle.std.specs.Prelude.{◌≡◌, ℕ, List};
+ghost use Rattle.actor_names.specs.declared.member.Member.{Member};
+ghost use Rattle.actor_names.specs.declared.address.Address.{Address};
+ghost use Rattle.http_edge.specs.declared.message.HttpRequest.{HttpRequest};
+ghost use Rattle.actors_api.specs.declared.reply.ApiReply.{ApiReply};
+ghost use Rattle.actors_api.specs.declared.side.Side.{Side};
+ghost use Rattle.actors_api.specs.declared.side.Side.TheVariants.{Peer};
+ghost use Rattle.actors_api.specs.Responses.{response_of};
+ghost use Rattle.app_texts.specs.PeerReplies.{reply_reading};
+ghost use Rattle.sidecar_node.specs.Entries.{PartEntry};
+ghost use Rattle.exchanges.specs.Exchanges.{Exchange};
+ghost use Rattle.actor_calls.specs.declared.invoke.Invoke.{Invoke};
+ghost use Rattle.actor_calls.specs.PeerReads.{CanBeTold, told_to_peer};
+ghost use Rattle.actor_calls.specs.Serving.{IsInvoked};
+ghost use Rattle.actor_calls.specs.Causes.{AreCallEntries, AnswerHasCause};
+
+use actor_names::{address_law, member_law};
+
+/// What `write_api` tells a peer is what `read_peer_reply` reads: a refusal by its word, the owner of an actor, and
+/// everything else as the application's reply.
+pub fn peer_law()
+    ensures { (reply : ApiReply) → CanBeTold reply → reply_reading (response_of Peer reply) ≡ told_to_peer reply }
+{
+    address_law();
+    member_law();
+}
+
+/// The entries of a served call are Asks, Polls and Ends, and no others; each Ask is of its actor, under the chain that
+/// the request told. A refusal that answers it has its cause in this call.
+pub fn call_law()
+    ensures entries { (me : Member) (app : Address) (q : Invoke) (request : HttpRequest) (side : Side) (first last : ℕ) (es : List PartEntry) (xs ys : List Exchange) (answer : ApiReply)
+        → IsInvoked me app q request side first last es xs ys answer → AreCallEntries q es }
+    ensures causes { (me : Member) (app : Address) (q : Invoke) (request : HttpRequest) (side : Side) (first last : ℕ) (es : List PartEntry) (xs ys : List Exchange) (answer : ApiReply)
+        → IsInvoked me app q request side first last es xs ys answer → AnswerHasCause es xs ys answer }
+{}

@@ -1,0 +1,93 @@
+// A request: what it asks for, and a call of a method.
+ghost use Rattle.std.specs.Prelude.{◌≡◌, List, Ok};
+ghost use Rattle.sidecar_node.specs.Entries.{NodeEntry};
+ghost use Rattle.sidecar_node.specs.Nodes.{IsSeatsOf, Acts};
+ghost use Rattle.exchanges.specs.Exchanges.{Exchange, Dialling};
+ghost use Rattle.actor_calls.specs.Serving.{FollowsRead, IsServed};
+
+use crate::invoke::Invoke;
+use crate::invoking::serve_invoke;
+use crate::served::Served;
+use actor_ports::{Clock, Dial};
+use actors_api::{ApiCommand, ApiReply, Side, read_api};
+use exchanges::Links;
+use http_edge::HttpRequest;
+use sidecar_node::{Seats, SidecarNode};
+use std::alloc::Global;
+use std::sync::Wait;
+
+// Serves a call, or hands the command back.
+fn serve_command<R: Wait, L: Dial, K: Clock>(
+    rt: &R,
+    alloc: Global,
+    node: &SidecarNode,
+    seats: Seats,
+    side: Side,
+    command: ApiCommand,
+    request: &HttpRequest,
+    links: &mut Links<L>,
+    clock: &mut K,
+) -> (Seats, Served)
+    requires { IsSeatsOf node.now seats }
+    ensures seats { IsSeatsOf node.now result.0 }
+    ensures follows { (ns : List NodeEntry) × (xs : List Exchange) × (ys : List Exchange) × Acts ns seats result.0
+        × Dialling xs (L.dialled links.old.app) (L.dialled links.new.app) (L.dial_faults links.old.app) (L.dial_faults links.new.app)
+        × Dialling ys (L.dialled links.old.peers) (L.dialled links.new.peers) (L.dial_faults links.old.peers) (L.dial_faults links.new.peers)
+        × FollowsRead node.now links.old.app_at side request.now (Ok command) (K.shown clock.old) (K.shown clock.new) ns xs ys result.1 }
+    ensures places { (links.new.app_at ≡ links.old.app_at) × (links.new.store_at ≡ links.old.store_at) }
+    ensures store { links.new.store ≡ links.old.store }
+{
+    match command {
+        ApiCommand::Invoke {
+            actor,
+            method,
+            chain,
+            least,
+        } => {
+            let invoke = Invoke {
+                actor,
+                method,
+                chain,
+                least,
+            };
+            let (seats, reply) = serve_invoke(
+                rt, alloc, node, seats, side, &invoke, request, links, clock,
+            );
+            (seats, Served::Answered { reply })
+        }
+        other => (seats, Served::Other { command: other }),
+    }
+}
+
+/// Reads a request that came on this port, and serves it if it is a call of a method. A request that is refused is
+/// answered with its refusal, and any other command is handed back with nothing done for it.
+pub fn serve_call<R: Wait, L: Dial, K: Clock>(
+    rt: &R,
+    alloc: Global,
+    node: &SidecarNode,
+    seats: Seats,
+    side: Side,
+    request: &HttpRequest,
+    links: &mut Links<L>,
+    clock: &mut K,
+) -> (Seats, Served)
+    requires { IsSeatsOf node.now seats }
+    ensures seats { IsSeatsOf node.now result.0 }
+    ensures served { (ns : List NodeEntry) × (xs : List Exchange) × (ys : List Exchange) × Acts ns seats result.0
+        × Dialling xs (L.dialled links.old.app) (L.dialled links.new.app) (L.dial_faults links.old.app) (L.dial_faults links.new.app)
+        × Dialling ys (L.dialled links.old.peers) (L.dialled links.new.peers) (L.dial_faults links.old.peers) (L.dial_faults links.new.peers)
+        × IsServed node.now links.old.app_at side request.now (K.shown clock.old) (K.shown clock.new) ns xs ys result.1 }
+    ensures places { (links.new.app_at ≡ links.old.app_at) × (links.new.store_at ≡ links.old.store_at) }
+    ensures store { links.new.store ≡ links.old.store }
+{
+    let now = clock.now_ms();
+    match read_api(alloc, &node.host().member.space, side, request, now) {
+        Err(refusal) => (
+            seats,
+            Served::Answered {
+                reply: ApiReply::Refused { refusal },
+            },
+        ),
+        Ok(command) => serve_command(rt, alloc, node, seats, side, command, request, links, clock),
+    }
+}

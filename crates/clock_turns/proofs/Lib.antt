@@ -1,0 +1,14 @@
+pub mod Faults
+pub mod ClosingGoings
+pub mod ClosingCauses
+pub mod Takings
+pub mod ClosingLaws
+pub mod Texts
+pub mod Turns
+pub mod Fires
+pub mod Dues
+pub mod Counts
+pub mod TickGoings
+pub mod TickCauses
+pub mod Ticks
+pub mod TickLaws

@@ -1,8 +1,0 @@
-use Rattle.closing_turns.proofs.Laws.{through_law, closed_law}
-use Rattle.closing_turns.proofs.law.closing_law.Goals as goal
-
-pub returns-clause-through : goal.returns-clause-through
-returns-clause-through c = through_law
-
-pub returns-clause-closed : goal.returns-clause-closed
-returns-clause-closed c = closed_law

@@ -1,0 +1,45 @@
+// What a server is given, and gives back: disks in memory, and one port of TCP.
+use crate::outside::{CaseHost, CaseOutside};
+use actor_ports::TcpListen;
+use case_texts::add;
+use disk_model::MemDisk;
+use server_ports::MemHost;
+use std::alloc::Global;
+use std::net::{Net, TcpListener, TcpStream};
+use std::time::Clock;
+
+// Two empty disks.
+fn disks(alloc: Global) -> Option<Vec<MemDisk>> {
+    let mut disks = Vec::new(alloc);
+    disks.push(MemDisk::new(alloc, b"", &[]).ok()?).ok()?;
+    disks.push(MemDisk::new(alloc, b"", &[]).ok()?).ok()?;
+    Some(disks)
+}
+
+/// A host of two empty disks and this port.
+pub(crate) fn host_of<N: Clock + Copy + Send + Drop>(
+    clock: N,
+    alloc: Global,
+    listener: TcpListener,
+) -> Option<CaseHost<N>> {
+    let disks = disks(alloc)?;
+    let mut ports = Vec::new(alloc);
+    ports
+        .push(TcpListen::new(alloc, clock, listener, Some(10_000)))
+        .ok()?;
+    MemHost::new(alloc, disks, ports, &[]).ok()
+}
+
+/// Appends how many disks and ports were given back.
+pub(crate) fn add_returned<
+    N: Net<Listener = TcpListener, Stream = TcpStream> + Clock + Copy + Send + Drop,
+>(alloc: Global, outside: &CaseOutside<N>, text: &mut String) -> Option<()> {
+    let disks = outside.host.disks().len();
+    let ports = outside.host.ports().len();
+    add(
+        format!(in alloc; " disks {disks} ports {ports}")
+            .ok()?
+            .as_str(),
+        text,
+    )
+}

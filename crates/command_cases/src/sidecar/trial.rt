@@ -1,0 +1,129 @@
+// A trial and its answer.
+use super::caller::Port;
+use super::link::Dialler;
+use super::moments::Moments;
+use super::scenes;
+use super::stage::{Stage, Trial};
+use actor_ports::{MemSink, MemSource, SystemClock};
+use actors_top::{Outside, run};
+use case_texts::{add, add_escaped};
+use disk_model::MemDisk;
+use server_ports::MemHost;
+use std::alloc::Global;
+use std::sync::Wait;
+use std::thread::Threads;
+use std::time::Clock;
+
+// The words of the command, but for the number of connections.
+const WORDS: [&str; 8] = [
+    "sidecar",
+    "--node=n1",
+    "--app-id=shop",
+    "--app=127.0.0.1:3000",
+    "--listen=127.0.0.1:3500",
+    "--peer=127.0.0.1:3501",
+    "--placement=127.0.0.1:3600",
+    "--store=127.0.0.1:3700",
+];
+
+fn trial_of(name: &str) -> Option<Trial> {
+    match name {
+        "serves_two_connections_at_once" => Some(Trial::TwoActors),
+        "end_follows_application_reply" => Some(Trial::OneActor),
+        "ended_turn_answers_aborted" => Some(Trial::Moved),
+        "stopped_turn_answers_stopped" => Some(Trial::Refused),
+        _ => None,
+    }
+}
+
+// What the second caller of a trial sends, if it has one.
+fn second_of(trial: Trial) -> Option<&'static [u8]> {
+    match trial {
+        Trial::TwoActors => Some(scenes::OTHER_CALL),
+        Trial::OneActor => Some(scenes::CALL),
+        Trial::Moved | Trial::Refused => None,
+    }
+}
+
+fn words_of(alloc: Global, trial: Trial) -> Option<Vec<String>> {
+    let sessions = match second_of(trial) {
+        Some(_) => "--sessions=2",
+        None => "--sessions=1",
+    };
+    let mut words = Vec::new(alloc);
+    for word in WORDS {
+        words.push(String::from_str(alloc, word).ok()?).ok()?;
+    }
+    words.push(String::from_str(alloc, sessions).ok()?).ok()?;
+    Some(words)
+}
+
+// The sidecar's two ports.
+fn host_of<'a, R: Wait + Copy + Send + Drop>(
+    rt: R,
+    alloc: Global,
+    stage: &'a Stage,
+) -> Option<MemHost<MemDisk, Port<'a, R>>> {
+    let callers = Port {
+        rt,
+        stage,
+        first: Some(scenes::CALL),
+        second: second_of(stage.trial),
+    };
+    let peers = Port {
+        rt,
+        stage,
+        first: None,
+        second: None,
+    };
+    let mut ports = Vec::new(alloc);
+    ports.push(callers).ok()?;
+    ports.push(peers).ok()?;
+    MemHost::new(alloc, Vec::new(alloc), ports, &[]).ok()
+}
+
+// Runs the sidecar, and answers its status and what it printed.
+fn status_of<R: Threads + Wait + Clock + Sync + Send + Copy + Drop>(
+    rt: R,
+    alloc: Global,
+    stage: &Stage,
+) -> Option<(u8, MemSink)> {
+    let words = words_of(alloc, stage.trial)?;
+    let mut outside = Outside {
+        input: MemSource::new(alloc, b"", &[]).ok()?,
+        output: MemSink::new(alloc, &[]).ok()?,
+        net: Dialler { stage, room: 0 },
+        app: Dialler { stage, room: 0 },
+        peers: Dialler { stage, room: 0 },
+        time: SystemClock::new(Moments { rt, stage }),
+        host: host_of(rt, alloc, stage)?,
+    };
+    let status = run(&rt, alloc, words.as_slice(), &mut outside);
+    Some((status, outside.output))
+}
+
+// Appends `|` and the bytes.
+fn add_bytes(alloc: Global, bytes: &[u8], text: &mut String) -> Option<()> {
+    add("|", text)?;
+    add_escaped(alloc, bytes, text)
+}
+
+/// The name of a trial and its answer; `None` if it is none, or memory ran out.
+pub(crate) fn answer<R: Threads + Wait + Clock + Sync + Send + Copy + Drop>(
+    rt: R,
+    alloc: Global,
+    name: &str,
+) -> Option<String> {
+    let stage = Stage::new(alloc, trial_of(name)?);
+    let (status, printed) = status_of(rt, alloc, &stage)?;
+    let calls = if stage.had_two_at_once() {
+        "two calls at once"
+    } else {
+        "one call at a time"
+    };
+    let mut text = format!(in alloc; "{name} status {status}, {calls}").ok()?;
+    add_bytes(alloc, stage.first.lock(&rt).as_slice(), &mut text)?;
+    add_bytes(alloc, stage.second.lock(&rt).as_slice(), &mut text)?;
+    add_bytes(alloc, printed.bytes(), &mut text)?;
+    Some(text)
+}

@@ -1,4 +1,0 @@
-use Rattle.connection_server.proofs.works.keep_at.Given as goal
-
-abbrev pub invariant-loop : goal.invariant-loop
-invariant-loop g l = g.V.Service.admits l.service l.pass

@@ -1,4 +1,0 @@
-use Rattle.connection_server.proofs.works.turns_from.Given as goal
-
-abbrev pub invariant-loop-work : goal.invariant-loop-work
-invariant-loop-work g l = g.V.Service.admits l.service l.pass

@@ -1,5 +1,0 @@
-pub mod Laws
-pub mod Placements
-pub mod StateTexts
-pub mod StateTurns
-pub mod StateSessions

@@ -1,0 +1,58 @@
+// One exchange with the store.
+ghost use Rattle.std.specs.Prelude.{◌≡◌, List};
+ghost use Rattle.frame_wire.specs.Frames.{frame_bytes};
+ghost use Rattle.exchanges.specs.Exchanges.{Exchange, Dialling};
+ghost use Rattle.exchanges.specs.Replies.{place_at};
+ghost use Rattle.exchanges.specs.Asked.{IsFrameAsked, IsStoreExchange};
+
+use crate::answer::answer_in;
+use crate::frame_exchanging::exchange_frame;
+use crate::store_end::StoreEnd;
+use crate::text::command_text;
+use actor_names::Address;
+use actor_ports::{Dial, PortError};
+use frame_wire::{Frame, StoreAnswer, StoreCommand, frame_law};
+use std::alloc::Global;
+
+// One exchange of this text, which is the frame's.
+fn send_text<L: Dial>(
+    alloc: Global,
+    dialler: &mut L,
+    at: &Address,
+    asked: &Frame,
+    text: Vec<u8>,
+) -> Result<StoreAnswer, StoreEnd>
+    requires { text.items ≡ frame_bytes asked.now }
+    ensures { (xs : List Exchange)
+        × IsFrameAsked asked.now (place_at at.now) xs result
+        × Dialling xs (L.dialled dialler.old) (L.dialled dialler.new) (L.dial_faults dialler.old) (L.dial_faults dialler.new) }
+{
+    frame_law();
+    let mut link = match dialler.dial(at.ip, at.port) {
+        Ok(link) => link,
+        Err(PortError::Failed) => return Err(StoreEnd::Fault),
+        Err(PortError::OutOfMemory) => return Err(StoreEnd::OutOfMemory),
+    };
+    let got = exchange_frame(alloc, text.as_slice(), &mut link);
+    dialler.done(link);
+    answer_in(asked, got)
+}
+
+/// Dials the store at the address, sends it the command, reads its answer and gives the link back. If the dial failed,
+/// the answer is `Fault`. A command that has no frame is answered `OutOfMemory`, and nothing is dialled.
+pub fn ask_store<L: Dial>(
+    alloc: Global,
+    dialler: &mut L,
+    at: &Address,
+    command: StoreCommand,
+) -> Result<StoreAnswer, StoreEnd>
+    ensures { (xs : List Exchange)
+        × IsStoreExchange command (place_at at.now) xs result
+        × Dialling xs (L.dialled dialler.old) (L.dialled dialler.new) (L.dial_faults dialler.old) (L.dial_faults dialler.new) }
+{
+    let asked = Frame::Command { command };
+    match command_text(alloc, &asked) {
+        Err(_) => Err(StoreEnd::OutOfMemory),
+        Ok(text) => send_text(alloc, dialler, at, &asked, text),
+    }
+}

@@ -1,5 +1,0 @@
-use Rattle.frame_wire.specs.Streams.{AllFrames}
-use Rattle.frame_cases.proofs.streams.written_again.Given as goal
-
-abbrev pub invariant-loop : goal.invariant-loop
-invariant-loop l = AllFrames l.reader.ready

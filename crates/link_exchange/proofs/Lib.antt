@@ -1,2 +1,0 @@
-pub mod Diallings
-pub mod Replied

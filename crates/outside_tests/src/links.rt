@@ -1,0 +1,30 @@
+// A link over which nothing comes, and a port that is closed, over TCP on one machine.
+use actor_ports::{Dial, Listen, PortError, Sink, Source, TcpDial, TcpListen};
+use std::net::{Ipv4Addr, SocketAddr, TcpListener};
+use std::test::Fail;
+
+/// 127.0.0.1.
+const HERE: u32 = 0x7f00_0001;
+
+#[test]
+fn silent_link_and_closed_port_fail(rt: HostRuntime) -> Result<(), Fail> {
+    let bound = TcpListener::bind(&rt, SocketAddr::from((Ipv4Addr::LOCALHOST, 0)))?;
+    let port = bound.local_addr()?.port();
+    let mut listener = TcpListen::new(rt.alloc(), rt, bound, Some(50));
+    let mut dialler = TcpDial::new(rt.alloc(), rt, Some(5_000), Some(5_000));
+    let mut here = dialler.dial(HERE, port)?;
+    let mut there = listener.accept()?;
+    let mut into = Vec::new(rt.alloc());
+    // No byte comes in time.
+    assert_eq!(rt; there.read(&mut into, 100), Err(PortError::Failed));
+    assert_eq!(rt; there.write(b"reply"), Ok(()));
+    drop(there);
+    assert_eq!(rt; here.read(&mut into, 5), Ok(5));
+    assert_eq!(rt; here.read(&mut into, 5), Ok(0));
+    dialler.done(here);
+    assert_eq!(rt; into.as_slice(), b"reply".as_slice());
+    drop(listener);
+    let mut other = dialler.another()?;
+    assert_eq!(rt; other.dial(HERE, port).err(), Some(PortError::Failed));
+    Ok(())
+}

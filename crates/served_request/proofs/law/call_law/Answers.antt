@@ -1,5 +1,0 @@
-use Rattle.served_request.proofs.Causes.{invoked_entries, invoked_caused}
-use Rattle.served_request.proofs.law.call_law.Goals as goal
-
-pub returns : goal.returns
-returns c = record { entries = invoked_entries; causes = invoked_caused }

@@ -1,5 +1,0 @@
-use Rattle.served_request.proofs.PeerReads.{told_read}
-use Rattle.served_request.proofs.law.peer_law.Goals as goal
-
-pub returns : goal.returns
-returns c = told_read c.member_law.ensures.form c.address_law.ensures.form

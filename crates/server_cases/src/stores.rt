@@ -1,0 +1,142 @@
+// A store in memory.
+ghost use Rattle.step_gate.specs.Gates.{IsSeatOf};
+ghost use Rattle.store_core.specs.Events.{Allows};
+
+use crate::sessions::{Link, add_told, gate_of, link_of};
+use crate::subject::{Disks, Subject};
+use actor_ports::SessionEnd;
+use case_texts::{add, cut};
+use disk_model::MemDisk;
+use placement_node::PlacementOpenError;
+use std::alloc::Global;
+use std::sync::Wait;
+use step_gate::{Gate, Seat};
+use store_core::{CompactEnd, Store};
+use store_server::store_session;
+use tx_journal::JournalError;
+
+/// A store in memory.
+pub(crate) type Memory = Store<MemDisk>;
+
+// The store behind this gate after a session over a connection, and how the session ended.
+fn served<R: Wait>(
+    rt: &R,
+    alloc: Global,
+    gate: Gate<Memory>,
+    seat: Seat<Memory>,
+    link: &mut Link,
+) -> (Memory, SessionEnd)
+    requires { IsSeatOf Allows gate seat }
+{
+    let (seat, end) = store_session(rt, alloc, &gate, seat, &mut link.conn, &mut link.clock);
+    (gate.close(rt, seat), end)
+}
+
+/// Serves a session over a connection, and appends how it ended and what it wrote.
+pub(crate) fn serve<R: Wait>(
+    rt: &R,
+    alloc: Global,
+    kept: &mut Option<Memory>,
+    link: &mut Link,
+    text: &mut String,
+) -> Option<()> {
+    let (gate, seat) = gate_of(alloc, kept.take()?)?;
+    let (store, end) = served(rt, alloc, gate, seat, link);
+    *kept = Some(store);
+    add_told(alloc, end, link.conn.written(), text)
+}
+
+// `at MS BYTES CALL`
+fn at<R: Wait>(
+    rt: &R,
+    alloc: Global,
+    kept: &mut Option<Memory>,
+    rest: &str,
+    text: &mut String,
+) -> Option<()> {
+    let mut link = link_of(alloc, rest)?;
+    serve(rt, alloc, kept, &mut link, text)
+}
+
+fn add_end(alloc: Global, end: CompactEnd, text: &mut String) -> Option<()> {
+    let words = match end {
+        CompactEnd::Compacted { rows } => format!(in alloc; "compacted {rows}"),
+        CompactEnd::NotNeeded { len } => format!(in alloc; "not needed at {len}"),
+        CompactEnd::Failed { error } => format!(in alloc; "failed: {error}"),
+        CompactEnd::OutOfMemory => format!(in alloc; "out of memory"),
+    };
+    add(words.ok()?.as_str(), text)
+}
+
+// `compact LEAST MS`
+fn compact(alloc: Global, kept: &mut Option<Memory>, rest: &str, text: &mut String) -> Option<()> {
+    let (least, now) = rest.split_once(' ')?;
+    let least = least.parse::<u64>().ok()?;
+    let now = now.parse::<u32>().ok()?;
+    let end = kept.as_mut()?.compact(least, now as u64);
+    add_end(alloc, end, text)
+}
+
+// Why something that needs two disks isn't opened over one.
+fn one_disk() -> PlacementOpenError {
+    PlacementOpenError::Journal {
+        error: JournalError::OneDisk,
+    }
+}
+
+impl Subject for Memory {
+    fn open(
+        alloc: Global,
+        disks: Disks,
+        create: bool,
+    ) -> Result<Memory, (PlacementOpenError, Disks)> {
+        let Disks { first, second } = disks;
+        let Some(second) = second else {
+            return Err((
+                one_disk(),
+                Disks {
+                    first,
+                    second: None,
+                },
+            ));
+        };
+        match Store::open(alloc, first, second, create) {
+            Ok(store) => Ok(store),
+            Err((error, first, second)) => Err((
+                PlacementOpenError::Journal { error },
+                Disks {
+                    first,
+                    second: Some(second),
+                },
+            )),
+        }
+    }
+
+    fn close(self) -> Disks {
+        let (first, second) = Store::close(self);
+        Disks { first, second }
+    }
+
+    fn first(&self) -> &MemDisk {
+        self.disk()
+    }
+
+    fn second(&self) -> Option<&MemDisk> {
+        Store::second(self)
+    }
+
+    fn step<R: Wait>(
+        rt: &R,
+        alloc: Global,
+        kept: &mut Option<Memory>,
+        words: &str,
+        text: &mut String,
+    ) -> Option<()> {
+        let (word, rest) = cut(words, ' ');
+        match word {
+            "at" => at(rt, alloc, kept, rest, text),
+            "compact" => compact(alloc, kept, rest, text),
+            _ => None,
+        }
+    }
+}

@@ -1,4 +1,0 @@
-pub mod Asks
-pub mod Outcomes
-pub mod Serving
-pub mod Causes

@@ -1,0 +1,233 @@
+-- What refusals go back to.
+use Rattle.std.proofs.Common.{◌≡◌, ◌⊎◌, ◌<◌, ℕ, ◌+◌, true, false, List, [], ◌∷◌, ◌++◌, Option, Some, None, Ok, Err, refl, sym, ap, subst, inl, inr, arith}
+use Rattle.actor_names.specs.declared.actor_key.ActorKey.{ActorKey}
+use Rattle.actor_names.specs.declared.address.Address.{Address}
+use Rattle.part_model.specs.declared.event.PartEvent.{PartEvent}
+use Rattle.part_model.specs.declared.event.PartEvent.TheVariants.{Hold, Release, Draw}
+use Rattle.part_model.specs.Receipts.{PartReply}
+use Rattle.part_model.specs.declared.event.Reply.TheVariants as replies
+use Rattle.timer_book.specs.declared.event.TimerEvent.{TimerEvent}
+use Rattle.timer_book.specs.declared.event.TimerEvent.TheVariants as timers
+use Rattle.timer_book.specs.declared.event.TimerReply.{TimerReply}
+use Rattle.timer_book.specs.declared.event.TimerReply.TheVariants as book
+use Rattle.actor_ports.specs.Traffic.{Place}
+use Rattle.http_edge.specs.Carry.{Carried}
+use Rattle.frame_wire.specs.declared.frame.Frame.TheVariants.{Command, Answer}
+use Rattle.frame_wire.specs.declared.store_command.Stamp.{Stamp}
+use Rattle.frame_wire.specs.declared.store_answer.StoreAnswer.{StoreAnswer}
+use Rattle.frame_wire.specs.declared.store_answer.StoreAnswer.TheVariants as told
+use Rattle.frame_wire.specs.Frames.{frame_bytes}
+use Rattle.actors_api.specs.declared.command.ApiCommand.{ApiCommand}
+use Rattle.actors_api.specs.declared.command.ApiCommand.TheVariants as commands
+use Rattle.actors_api.specs.declared.reply.ApiReply.{ApiReply}
+use Rattle.sidecar_node.specs.declared.node.SidecarNode.{SidecarNode}
+use Rattle.sidecar_node.specs.declared.node.Seats.{Seats}
+use Rattle.sidecar_node.specs.Entries.{NodeEntry, OnPart, OnBook, at_part, at_book, one_entry}
+use Rattle.sidecar_node.specs.Turns.{Said}
+use Rattle.sidecar_node.specs.Nodes.{part_at}
+use Rattle.exchanges.specs.Exchanges.{Exchange, Comes}
+use Rattle.exchanges.specs.Replies.{place_at}
+use Rattle.exchanges.specs.declared.store_end.StoreEnd.TheVariants as ends
+use Rattle.exchanges.specs.Asked.{Got, answers, FrameCarries, IsStoreExchange}
+use Rattle.sidecar_requests.specs.declared.ask.StoreAsk.{StoreAsk}
+use Rattle.sidecar_requests.specs.declared.ask.StoreAsk.TheVariants as asks
+use Rattle.sidecar_requests.specs.declared.ask.Wanted.{Wanted}
+use Rattle.sidecar_requests.specs.Asks.{store_command, wanted_of}
+use Rattle.sidecar_requests.specs.Outcomes.{BookSaid, refused, refusal_of, told_answer, store_answer, released_answer, held_answer, book_answer, kept_answer, timer_answer}
+use Rattle.sidecar_requests.specs.Serving.{stamp_of, IsStep, Holds, AfterDraw, IsWriteServed, AfterHold, IsStateServed, AfterTimerHold, IsTimerServed, IsRecordServed}
+use Rattle.sidecar_requests.specs.Causes.{HasReply, HasBookReply, AnswerHasCause}
+
+never : {A : Type 0} → false ≡ true → A
+never e = absurd (let h : ⊥ = cc in h)
+
+-- ---- entries
+
+reply_left : (r : PartReply) (ms ns : List NodeEntry) → HasReply r ms → HasReply r (ms ++ ns)
+reply_left r [] ns h = absurd h
+reply_left r (OnPart part e ∷ ms) ns h = elim h [ inl is ↦ inl is | inr more ↦ inr (reply_left r ms ns more) ]
+reply_left r (OnBook part e ∷ ms) ns h = reply_left r ms ns h
+
+reply_right : (r : PartReply) (ms ns : List NodeEntry) → HasReply r ns → HasReply r (ms ++ ns)
+reply_right r [] ns h = h
+reply_right r (OnPart part e ∷ ms) ns h = inr (reply_right r ms ns h)
+reply_right r (OnBook part e ∷ ms) ns h = reply_right r ms ns h
+
+book_left : (r : TimerReply) (ms ns : List NodeEntry) → HasBookReply r ms → HasBookReply r (ms ++ ns)
+book_left r [] ns h = absurd h
+book_left r (OnPart part e ∷ ms) ns h = book_left r ms ns h
+book_left r (OnBook part e ∷ ms) ns h = elim h [ inl is ↦ inl is | inr more ↦ inr (book_left r ms ns more) ]
+
+book_right : (r : TimerReply) (ms ns : List NodeEntry) → HasBookReply r ns → HasBookReply r (ms ++ ns)
+book_right r [] ns h = h
+book_right r (OnPart part e ∷ ms) ns h = book_right r ms ns h
+book_right r (OnBook part e ∷ ms) ns h = inr (book_right r ms ns h)
+
+-- ---- the store's answer
+
+module _ (ns : List NodeEntry) (at : Place) (rise : ℕ) (c : Carried) (actor : ActorKey) (s : Stamp) where
+  abbrev Xs : List Exchange
+  Xs = record { at = at; link = Some c; rise = rise } ∷ []
+
+  told_cause : (ask : StoreAsk) (a : StoreAnswer) → answers (Command (store_command actor s ask)) a ≡ true → c.read ≡ frame_bytes (Answer a) → AnswerHasCause ns Xs (told_answer (wanted_of ask) a)
+  told_cause (asks.Transact ops) (told.Done existed) fits is = tt
+  told_cause (asks.GetState key) (told.Done existed) fits is = never fits
+  told_cause (asks.PutReminder name r) (told.Done existed) fits is = tt
+  told_cause (asks.GetReminder name) (told.Done existed) fits is = never fits
+  told_cause (asks.DeleteReminder name) (told.Done existed) fits is = tt
+  told_cause ask (told.Value v) fits is = tt
+  told_cause (asks.Transact ops) told.NotThere fits is = never fits
+  told_cause (asks.GetState key) told.NotThere fits is = tt
+  told_cause (asks.PutReminder name r) told.NotThere fits is = never fits
+  told_cause (asks.GetReminder name) told.NotThere fits is = inl is
+  told_cause (asks.DeleteReminder name) told.NotThere fits is = never fits
+  told_cause ask (told.ReminderIs due period ttl payload) fits is = tt
+  told_cause ask (told.Refused r) fits is = inl (r, is, refl)
+  told_cause (asks.Transact ops) (told.Booted n) fits is = never fits
+  told_cause (asks.GetState key) (told.Booted n) fits is = never fits
+  told_cause (asks.PutReminder name r) (told.Booted n) fits is = never fits
+  told_cause (asks.GetReminder name) (told.Booted n) fits is = never fits
+  told_cause (asks.DeleteReminder name) (told.Booted n) fits is = never fits
+  told_cause (asks.Transact ops) (told.DueList es) fits is = never fits
+  told_cause (asks.GetState key) (told.DueList es) fits is = never fits
+  told_cause (asks.PutReminder name r) (told.DueList es) fits is = never fits
+  told_cause (asks.GetReminder name) (told.DueList es) fits is = never fits
+  told_cause (asks.DeleteReminder name) (told.DueList es) fits is = never fits
+  told_cause (asks.Transact ops) (told.NextIs n) fits is = never fits
+  told_cause (asks.GetState key) (told.NextIs n) fits is = never fits
+  told_cause (asks.PutReminder name r) (told.NextIs n) fits is = never fits
+  told_cause (asks.GetReminder name) (told.NextIs n) fits is = never fits
+  told_cause (asks.DeleteReminder name) (told.NextIs n) fits is = never fits
+
+-- what went over the link, and the answer by it
+link_cause : (ns : List NodeEntry) (at : Place) (actor : ActorKey) (s : Stamp) (ask : StoreAsk) (l : Option Carried) (rise : ℕ) (got : Got)
+    → Comes (Err ends.Fault) (Err ends.OutOfMemory) (FrameCarries (Command (store_command actor s ask))) l rise got
+    → AnswerHasCause ns (record { at = at; link = l; rise = rise } ∷ []) (store_answer (wanted_of ask) got)
+link_cause ns at actor s ask None rise got h =
+    subst (λ (g : Got). AnswerHasCause ns (record { at = at; link = None; rise = rise } ∷ []) (store_answer (wanted_of ask) g)) (sym h.1) (let up = h.0 in let k : 0 < rise + 0 = omega arith in k)
+link_cause ns at actor s ask (Some c) rise (Ok a) h = told_cause ns at rise c actor s ask a h.0.1.fits h.0.1.is
+link_cause ns at actor s ask (Some c) rise (Err ends.Fault) h = let up = h.1 refl in let k : 0 < rise + 0 = omega arith in k
+link_cause ns at actor s ask (Some c) rise (Err ends.Unreadable) h = inl h.0.1
+link_cause ns at actor s ask (Some c) rise (Err ends.OutOfMemory) h = tt
+
+store_cause : (ns : List NodeEntry) (at : Place) (actor : ActorKey) (s : Stamp) (ask : StoreAsk) (xs : List Exchange) (got : Got) → IsStoreExchange (store_command actor s ask) at xs got → AnswerHasCause ns xs (store_answer (wanted_of ask) got)
+store_cause ns at actor s ask [] got x = subst (λ (g : Got). AnswerHasCause ns [] (store_answer (wanted_of ask) g)) (sym x) tt
+store_cause ns at actor s ask (x ∷ []) got h = link_cause ns x.at actor s ask x.link x.rise got h.1
+store_cause ns at actor s ask (x ∷ y ∷ xs) got h = absurd h
+
+-- ---- steps
+
+-- a step's reply is one of its entry
+step_reply : (part : ℕ) (event : PartEvent) (said : Said) (r : PartReply) → said ≡ Ok r → HasReply r (at_part part (one_entry event said))
+step_reply part event (Ok reply) r e = inl (let k : reply ≡ r = cc in k)
+step_reply part event (Err spent) r e = absurd (let h : ⊥ = cc in h)
+
+call_reply : (part : ℕ) (event : TimerEvent) (said : BookSaid) (r : TimerReply) → said ≡ Ok r → HasBookReply r (at_book part (one_entry event said))
+call_reply part event (Ok reply) r e = inl (let k : reply ≡ r = cc in k)
+call_reply part event (Err spent) r e = absurd (let h : ⊥ = cc in h)
+
+-- what a step came to is a reply of these entries, or want of memory
+abbrev Told : Said → List NodeEntry → Type 0
+Told said ns = (r : PartReply) → said ≡ Ok r → (r ≡ replies.OutOfMemory) ⊎ HasReply r ns
+
+step_told : (part : ℕ) (after : Seats) (event : PartEvent) (ns : List NodeEntry) (said : Said) → IsStep part after event ns said → Told said ns
+step_told part after event ns said h r e = inr (subst (HasReply r) (sym h.entries) (step_reply part event said r e))
+
+holds_told : (node : SidecarNode) (after : Seats) (actor : ActorKey) (ns : List NodeEntry) (said : Said) → Holds node after actor ns said → Told said ns
+holds_told node after actor ns said h r e = elim h [
+  | inl step ↦ step_told (part_at node actor) after (Hold actor) ns said step r e
+  | inr none ↦ inl (let i = none.1 in let k : r ≡ replies.OutOfMemory = cc in k)
+]
+
+refusal_cause : (reply : PartReply) (ns : List NodeEntry) (xs : List Exchange) → Told (Ok reply) ns → AnswerHasCause ns xs (refused (refusal_of reply))
+refusal_cause replies.NotActive ns xs says = elim (says replies.NotActive refl) [ inl e ↦ absurd (let h : ⊥ = cc in h) | inr h ↦ h ]
+refusal_cause replies.Stopped ns xs says = elim (says replies.Stopped refl) [ inl e ↦ absurd (let h : ⊥ = cc in h) | inr h ↦ h ]
+refusal_cause (replies.Spent count) ns xs says = tt
+refusal_cause reply ns xs says = tt
+
+told_left : (said : Said) (ms ns : List NodeEntry) → Told said ms → Told said (ms ++ ns)
+told_left said ms ns says r e = elim (says r e) [ inl memory ↦ inl memory | inr h ↦ inr (reply_left r ms ns h) ]
+
+-- ---- answers after a hold
+
+module _ (ns : List NodeEntry) (xs : List Exchange) where
+  released_cause : (reply : PartReply) (answer : ApiReply) → (reply ≡ replies.Stopped → HasReply replies.Stopped ns) → AnswerHasCause ns xs answer → AnswerHasCause ns xs (released_answer reply answer)
+  released_cause replies.Stopped answer stop cause = stop refl
+  released_cause reply answer stop cause = cause
+
+  held_cause : (w : Wanted) (said : Said) (got : Got) → (said ≡ Ok replies.Stopped → HasReply replies.Stopped ns) → AnswerHasCause ns xs (store_answer w got) → AnswerHasCause ns xs (held_answer w said got)
+  held_cause w (Err spent) got stop cause = tt
+  held_cause w (Ok reply) (Ok a) stop cause = released_cause reply (store_answer w (Ok a)) (λ e. stop (ap (λ (r : PartReply). Ok r) e)) cause
+  held_cause w (Ok reply) (Err ends.Fault) stop cause = released_cause reply (store_answer w (Err ends.Fault)) (λ e. stop (ap (λ (r : PartReply). Ok r) e)) cause
+  held_cause w (Ok reply) (Err ends.Unreadable) stop cause = released_cause reply (store_answer w (Err ends.Unreadable)) (λ e. stop (ap (λ (r : PartReply). Ok r) e)) cause
+  held_cause w (Ok reply) (Err ends.OutOfMemory) stop cause = tt
+
+  book_cause : (r : TimerReply) → (r ≡ book.Full → HasBookReply book.Full ns) → AnswerHasCause ns xs (book_answer r)
+  book_cause book.Full full = full refl
+  book_cause r full = tt
+
+  kept_cause : (reply : PartReply) (r : TimerReply) → (reply ≡ replies.Stopped → HasReply replies.Stopped ns) → (r ≡ book.Full → HasBookReply book.Full ns) → AnswerHasCause ns xs (kept_answer reply r)
+  kept_cause reply book.OutOfMemory stop full = tt
+  kept_cause reply r stop full = released_cause reply (book_answer r) stop (book_cause r full)
+
+  timer_cause : (said : Said) (got : BookSaid) → (said ≡ Ok replies.Stopped → HasReply replies.Stopped ns) → (got ≡ Ok book.Full → HasBookReply book.Full ns) → AnswerHasCause ns xs (timer_answer said got)
+  timer_cause (Err spent) got stop full = tt
+  timer_cause (Ok reply) (Err spent) stop full = tt
+  timer_cause (Ok reply) (Ok r) stop full = kept_cause reply r (λ e. stop (ap (λ (x : PartReply). Ok x) e)) (λ e. full (ap (λ (x : TimerReply). Ok x) e))
+
+-- ---- requests
+
+after_hold : (node : SidecarNode) (store : Address) (after : Seats) (actor : ActorKey) (ask : StoreAsk) (said : Said) (first last : ℕ) (front back : List NodeEntry) (xs : List Exchange) (answer : ApiReply)
+    → Told said front → AfterHold node store after actor ask said first last back xs answer → AnswerHasCause (front ++ back) xs answer
+after_hold node store after actor ask (Ok (replies.Held n)) first last front back xs answer says h =
+    subst (AnswerHasCause (front ++ back) xs) (sym h.answered)
+    (held_cause (front ++ back) xs (wanted_of ask) h.said h.got
+    (λ e. reply_right replies.Stopped front back (subst (HasReply replies.Stopped) (sym h.release.entries) (step_reply (part_at node actor) (Release actor last) h.said replies.Stopped e)))
+    (store_cause (front ++ back) (place_at store) actor (stamp_of node actor n) ask xs h.got h.exchange))
+after_hold node store after actor ask (Ok reply) first last front back xs answer says h =
+    subst (AnswerHasCause (front ++ back) xs) (sym h.1) (refusal_cause reply (front ++ back) xs (told_left (Ok reply) front back says))
+after_hold node store after actor ask (Err spent) first last front back xs answer says h = subst (AnswerHasCause (front ++ back) xs) (sym h.1) tt
+
+state_cause : (node : SidecarNode) (store : Address) (after : Seats) (actor : ActorKey) (ask : StoreAsk) (first last : ℕ) (ns : List NodeEntry) (xs : List Exchange) (answer : ApiReply) → IsStateServed node store after actor ask first last ns xs answer → AnswerHasCause ns xs answer
+state_cause node store after actor ask first last ns xs answer h =
+    subst (λ (ms : List NodeEntry). AnswerHasCause ms xs answer) (sym h.entries)
+    (after_hold node store after actor ask h.said first last h.front h.back xs answer (holds_told node after actor h.front h.said h.holds) h.follows)
+
+after_draw : (node : SidecarNode) (store : Address) (actor : ActorKey) (ask : StoreAsk) (said : Said) (ns : List NodeEntry) (xs : List Exchange) (answer : ApiReply) → Told said ns → AfterDraw node store actor ask said xs answer → AnswerHasCause ns xs answer
+after_draw node store actor ask (Ok (replies.Drawn n)) ns xs answer says h =
+    subst (AnswerHasCause ns xs) (sym h.answered) (store_cause ns (place_at store) actor (stamp_of node actor n) ask xs h.got h.exchange)
+after_draw node store actor ask (Ok reply) ns xs answer says h = subst (AnswerHasCause ns xs) (sym h.1) (refusal_cause reply ns xs says)
+after_draw node store actor ask (Err spent) ns xs answer says h = subst (AnswerHasCause ns xs) (sym h.1) tt
+
+write_cause : (node : SidecarNode) (store : Address) (after : Seats) (actor : ActorKey) (ask : StoreAsk) (ns : List NodeEntry) (xs : List Exchange) (answer : ApiReply) → IsWriteServed node store after actor ask ns xs answer → AnswerHasCause ns xs answer
+write_cause node store after actor ask ns xs answer h = after_draw node store actor ask h.said ns xs answer (step_told (part_at node actor) after Draw ns h.said h.draws) h.follows
+
+after_timer : (node : SidecarNode) (after : Seats) (actor : ActorKey) (event : TimerEvent) (said : Said) (first last : ℕ) (front back : List NodeEntry) (xs : List Exchange) (answer : ApiReply)
+    → Told said front → AfterTimerHold node after actor event said first last back answer → AnswerHasCause (front ++ back) xs answer
+after_timer node after actor event (Ok (replies.Held n)) first last front back xs answer says h =
+    let p = part_at node actor in
+    let calls = at_book p (one_entry event h.got) in
+    let ends_ = at_part p (one_entry (Release actor last) h.said) in
+    subst (AnswerHasCause (front ++ back) xs) (sym h.answered)
+    (timer_cause (front ++ back) xs h.said h.got
+    (λ e. reply_right replies.Stopped front back (subst (HasReply replies.Stopped) (sym h.entries) (reply_right replies.Stopped calls ends_ (step_reply p (Release actor last) h.said replies.Stopped e))))
+    (λ e. book_right book.Full front back (subst (HasBookReply book.Full) (sym h.entries) (book_left book.Full calls ends_ (call_reply p event h.got book.Full e)))))
+after_timer node after actor event (Ok reply) first last front back xs answer says h =
+    subst (AnswerHasCause (front ++ back) xs) (sym h.1) (refusal_cause reply (front ++ back) xs (told_left (Ok reply) front back says))
+after_timer node after actor event (Err spent) first last front back xs answer says h = subst (AnswerHasCause (front ++ back) xs) (sym h.1) tt
+
+timers_cause : (node : SidecarNode) (after : Seats) (actor : ActorKey) (event : TimerEvent) (first last : ℕ) (ns : List NodeEntry) (xs : List Exchange) (answer : ApiReply) → IsTimerServed node after actor event first last ns xs answer → AnswerHasCause ns xs answer
+timers_cause node after actor event first last ns xs answer h =
+    subst (λ (ms : List NodeEntry). AnswerHasCause ms xs answer) (sym h.entries)
+    (after_timer node after actor event h.said first last h.front h.back xs answer (holds_told node after actor h.front h.said h.holds) h.follows)
+
+pub record_causes : (node : SidecarNode) (store : Address) (after : Seats) (command : ApiCommand) (first last : ℕ) (ns : List NodeEntry) (xs : List Exchange) (answer : ApiReply)
+    → IsRecordServed node store after command first last ns xs answer → AnswerHasCause ns xs answer
+record_causes node store after (commands.Transact actor ops) first last ns xs answer h = state_cause node store after actor (asks.Transact ops) first last ns xs answer h
+record_causes node store after (commands.GetState actor key) first last ns xs answer h = state_cause node store after actor (asks.GetState key) first last ns xs answer h
+record_causes node store after (commands.PutReminder actor name reminder) first last ns xs answer h = write_cause node store after actor (asks.PutReminder name reminder) ns xs answer h.1
+record_causes node store after (commands.GetReminder actor name) first last ns xs answer h =
+    let a = h.2 in subst (AnswerHasCause ns xs) (sym a.answered) (store_cause ns (place_at store) actor (stamp_of node actor 0) (asks.GetReminder name) xs a.got a.exchange)
+record_causes node store after (commands.DeleteReminder actor name) first last ns xs answer h = write_cause node store after actor (asks.DeleteReminder name) ns xs answer h.1
+record_causes node store after (commands.SetTimer actor name timer) first last ns xs answer h = timers_cause node after actor (timers.Set actor name timer) first last ns xs answer h
+record_causes node store after (commands.DeleteTimer actor name) first last ns xs answer h = timers_cause node after actor (timers.Delete actor name) first last ns xs answer h
+record_causes node store after (commands.Invoke actor method chain least) first last ns xs answer h = absurd h

@@ -1,0 +1,5 @@
+mod Held
+mod Causes
+mod Examples
+mod Requests
+mod Sessions

@@ -1,0 +1,6 @@
+pub mod Asks
+pub mod Outcomes
+pub mod Serving
+pub mod Causes
+pub mod Requests
+pub mod Sessions

@@ -1,0 +1,81 @@
+// What a request asks of the store.
+ghost use Rattle.std.specs.Prelude.{◌≡◌};
+ghost use Rattle.sidecar_requests.specs.Asks.{store_command, wanted_of};
+
+use actor_names::{ActorKey, RecordName};
+use frame_wire::{Stamp, StateOps, StoreCommand};
+use reminder_rows::Reminder;
+use state_rows::StateKey;
+
+/// What a request asks of the store for its actor.
+#[derive(Drop)]
+pub enum StoreAsk {
+    /// Operations on the actor's state, all or none.
+    Transact {
+        ops: StateOps,
+    },
+    /// The value under a key.
+    GetState {
+        key: StateKey,
+    },
+    /// A reminder in place of one of the same name.
+    PutReminder {
+        name: RecordName,
+        reminder: Reminder,
+    },
+    /// The reminder of this name.
+    GetReminder {
+        name: RecordName,
+    },
+    /// No reminder of this name any more.
+    DeleteReminder {
+        name: RecordName,
+    },
+}
+
+/// Which of these a request asks.
+#[derive(Clone, Copy)]
+pub enum Wanted {
+    Transaction,
+    State,
+    PutReminder,
+    Reminder,
+    DeleteReminder,
+}
+
+impl StoreAsk {
+    // Which of these it is.
+    pub(crate) fn wanted(&self) -> Wanted
+        ensures { result ≡ wanted_of self.now }
+    {
+        match self {
+            StoreAsk::Transact { .. } => Wanted::Transaction,
+            StoreAsk::GetState { .. } => Wanted::State,
+            StoreAsk::PutReminder { .. } => Wanted::PutReminder,
+            StoreAsk::GetReminder { .. } => Wanted::Reminder,
+            StoreAsk::DeleteReminder { .. } => Wanted::DeleteReminder,
+        }
+    }
+
+    // The command for the actor. It takes no memory.
+    pub(crate) fn into_command(self, actor: ActorKey, stamp: Stamp) -> StoreCommand
+        ensures { result ≡ store_command actor stamp self }
+    {
+        match self {
+            StoreAsk::Transact { ops } => StoreCommand::Tx { stamp, actor, ops },
+            StoreAsk::GetState { key } => StoreCommand::Get { actor, key },
+            StoreAsk::PutReminder { name, reminder } => StoreCommand::PutReminder {
+                stamp,
+                actor,
+                name,
+                reminder,
+            },
+            StoreAsk::GetReminder { name } => StoreCommand::GetReminder { actor, name },
+            StoreAsk::DeleteReminder { name } => StoreCommand::DeleteReminder {
+                stamp,
+                actor,
+                name,
+            },
+        }
+    }
+}

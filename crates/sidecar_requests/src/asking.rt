@@ -1,0 +1,67 @@
+// One exchange with the store for an actor.
+ghost use Rattle.std.specs.Prelude.{◌≡◌, List};
+ghost use Rattle.exchanges.specs.Exchanges.{Exchange, Dialling};
+ghost use Rattle.exchanges.specs.Replies.{place_at};
+ghost use Rattle.exchanges.specs.Asked.{IsStoreExchange};
+ghost use Rattle.sidecar_requests.specs.Asks.{store_command};
+ghost use Rattle.sidecar_requests.specs.Serving.{stamp_of, IsAsked};
+
+use crate::ask::StoreAsk;
+use crate::outcomes::store_answer;
+use actor_names::{ActorKey, Address};
+use actor_ports::Dial;
+use actors_api::ApiReply;
+use exchanges::{StoreEnd, ask_store};
+use frame_wire::{Stamp, StoreAnswer};
+use sidecar_node::SidecarNode;
+use std::alloc::Global;
+
+// The stamp of a number that the actor's part drew.
+fn stamp_of(node: &SidecarNode, actor: &ActorKey, n: u64) -> Stamp
+    ensures { result ≡ stamp_of node.now actor.now n }
+{
+    let _parts = node.parts();
+    let part = node.part_of(actor);
+    Stamp {
+        member: node.host().member,
+        part: part as u8,
+        number: n,
+    }
+}
+
+/// Asks the store, with this number in the stamp of a command that writes.
+pub(crate) fn ask_with<L: Dial>(
+    alloc: Global,
+    node: &SidecarNode,
+    actor: ActorKey,
+    ask: StoreAsk,
+    n: u64,
+    store: &mut L,
+    at: &Address,
+) -> Result<StoreAnswer, StoreEnd>
+    ensures { (xs : List Exchange)
+        × IsStoreExchange (store_command actor (stamp_of node.now actor n) ask) (place_at at.now) xs result
+        × Dialling xs (L.dialled store.old) (L.dialled store.new) (L.dial_faults store.old) (L.dial_faults store.new) }
+{
+    let stamp = stamp_of(node, &actor, n);
+    let command = ask.into_command(actor, stamp);
+    ask_store(alloc, store, at, command)
+}
+
+/// The same, and what the exchange comes to.
+pub(crate) fn serve_asked<L: Dial>(
+    alloc: Global,
+    node: &SidecarNode,
+    actor: ActorKey,
+    ask: StoreAsk,
+    n: u64,
+    store: &mut L,
+    at: &Address,
+) -> ApiReply
+    ensures { (xs : List Exchange) × IsAsked node.now at.now actor ask n xs result
+        × Dialling xs (L.dialled store.old) (L.dialled store.new) (L.dial_faults store.old) (L.dial_faults store.new) }
+{
+    let wanted = ask.wanted();
+    let got = ask_with(alloc, node, actor, ask, n, store, at);
+    store_answer(wanted, got)
+}

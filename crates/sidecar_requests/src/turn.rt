@@ -1,0 +1,46 @@
+// One request of a session.
+ghost use Rattle.std.specs.Prelude.{◌≡◌, ◌<◌, ◌≤◌};
+ghost use Rattle.http_edge.specs.Requests.{EdgeCause};
+ghost use Rattle.http_session.specs.Rounds.{Turns};
+ghost use Rattle.sidecar_node.specs.Nodes.{IsSeatsOf};
+ghost use Rattle.sidecar_requests.specs.Sessions.{IsAnswered, standing};
+
+use crate::serving::serve_one;
+use actor_ports::{Clock, Conn, Dial};
+use actors_api::{Side, write_api};
+use exchanges::Links;
+use http_edge::{EdgeError, HttpRequest};
+use http_session::write_sent;
+use sidecar_node::{Seats, SidecarNode};
+use std::alloc::Global;
+use std::sync::Wait;
+
+/// Serves a request, and writes the response of its answer.
+pub(crate) fn take_turn<R: Wait, C: Conn, L: Dial, K: Clock>(
+    rt: &R,
+    alloc: Global,
+    node: &SidecarNode,
+    seats: Seats,
+    side: Side,
+    request: &HttpRequest,
+    conn: &mut C,
+    links: &mut Links<L>,
+    clock: &mut K,
+) -> (Seats, Result<(), EdgeError>)
+    requires { IsSeatsOf node.now seats }
+    ensures seats { IsSeatsOf node.now result.0 }
+    ensures turn { Turns (IsAnswered side)
+        (standing L.dialled L.dial_faults K.shown node.now seats links.old clock.old)
+        (standing L.dialled L.dial_faults K.shown node.now result.0 links.new clock.new)
+        request.now (C.read_traffic conn.old) (C.read_traffic conn.new) result.1 }
+    ensures cause { EdgeCause (C.read_faults conn.old) (C.read_faults conn.new) result.1 }
+{
+    let (seats, reply) = serve_one(rt, alloc, node, seats, side, request, links, clock);
+    match write_api(alloc, side, &reply) {
+        Err(_) => (seats, Err(EdgeError::OutOfMemory)),
+        Ok(response) => {
+            let written = write_sent(alloc, response, request.close, conn);
+            (seats, written)
+        }
+    }
+}

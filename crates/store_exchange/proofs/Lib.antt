@@ -1,4 +1,0 @@
-mod Answering
-mod Dialled
-mod Fitting
-mod Examples

@@ -1,5 +1,0 @@
-use Rattle.store_exchange.proofs.Fitting.{moment_fits}
-use Rattle.store_exchange.proofs.rows.fits_moment.Goals as goal
-
-pub returns : goal.returns
-returns c = moment_fits c.args.one (rw c.nanos-nanos.ensures.value at c.nanos-nanos.ensures.range)

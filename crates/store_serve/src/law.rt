@@ -1,7 +1,0 @@
-// What the store answers to what a session gives it.
-ghost use Rattle.store_serve.specs.Laws.{AnswersCommands};
-
-/// Each outcome of a frame that is sent to the store is an answer, whose fields have their forms and ranges.
-pub fn store_serve_law()
-    ensures { AnswersCommands }
-{}

@@ -1,4 +1,0 @@
-mod Rows
-mod RoundSteps
-mod Sendings
-mod Targets

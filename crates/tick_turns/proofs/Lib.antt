@@ -1,9 +1,0 @@
-pub mod Texts
-pub mod Turns
-pub mod Fires
-pub mod Dues
-pub mod Counts
-pub mod Goings
-pub mod Causes
-pub mod Ticks
-pub mod Laws

@@ -1,5 +1,0 @@
-pub mod Callbacks
-pub mod Timers
-pub mod Ends
-pub mod Ticks
-pub mod Laws
