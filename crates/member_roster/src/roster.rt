@@ -127,6 +127,13 @@ impl Roster {
         }
     }
 
+    /// Whether it is one of the members.
+    pub fn is_here(&self, member: &Member) -> bool
+        ensures { result ≡ is_here self.now.members member.now }
+    {
+        member_place(&self.hosts, member).is_some()
+    }
+
     /// Whether the member of this member's node is pending, in whichever boot.
     pub fn is_pending(&self, member: &Member) -> bool
         ensures { result ≡ is_pending self.now.members member.now }

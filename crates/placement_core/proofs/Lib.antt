@@ -1,3 +1,4 @@
+mod Beats
 mod Durable
 pub mod Ordered
 mod Orders

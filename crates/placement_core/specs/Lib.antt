@@ -5,4 +5,5 @@ pub mod Kept
 pub mod Readings
 pub mod Views
 pub mod Runs
+pub mod Beats
 pub mod Sound

@@ -1,9 +1,10 @@
 // The placement: one step at a time, each in the room of its space.
-ghost use Rattle.std.specs.Prelude.{◌≡◌, ◌↔◌, ◌<◌, ◌≤◌, [], Some, None, IfOk, OnOk, OnErr, length, map, option_map};
+ghost use Rattle.std.specs.Prelude.{◌≡◌, ◌↔◌, ◌<◌, ◌≤◌, [], Some, None, IfOk, IfSome, OnOk, OnErr, length, map, option_map};
 ghost use Rattle.std.specs.List.{AllByRecursion, slice_get};
 ghost use Rattle.member_roster.specs.Members.{hosts_of, is_late, Joined};
 ghost use Rattle.member_roster.specs.Places.{Ascends, host_node};
 ghost use Rattle.round_core.specs.Room.{last_version};
+ghost use Rattle.placement_core.specs.Beats.{IsQuietBeat};
 ghost use Rattle.placement_core.specs.Entries.{placement_record, placement_restart_record};
 ghost use Rattle.placement_core.specs.Kept.{kept, kept_entries, kept_space, shown};
 ghost use Rattle.placement_core.specs.Placement.{SpaceRoom, new_placement, room_at, room_of, placement_restarted};
@@ -15,7 +16,7 @@ ghost use Rattle.placement_core.specs.Views.{ActsIn, Gives, GivesInMemory, Gives
 use crate::entry::RoomEntry;
 use crate::rooms::Rooms;
 use crate::sweep::KeptRoom;
-use actor_names::{OutOfMemory, Space, default_space};
+use actor_names::{Member, OutOfMemory, Space, default_space};
 use place_table::HostInfo;
 use round_core::{PlaceEvent, PlaceReply, Room};
 use std::alloc::Global;
@@ -216,6 +217,17 @@ impl Placement {
             return false;
         }
         self.rooms.room_at(at).is_late(member, now)
+    }
+
+    /// What a Beat of this member is answered, if it changes nothing but the moment at which the member was heard,
+    /// whenever it comes: it leaves no record, and takes no memory. None if more may change, or if it is no member.
+    pub fn beat_reply(&self, member: &Member) -> Option<PlaceReply>
+        ensures { IfSome result (λ reply. IsQuietBeat self.now.state member.now reply) }
+    {
+        match self.rooms.room(&member.space) {
+            Some(room) => room.beat_reply(member),
+            None => None,
+        }
     }
 
     /// The entry at this index, counted from 0, of what has to be on the disk before the reply of the last step or

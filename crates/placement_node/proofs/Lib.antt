@@ -2,6 +2,7 @@ pub mod Fits
 pub mod Laws
 pub mod Opens
 pub mod Pushes
+pub mod Quiet
 pub mod Reading
 pub mod Restarting
 pub mod Rising

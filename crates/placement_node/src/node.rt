@@ -13,15 +13,16 @@ ghost use Rattle.placement_node.specs.Node.{NodeMoves};
 ghost use Rattle.placement_node.specs.Openings.{OpensNode, KeepsNode, RefusesNode, IsNodeError, CommitsRestart, CommittedRestart, RefusesRestart, NodeCosts, write_error};
 ghost use Rattle.placement_node.specs.Ranges.{EventFits, RecordFits, ReplyFits, StateFits};
 ghost use Rattle.placement_node.specs.Replies.{refused, LooksAt};
-ghost use Rattle.placement_node.specs.Trials.{Tries};
+ghost use Rattle.placement_node.specs.Trials.{IsQuiet, Tries};
 ghost use Rattle.placement_node.specs.Writes.{Keeps, answered, refusal_of};
 
 use crate::answer::{refused, seen_rooms};
 use crate::error::PlacementOpenError;
 use crate::found::follow_all;
 use crate::reply::NodeReply;
-use crate::trial::{Tried, try_step};
+use crate::trial::{Tried, quiet_answer, try_step};
 use crate::written::{Kept, write_record};
+use actor_names::OutOfMemory;
 use disk_model::Disk;
 use frame_wire::Refusal;
 use placement_core::{Placement, PlacementReplay};
@@ -200,8 +201,47 @@ impl<D: Disk> PlacementNode<D> {
         self.change(event, now)
     }
 
-    // A step of a node that has met no fault.
+    // A step of a node that has met no fault. A Beat is made in place where nothing else changes by it.
     fn change(&mut self, event: PlaceEvent, now: u64) -> NodeReply
+        requires works { self.old.journal.is_broken ≡ false }
+        requires sent { EventFits event }
+        ensures moves { NodeMoves self.old (record { event = event; now = now }) result self.new }
+        ensures fits { ReplyFits result }
+    {
+        match self.quiet_answer(&event) {
+            None => self.change_by_copy(event, now),
+            Some(Ok(answer)) => self.hear(event, now, answer),
+            Some(Err(_)) => {
+                drop(event);
+                refused(Refusal::OutOfMemory)
+            }
+        }
+    }
+
+    // The answer to a Beat by which nothing but the moment changes at which its member was heard.
+    fn quiet_answer(&self, event: &PlaceEvent) -> Option<Result<NodeReply, OutOfMemory>>
+        requires { EventFits event.now }
+        ensures { IfSome result (λ made. IfOk made (λ answer. IsQuiet self.now.state event.now answer)) }
+    {
+        quiet_answer(self.alloc, &self.placement, event)
+    }
+
+    // A Beat that is made in place, and has this answer.
+    fn hear(&mut self, event: PlaceEvent, now: u64, answer: NodeReply) -> NodeReply
+        requires works { self.old.journal.is_broken ≡ false }
+        requires sent { EventFits event }
+        requires quiet { IsQuiet self.old.state event answer }
+        ensures moves { NodeMoves self.old (record { event = event; now = now }) result self.new }
+        ensures fits { ReplyFits result }
+    {
+        let _before = self.placement.rooms();
+        let _reply = self.placement.step(event, now);
+        let _rooms = self.placement.rooms();
+        answer
+    }
+
+    // A step that is tried on a copy of the placement, which is kept once its record is written.
+    fn change_by_copy(&mut self, event: PlaceEvent, now: u64) -> NodeReply
         requires works { self.old.journal.is_broken ≡ false }
         requires sent { EventFits event }
         ensures moves { NodeMoves self.old (record { event = event; now = now }) result self.new }

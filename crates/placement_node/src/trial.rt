@@ -1,10 +1,11 @@
-// A step that is tried on a copy of the placement, so that it can be given up.
-ghost use Rattle.std.specs.Prelude.{◌≡◌, ◌≢◌, IfSome};
+// A step that is tried on a copy of the placement, so that it can be given up, and one that needs no copy.
+ghost use Rattle.std.specs.Prelude.{◌≡◌, ◌≢◌, IfOk, IfSome};
 ghost use Rattle.placement_node.specs.Ranges.{EventFits, StateFits};
-ghost use Rattle.placement_node.specs.Trials.{Tries};
+ghost use Rattle.placement_node.specs.Trials.{IsQuiet, Tries};
 
 use crate::answer::{event_space, reply_of};
 use crate::reply::NodeReply;
+use actor_names::{Member, OutOfMemory};
 use placement_core::Placement;
 use round_core::{PlaceEvent, PlaceReply};
 use std::alloc::Global;
@@ -24,6 +25,33 @@ fn had_memory(reply: PlaceReply) -> Option<PlaceReply>
         PlaceReply::OutOfMemory => None,
         reply => Some(reply),
     }
+}
+
+// The member whose Beat it is; `None` if it is another event.
+fn beat_of(event: &PlaceEvent) -> Option<Member>
+    ensures { IfSome result (λ member. event.now ≡ PlaceEvent.Beat member) }
+{
+    match event {
+        PlaceEvent::Beat { member } => Some(*member),
+        _ => None,
+    }
+}
+
+/// The answer to a Beat that changes nothing but the moment at which its member was heard, unless there is no memory for
+/// it. `None` if it is another event, or one that may change more.
+pub(crate) fn quiet_answer(
+    alloc: Global,
+    placement: &Placement,
+    event: &PlaceEvent,
+) -> Option<Result<NodeReply, OutOfMemory>>
+    requires sent { EventFits event.now }
+    requires kept { StateFits placement.now.state }
+    ensures { IfSome result (λ made. IfOk made (λ answer. IsQuiet placement.now.state event.now answer)) }
+{
+    let _rooms = placement.rooms();
+    let member = beat_of(event)?;
+    let reply = placement.beat_reply(&member)?;
+    Some(reply_of(alloc, placement, &member.space, reply))
 }
 
 /// Tries a step on a copy of the placement. `None` if there is no memory.

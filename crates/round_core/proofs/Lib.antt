@@ -1,3 +1,4 @@
+pub mod Beats
 mod Books
 pub mod Durable
 mod Giving

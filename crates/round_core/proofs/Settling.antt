@@ -68,7 +68,7 @@ near_waits s (inr l) = go (any_pending s.members)
 fully_waits : (s : RoomState) → advance_round (advance_fully s) ≡ advance_fully s
 fully_waits s = near_waits (advance_fully s) (fully_nears s)
 
-waits_fully : (s : RoomState) → advance_round s ≡ s → advance_fully s ≡ s
+pub waits_fully : (s : RoomState) → advance_round s ≡ s → advance_fully s ≡ s
 waits_fully s e = ap (λ (t : RoomState). advance_round (advance_round t)) e ∙ ap advance_round e ∙ e
 
 -- ---- no round can start

@@ -5,4 +5,5 @@ pub mod Views
 pub mod Runs
 pub mod Reached
 pub mod Settled
+pub mod Beats
 pub mod Sound

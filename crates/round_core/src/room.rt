@@ -1,5 +1,5 @@
 // One room of a placement: one step at a time, with the record of each.
-ghost use Rattle.std.specs.Prelude.{◌≡◌, ◌↔◌, ◌==◌, ◌||◌, ◌+◌, ◌<◌, ◌≤◌, List, not, nat_lt, is_some, false, [], Some, None, map, IfOk, IfErr, OnOk, OnErr, ℕ, length, option_map};
+ghost use Rattle.std.specs.Prelude.{◌≡◌, ◌↔◌, ◌==◌, ◌||◌, ◌+◌, ◌<◌, ◌≤◌, List, not, nat_lt, is_some, false, [], Some, None, map, IfOk, IfErr, IfSome, OnOk, OnErr, ℕ, length, option_map};
 ghost use Rattle.std.specs.Option.{option_copied};
 ghost use Rattle.std.specs.declared.result.Result.TheVariants.{Ok};
 ghost use Rattle.std.specs.List.{slice_get};
@@ -7,6 +7,7 @@ ghost use Rattle.member_roster.specs.Members.{hosts_of, of_node, Joined, is_late
 ghost use Rattle.round_core.specs.Room.{room_restarted, new_room, last_version, settle_round, is_full, with_joined, SameDurableState};
 ghost use Rattle.member_roster.specs.Places.{Ascends, host_node};
 ghost use Rattle.round_core.specs.Records.{record_of, restart_record, room_restored, restored_record, IsBadAt};
+ghost use Rattle.round_core.specs.Beats.{IsQuietBeat};
 ghost use Rattle.round_core.specs.Runs.{RunEvent, ForgetsNothing, run_state, run_records};
 ghost use Rattle.round_core.specs.Sound.{BringsFewTypes, HaveFewTypes, IsRoomSound};
 ghost use Rattle.round_core.specs.declared.restore.RestoreError.TheVariants.{OutOfMemory as out_of_memory};
@@ -219,6 +220,18 @@ impl Room {
         ensures { result ≡ last_version self.now.state }
     {
         self.rounds.next_version() - 1
+    }
+
+    /// What a Beat of this member is answered, if it changes nothing but the moment at which the member was heard,
+    /// whenever it comes. None if more may change, or if it is no member.
+    pub fn beat_reply(&self, member: &Member) -> Option<PlaceReply>
+        ensures { IfSome result (λ reply. IsQuietBeat self.now.state member.now reply) }
+    {
+        if self.rounds.is_here(member) && self.rounds.is_resting() {
+            Some(self.rounds.reply_for(member))
+        } else {
+            None
+        }
     }
 
     /// The part of the last step that has to be on the disk before its reply goes out, if any; lending it takes no

@@ -4,6 +4,7 @@ ghost use Rattle.std.specs.List.{slice_get};
 ghost use Rattle.member_roster.specs.Members.{is_here, is_pending, with_node, without_node, heard_at, hosts_of, boot_of, of_node, greatest_boot, Joined, is_late, late_of, removed_until, removes_all};
 ghost use Rattle.round_core.specs.Room.{room_restarted, new_room, advance_round, start_round, settle_round, advance_fully, may_start, is_in_stage, is_full, with_joined, drop_late, reply_for, last_version, ack_change};
 ghost use Rattle.member_roster.specs.Places.{Ascends, host_node};
+ghost use Rattle.round_core.specs.Beats.{IsResting};
 ghost use Rattle.round_core.specs.Records.{may_join};
 ghost use Rattle.round_core.specs.Views.{with_state};
 
@@ -151,6 +152,24 @@ impl Rounds {
             stage: AckStage::Lock,
         };
         self.dirty = false;
+    }
+
+    /// Whether a member that is heard makes no stage go on, and no round start.
+    pub(crate) fn is_resting(&self) -> bool
+        ensures { IsTrue result → IsResting self.now.state }
+    {
+        let waits = match self.phase {
+            RoundPhase::Quiet => true,
+            RoundPhase::Running { stage: _ } => self.roster.any_pending(),
+        };
+        waits && !self.may_start()
+    }
+
+    /// Whether it is one of the members.
+    pub(crate) fn is_here(&self, member: &Member) -> bool
+        ensures { result ≡ is_here self.now.state.members member.now }
+    {
+        self.roster.is_here(member)
     }
 
     /// Advances the running round, and starts a new one if it is due.

@@ -25,8 +25,8 @@ pub enum ServerEnd {
 
 /// Accepts connections until `most` were served or the service is over, and serves each by `serve` in a thread of its own.
 /// One beyond those that the service takes at once waits to be accepted. While no thread can be made, a connection waits,
-/// with pauses, and is closed if the service is over first. Before each accept it makes a turn of each work from number `idle` on. It returns when all
-/// connections have ended, and gives its pass back.
+/// with pauses, and is closed if the service is over first. Before each accept it makes a turn of each work from number
+/// `idle` on. It returns when all connections have ended, and gives its pass back.
 fn accept_all<
     R: Threads + Wait + Sync,
     V: Service<P>,

@@ -12,9 +12,9 @@ use std::sync::Wait;
 use std::thread;
 use std::thread::Threads;
 
-/// Serves the connections of a port by `serve` until `most` were served (without a limit if it is `None`), the service is over, or
-/// the port fails. Each has a thread of its own; if none can be made, it is served before the next one is accepted. So has
-/// each work of the service; one that has none gets a turn before each accept. All threads have ended when this returns.
+/// Serves the connections of a port by `serve` until `most` were served (without a limit if it is `None`), the service is
+/// over, or the port fails. Each has a thread of its own; while none can be made, it waits, with pauses. So has each work of
+/// the service; one that has none gets a turn before each accept. All threads have ended when this returns.
 pub fn serve_port<
     R: Threads + Wait + Sync,
     V: Service<P>,
