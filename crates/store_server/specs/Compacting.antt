@@ -1,5 +1,6 @@
 -- One turn of the compactions: what is asked of the store, and when the next one is due. Own.
-use Rattle.std.specs.Prelude.{◌≡◌, ◌⊎◌, ℕ, ◌*◌, Option, None, Some, nat_lt, if◌then◌else◌}
+use Rattle.std.specs.Prelude.{◌≡◌, ◌⊎◌, ℕ, ◌+◌, ◌*◌, ◌/◌, Option, None, Some, nat_le, nat_lt, if◌then◌else◌}
+use Rattle.tx_journal.specs.File.{most_bytes}
 use Rattle.tx_journal.specs.declared.error.JournalError.{JournalError}
 use Rattle.tx_journal.specs.declared.error.JournalError.TheVariants as errors
 use Rattle.step_gate.specs.Gates.{SeatOf, Adds, SeesLast}
@@ -42,12 +43,15 @@ usual_least = 67108864
 abbrev pub greatest_least : ℕ
 greatest_least = 18446744073709551615
 
-abbrev pub at_most : ℕ → ℕ → ℕ
-at_most most n = if nat_lt most n then most else n
+-- the lesser of twice so many bytes and the middle between them and the most bytes of a file
+abbrev pub grown : ℕ → ℕ
+grown len = let middle = (len + most_bytes) / 2 in if nat_lt (len * 2) middle then len * 2 else middle
 
--- twice what the last compaction left, as far as a number of 64 bits goes, or the usual length where that is more
+-- the least length after a compaction that left so many bytes, which is less than a file may have
 abbrev pub next_least : ℕ → ℕ
-next_least len = let twice = at_most greatest_least (len * 2) in if nat_lt twice usual_least then usual_least else twice
+next_least len =
+    if nat_le most_bytes len then most_bytes
+    else (if nat_lt (grown len) usual_least then usual_least else grown len)
 
 -- ---- a turn
 

@@ -2,7 +2,8 @@
 ghost use Rattle.std.specs.Prelude.{◌≡◌, ◌<◌};
 ghost use Rattle.step_gate.specs.Gates.{IsSeatOf};
 ghost use Rattle.store_core.specs.Events.{Allows};
-ghost use Rattle.store_server.specs.Compacting.{came_by, came_of, next_least, Asks, IsTurn};
+ghost use Rattle.store_server.specs.Compacting.{came_by, came_of, grown, next_least, Asks, IsTurn};
+ghost use Rattle.tx_journal.specs.File.{most_bytes};
 
 use disk_model::Disk;
 use std::sync::Wait;
@@ -12,6 +13,9 @@ use tx_journal::JournalError;
 
 /// The least length of a file that is written anew, in bytes.
 pub(crate) const USUAL_LEAST: u64 = 67_108_864;
+
+// The most bytes of a journal's file.
+const MOST_BYTES: u64 = 1_073_741_824;
 
 /// What came of a compaction, to the loop that asks for them.
 #[derive(Clone, Copy, PartialEq, Eq)]
@@ -51,17 +55,28 @@ fn came_of(outcome: &StoreOutcome) -> Compaction
     }
 }
 
-// The least length for the next compaction, after one that left `len` bytes: 67,108,864 bytes, or twice as many as were
-// left where that is more.
-fn next_least(len: u64) -> u64
-    ensures { result ≡ next_least len }
+// The lesser of twice so many bytes and the middle between them and the most bytes of a file.
+fn grown(len: u64) -> u64
+    requires { len < most_bytes }
+    ensures { result ≡ grown len }
 {
-    let twice = len.saturating_mul(2);
-    if twice < USUAL_LEAST {
-        USUAL_LEAST
-    } else {
-        twice
+    let twice = len * 2;
+    let middle = (len + MOST_BYTES) / 2;
+    if twice < middle { twice } else { middle }
+}
+
+// The least length for the next compaction, after one that left `len` bytes: 67,108,864 bytes, or `grown` where that is
+// more. So it is due before the file is full, however many bytes were left, and no more often than half of the room that
+// they left is used up.
+fn next_least(len: u64) -> u64
+    ensures is { result ≡ next_least len }
+    ensures due { len < most_bytes → result < most_bytes }
+{
+    if len >= MOST_BYTES {
+        return MOST_BYTES;
     }
+    let due = grown(len);
+    if due < USUAL_LEAST { USUAL_LEAST } else { due }
 }
 
 // Asks for one compaction.
