@@ -1,0 +1,15 @@
+mod Ties
+mod Finds
+mod Status
+mod Lasts
+mod Begins
+mod Finishes
+mod Promise
+mod Firsts
+mod Sorted
+mod Placed
+mod Counted
+mod Adding
+mod Steps
+mod Examples
+mod Window
