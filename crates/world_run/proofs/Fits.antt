@@ -31,9 +31,10 @@ use Rattle.cluster_model.specs.Invariant.{IsSafeWorld}
 use Rattle.cluster_model.proofs.Lines.{line_kept}
 use Rattle.cluster_model.proofs.Worlds.{safe_kept}
 use Rattle.world_run.specs.Post.{numbered, told_of, AgreesOn, Agrees}
+use Rattle.world_run.specs.Moments.{IsNotAt, event_at}
 use Rattle.world_run.specs.Views.{capped}
 use Rattle.cluster_model.specs.Counts.{begun_turns, over_turns}
-use Rattle.world_run.specs.Worlds.{WorldView, view_of, cluster_of, after, GivesStep, Happens, IsToldInRange, IsFit, post_of}
+use Rattle.world_run.specs.Worlds.{WorldView, view_of, cluster_of, after, GivesStep, IsStep, Happens, IsToldInRange, IsFit, post_of}
 use Rattle.world_run.proofs.Unmarked.{marked, adds, happens_marked, begun-append, ended-append, more-capped}
 
 -- ---- fits
@@ -121,21 +122,24 @@ stays_safe v u e r n safe h = elim h [
       subst (λ (z : WorldView). IsSafeWorld ring_owner (cluster_of (record z { events = n }))) (sym k.1) (record { spaces = s.spaces; tables = s.tables })
 ]
 
--- ---- the count of events
+-- ---- the count of events, and the present moment
 
-module _ (n : ℕ) where
+module _ (n present : ℕ) where
+  abbrev Has : ClusterState → Type 0
+  Has w = (w.events ≡ n) × (w.now ≡ present)
+
   abbrev Stays : WorldStep → Type 0
-  Stays s = s.world.events ≡ n
+  Stays s = Has s.world
 
-  step_stays : (w : ClusterState) (at : ℕ) (e : PartEvent) (says : PartReply → Outcome) (found : Option PartState) → w.events ≡ n → Stays (world.step_of_part ring_owner key_part w at e says found)
+  step_stays : (w : ClusterState) (at : ℕ) (e : PartEvent) (says : PartReply → Outcome) (found : Option PartState) → Has w → Stays (world.step_of_part ring_owner key_part w at e says found)
   step_stays w at e says None t = t
   step_stays w at e says (Some p) t = t
 
-  does_stays : (w : ClusterState) (o : Option ℕ) (e : PartEvent) (says : ℕ → PartReply → Outcome) → w.events ≡ n → Stays (world.part_does ring_owner key_part w o e says)
+  does_stays : (w : ClusterState) (o : Option ℕ) (e : PartEvent) (says : ℕ → PartReply → Outcome) → Has w → Stays (world.part_does ring_owner key_part w o e says)
   does_stays w None e says t = t
   does_stays w (Some at) e says t = step_stays w at e (says at) (slice_get w.parts at) t
 
-  call_stays : (w : ClusterState) (number : ℕ) (e : PartEvent) (o : Option ℕ) → w.events ≡ n → Stays (world.call_at_place ring_owner key_part w number e o)
+  call_stays : (w : ClusterState) (number : ℕ) (e : PartEvent) (o : Option ℕ) → Has w → Stays (world.call_at_place ring_owner key_part w number e o)
   call_stays w number e None t = t
   call_stays w number e (Some at) t = go (slice_get w.parts at)
     where
@@ -143,28 +147,28 @@ module _ (n : ℕ) where
       go None = t
       go (Some p) = t
 
-  end_stays : (w : ClusterState) (number : ℕ) (o : Option CallPlace) → w.events ≡ n → Stays (world.end_call ring_owner key_part w number o)
+  end_stays : (w : ClusterState) (number : ℕ) (o : Option CallPlace) → Has w → Stays (world.end_call ring_owner key_part w number o)
   end_stays w number None t = t
   end_stays w number (Some c) t = step_stays w c.place (events_of.End c.call w.now) (world.end_outcome w.calls number c.place) (slice_get w.parts c.place) t
 
-  poll_stays : (w : ClusterState) (number : ℕ) (o : Option CallPlace) → w.events ≡ n → Stays (world.poll_call ring_owner key_part w number o)
+  poll_stays : (w : ClusterState) (number : ℕ) (o : Option CallPlace) → Has w → Stays (world.poll_call ring_owner key_part w number o)
   poll_stays w number None t = t
   poll_stays w number (Some c) t = step_stays w c.place (events_of.Poll c.call) (world.call_outcome number) (slice_get w.parts c.place) t
 
-  ack_stays : (w : ClusterState) (m : Member) (o : Option declared.Ack) → w.events ≡ n → Stays (world.add_ack ring_owner key_part w m o)
+  ack_stays : (w : ClusterState) (m : Member) (o : Option declared.Ack) → Has w → Stays (world.add_ack ring_owner key_part w m o)
   ack_stays w m None t = t
   ack_stays w m (Some a) t = t
 
-  deliver_stays : (w : ClusterState) (o : Option Message) → w.events ≡ n → Stays (world.deliver w o)
+  deliver_stays : (w : ClusterState) (o : Option Message) → Has w → Stays (world.deliver w o)
   deliver_stays w None t = t
   deliver_stays w (Some (Tells m a)) t = t
   deliver_stays w (Some (Asks r)) t = t
 
-  told_stays : (w : ClusterState) (at : ℕ) (x : Option PartEvent) (found : Option PartState) → w.events ≡ n → Stays (world.told_part ring_owner key_part w at x found)
+  told_stays : (w : ClusterState) (at : ℕ) (x : Option PartEvent) (found : Option PartState) → Has w → Stays (world.told_part ring_owner key_part w at x found)
   told_stays w at None found t = t
   told_stays w at (Some e) found t = step_stays w at e world.told_outcome found t
 
-  to_stays : (w : ClusterState) (i : ℕ) (o : Option Message) → w.events ≡ n → Stays (world.to_part ring_owner key_part w i o)
+  to_stays : (w : ClusterState) (i : ℕ) (o : Option Message) → Has w → Stays (world.to_part ring_owner key_part w i o)
   to_stays w i None t = t
   to_stays w i (Some (Asks r)) t = t
   to_stays w i (Some (Tells m a)) t = go (world.place_of_part w.parts m i)
@@ -173,36 +177,50 @@ module _ (n : ℕ) where
       go None = t
       go (Some at) = told_stays w at (told_event a w.now) (slice_get w.parts at) t
 
-  ticks_stay : (w : ClusterState) (ns : List ℕ) (turns : ℕ) → w.events ≡ n → Stays (world.tick_each ring_owner key_part w ns turns)
+  ticks_stay : (w : ClusterState) (ns : List ℕ) (turns : ℕ) → Has w → Stays (world.tick_each ring_owner key_part w ns turns)
   ticks_stay w [] turns t = t
   ticks_stay w (at ∷ ns) turns t = ticks_stay (world.tick_part ring_owner key_part w at).world ns _ (step_stays w at (events_of.Tick w.now) (λ reply. out.TickEnded (world.ended_turns reply)) (slice_get w.parts at) t)
 
-  honest_stays : (w : ClusterState) (o : Option Member) → w.events ≡ n → Stays (world.honest_tick w o)
+  honest_stays : (w : ClusterState) (o : Option Member) → Has w → Stays (world.honest_tick w o)
   honest_stays w None t = t
   honest_stays w (Some m) t = t
 
-  -- `happens` doesn't count the event
-  pub events_stay : (w : ClusterState) (e : WorldEvent) → w.events ≡ n → Stays (world.happens ring_owner key_part w e)
-  events_stay w (lines.At moment) t = t
-  events_stay w (lines.Boot space node kinds) t = t
-  events_stay w (lines.Beat m) t = cond_both (world.was_booted w.parts m) _ _ Stays (λ _. t) (λ _. t)
-  events_stay w (lines.Collect m) t = cond_both (world.was_booted w.parts m) _ _ Stays (λ _. ack_stays w m (collected (world.receipts_of ring_owner key_part w.parts m)) t) (λ _. t)
-  events_stay w (lines.Leave m) t = cond_both (world.was_booted w.parts m) _ _ Stays (λ _. cond_both (are_stopped (world.receipts_of ring_owner key_part w.parts m)) _ _ Stays (λ _. t) (λ _. t)) (λ _. t)
-  events_stay w (lines.To k) t = deliver_stays w (world.message_at w k) t
-  events_stay w (lines.Part k i) t = to_stays w i (world.message_at w k) t
-  events_stay w (lines.Call number m key least chain) t =
+  -- `happens` doesn't count the event, and only `at` sets the moment
+  fields_stay : (w : ClusterState) (e : WorldEvent) → IsNotAt e → Has w → Stays (world.happens ring_owner key_part w e)
+  fields_stay w (lines.At moment) other t = absurd other
+  fields_stay w (lines.Boot space node kinds) other t = t
+  fields_stay w (lines.Beat m) other t = cond_both (world.was_booted w.parts m) _ _ Stays (λ _. t) (λ _. t)
+  fields_stay w (lines.Collect m) other t = cond_both (world.was_booted w.parts m) _ _ Stays (λ _. ack_stays w m (collected (world.receipts_of ring_owner key_part w.parts m)) t) (λ _. t)
+  fields_stay w (lines.Leave m) other t = cond_both (world.was_booted w.parts m) _ _ Stays (λ _. cond_both (are_stopped (world.receipts_of ring_owner key_part w.parts m)) _ _ Stays (λ _. t) (λ _. t)) (λ _. t)
+  fields_stay w (lines.To k) other t = deliver_stays w (world.message_at w k) t
+  fields_stay w (lines.Part k i) other t = to_stays w i (world.message_at w k) t
+  fields_stay w (lines.Call number m key least chain) other t =
       cond_both (number == suc (length w.calls)) _ _ Stays (λ _. call_stays w number (world.ask_of key least chain w.now) (world.key_place_of ring_owner key_part w m key) t) (λ _. t)
-  events_stay w (lines.Poll number) t = poll_stays w number (world.call_at w.calls number) t
-  events_stay w (lines.End number) t = end_stays w number (world.call_at w.calls number) t
-  events_stay w (lines.Hold m key) t = does_stays w (world.key_place_of ring_owner key_part w m key) (events_of.Hold key) (λ _. world.hold_outcome) t
-  events_stay w (lines.Release m key) t = does_stays w (world.key_place_of ring_owner key_part w m key) (events_of.Release key w.now) (λ _. world.hold_outcome) t
-  events_stay w (lines.Tick m) t = cond_both (world.was_booted w.parts m) _ _ Stays (λ _. ticks_stay w (world.places_of w.parts m 0) 0 t) (λ _. t)
-  events_stay w (lines.Closing m i) t = does_stays w (world.place_of_part w.parts m i) (events_of.TakeClosing w.now) (λ _. world.closing_outcome) t
-  events_stay w (lines.Closed m key) t = does_stays w (world.key_place_of ring_owner key_part w m key) (events_of.Closed key) (world.closed_outcome w.calls key) t
-  events_stay w (lines.Stop m i) t = does_stays w (world.place_of_part w.parts m i) events_of.StopPart (λ _. world.stop_outcome) t
-  events_stay w (lines.Lost m) t = cond_both (world.was_booted w.parts m) _ _ Stays (λ _. cond_both (world.all_stopped w.parts m) _ _ Stays (λ _. t) (λ _. t)) (λ _. t)
-  events_stay w lines.PlacementTick t = honest_stays w (world.running_among w.parts (late_in w.placement.rooms w.now)) t
-  events_stay w lines.Restart t = t
+  fields_stay w (lines.Poll number) other t = poll_stays w number (world.call_at w.calls number) t
+  fields_stay w (lines.End number) other t = end_stays w number (world.call_at w.calls number) t
+  fields_stay w (lines.Hold m key) other t = does_stays w (world.key_place_of ring_owner key_part w m key) (events_of.Hold key) (λ _. world.hold_outcome) t
+  fields_stay w (lines.Release m key) other t = does_stays w (world.key_place_of ring_owner key_part w m key) (events_of.Release key w.now) (λ _. world.hold_outcome) t
+  fields_stay w (lines.Tick m) other t = cond_both (world.was_booted w.parts m) _ _ Stays (λ _. ticks_stay w (world.places_of w.parts m 0) 0 t) (λ _. t)
+  fields_stay w (lines.Closing m i) other t = does_stays w (world.place_of_part w.parts m i) (events_of.TakeClosing w.now) (λ _. world.closing_outcome) t
+  fields_stay w (lines.Closed m key) other t = does_stays w (world.key_place_of ring_owner key_part w m key) (events_of.Closed key) (world.closed_outcome w.calls key) t
+  fields_stay w (lines.Stop m i) other t = does_stays w (world.place_of_part w.parts m i) events_of.StopPart (λ _. world.stop_outcome) t
+  fields_stay w (lines.Lost m) other t = cond_both (world.was_booted w.parts m) _ _ Stays (λ _. cond_both (world.all_stopped w.parts m) _ _ Stays (λ _. t) (λ _. t)) (λ _. t)
+  fields_stay w lines.PlacementTick other t = honest_stays w (world.running_among w.parts (late_in w.placement.rooms w.now)) t
+  fields_stay w lines.Restart other t = t
+
+events_stay : (w : ClusterState) (e : WorldEvent) → (world.happens ring_owner key_part w e).world.events ≡ w.events
+events_stay w (lines.At moment) = refl
+events_stay w e = (fields_stay w.events w.now w e tt (refl, refl)).0
+
+now_stays : (w : ClusterState) (e : WorldEvent) → IsNotAt e → (world.happens ring_owner key_part w e).world.now ≡ w.now
+now_stays w e other = (fields_stay w.events w.now w e other (refl, refl)).1
+
+-- of another event than `at`, the step is that at the present moment
+pub at_present : (w : ClusterState) (e : WorldEvent) → IsNotAt e → event_at ring_owner key_part w e w.now ≡ world.cluster_step ring_owner key_part w e
+at_present w e other =
+    cond_both (nat_le most_events w.events) _ _ (λ (s : WorldStep). ◌≡◌ {A = WorldStep} (record { world = record (s.world) { now = w.now }; outcome = s.outcome }) s)
+    (λ _. refl)
+    (λ _. let s = world.counted ring_owner key_part (world.happens ring_owner key_part w e) in λ i. record { world = record (s.world) { now = sym (now_stays w e other) i }; outcome = s.outcome })
 
 -- ---- the step
 
@@ -236,7 +254,7 @@ done_counted w u e r o ok h = elim h [
   | inr k ↦
       let s = world.happens ring_owner key_part w e in
       let weight : world.weight_of s.outcome ≡ 1 = ap (λ (z : Result Outcome WorldError). world.weight_of z) (sym k.0 ∙ ok) in
-      let stay : s.world.events ≡ w.events = events_stay w.events w e refl in
+      let stay : s.world.events ≡ w.events = events_stay w e in
       let count : w.events + 1 ≡ s.world.events + world.weight_of s.outcome = omega arith in
       inr (k.0, (λ i. record (k.1 i) { events = count i }))
 ]
@@ -273,3 +291,26 @@ is_done (Err x) e = absurd (cc)
 pub is_refused : (r : Result Outcome WorldError) → is_ok r ≡ false → (x : WorldError) × (r ≡ Err x)
 is_refused (Ok o) e = absurd (cc)
 is_refused (Err x) e = (x, refl)
+
+-- ---- an event at another moment
+
+-- what is done at another moment, seen at the present one
+done_at : (w : ClusterState) (v u : WorldView) (e : WorldEvent) (now : ℕ) (r : Result Outcome WorldError) → view_of w ≡ v →
+    ((x : ClusterState) → view_of x ≡ record v { moment = now } → GivesStep r (record v { moment = now }) (world.cluster_step ring_owner key_part x e) u) → GivesStep r v (event_at ring_owner key_part w e now) (record u { moment = v.moment })
+done_at w v u e now r same did = elim (did (record w { now = now }) (λ i. record (same i) { moment = now })) [
+  | inl k ↦ inl (k.0, ap (λ (z : WorldView). record z { moment = v.moment }) k.1)
+  | inr k ↦ (
+      let s = world.cluster_step ring_owner key_part (record w { now = now }) e in
+      inr (k.0, ap (λ (z : WorldView). record z { moment = v.moment }) k.1 ∙ (λ i. record (view_of s.world) { moment = sym (ap (λ (z : WorldView). z.moment) same) i })))
+]
+
+-- a step that doesn't run out of memory is the model's
+pub done_whole : (w : ClusterState) (v u : WorldView) (s : WorldStep) (r : Result Outcome WorldError) (o : Outcome) → r ≡ Ok o → GivesStep r v s u → IsStep r s u
+done_whole w v u s r o ok g = elim g [ inl k ↦ absurd (ok_err r o refused.OutOfMemory ok k.0) | inr k ↦ k ]
+
+-- the same, as the code goes: the moment is set, the event done, and the moment set again
+pub given_at : (w : ClusterState) (v a u b : WorldView) (e : WorldEvent) (now : ℕ) (r : Result Outcome WorldError) → view_of w ≡ v → a ≡ record v { moment = now } →
+    ((x : ClusterState) → view_of x ≡ a → GivesStep r a (world.cluster_step ring_owner key_part x e) u) → b ≡ record u { moment = v.moment } → GivesStep r v (event_at ring_owner key_part w e now) b
+given_at w v a u b e now r same before did after =
+    subst (λ (z : WorldView). GivesStep r v (event_at ring_owner key_part w e now) z) (sym after)
+    (done_at w v u e now r same (subst (λ (z : WorldView). (x : ClusterState) → view_of x ≡ z → GivesStep r z (world.cluster_step ring_owner key_part x e) u) before did))

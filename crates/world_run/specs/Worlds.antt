@@ -58,6 +58,10 @@ open_turns v = v.begun - v.ended
 abbrev pub GivesStep : Result Outcome WorldError → WorldView → WorldStep → WorldView → Type 0
 GivesStep result old step new = ((result ≡ Err OutOfMemory) × (new ≡ old)) ⊎ ((result ≡ step.outcome) × (new ≡ view_of step.world))
 
+-- the same of a step that takes no memory
+abbrev pub IsStep : Result Outcome WorldError → WorldStep → WorldView → Type 0
+IsStep result step new = (result ≡ step.outcome) × (new ≡ view_of step.world)
+
 -- ---- a cluster whose marks are forgotten
 
 -- the cluster of a view, without marks

@@ -141,6 +141,13 @@ impl Cluster {
         self.events = events;
     }
 
+    /// Sets the present moment, outside of any event.
+    pub(crate) fn set_moment(&mut self, moment: u64)
+        ensures { self.new ≡ record self.old { moment = moment } }
+    {
+        self.moment = moment;
+    }
+
     /// Sets the present moment.
     fn at(&mut self, moment: u64) -> Result<Outcome, WorldError>
         ensures { Happens result self.old self.new (WorldEvent.At moment) }

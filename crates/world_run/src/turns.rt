@@ -1,5 +1,5 @@
 // Calls of actors, their turns, and what ends them.
-ghost use Rattle.std.specs.Prelude.{◌≡◌, ◌<◌, ◌≤◌, ◌+◌, ◌*◌, ◌^◌, true, false, length, IfSome, IfNone};
+ghost use Rattle.std.specs.Prelude.{◌≡◌, ◌<◌, ◌≤◌, ◌+◌, ◌*◌, ◌^◌, true, false, length, IfSome, IfNone, IsOk};
 ghost use Rattle.part_model.specs.Rooms.{IsInRange};
 ghost use Rattle.cluster_model.specs.World.{ask_of, next_number, end_outcome, closed_outcome};
 ghost use Rattle.world_run.specs.Views.{MayWant, wants};
@@ -260,9 +260,10 @@ impl Cluster {
         Ok(closed_outcome(&self.calls, shown, at, reply))
     }
 
-    /// A part is to stop for good.
+    /// A part is to stop for good; this takes no memory.
     pub(crate) fn stop(&mut self, member: Member, part: u64) -> Result<Outcome, WorldError>
-        ensures { Happens result self.old self.new (lines.Stop member part) }
+        ensures stops { Happens result self.old self.new (lines.Stop member part) }
+        ensures memory { IsOk result }
     {
         let Some(at) = self.parts.place_of(&member, part) else {
             return Ok(nothing());

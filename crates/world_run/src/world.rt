@@ -8,6 +8,7 @@ ghost use Rattle.cluster_model.specs.World.{ClusterState, key_part, cluster_step
 ghost use Rattle.world_run.specs.Worlds.{GivesStep, Runs, view_of, open_turns};
 
 mod looks;
+mod moments;
 
 use crate::cluster::Cluster;
 use actor_names::Space;

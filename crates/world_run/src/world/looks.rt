@@ -20,6 +20,13 @@ impl World {
         self.cluster.post.asks(message)
     }
 
+    /// How many events were done; those that were refused don't count.
+    pub fn events(&self) -> u64
+        ensures { result ≡ self.now.events }
+    {
+        self.cluster.events()
+    }
+
     /// The number of the next call, one more than the calls so far.
     pub fn next_call(&self) -> u64
         ensures { result ≡ suc (length self.now.calls) }

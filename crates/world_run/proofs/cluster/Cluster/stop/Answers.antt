@@ -9,8 +9,8 @@ use Rattle.world_run.specs.Worlds.{WorldView, Happens, viewed}
 use Rattle.world_run.proofs.Givings.{does_gives}
 use Rattle.world_run.proofs.cluster.Cluster.stop.Goals as goal
 
-pub returns : goal.returns
-returns c =
+pub returns-clause-stops : goal.returns-clause-stops
+returns-clause-stops c =
     let i = c.self.inside in
     let r : Result Outcome WorldError = Ok c.stop_outcome.result in
     let u : WorldView = viewed i.settings i.post c.step_at.new.self i.calls i.moment i.events in

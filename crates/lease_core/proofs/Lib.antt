@@ -1,0 +1,14 @@
+mod Lists
+mod Loops
+mod Quiet
+mod Follows
+mod Hearings
+mod Rooms
+mod Stops
+mod Leases
+mod Steps
+mod Passes
+mod Laws
+mod Asked
+mod Givings
+mod Rows

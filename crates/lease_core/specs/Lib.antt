@@ -1,0 +1,5 @@
+pub mod Lease
+pub mod Book
+pub mod Books
+pub mod Causes
+pub mod Leased
