@@ -13,5 +13,7 @@ mod session;
 
 pub use memory::{MemClock, MemConn, MemDial, MemListen, MemSink, MemSource};
 pub use port::{Clock, Conn, Dial, Listen, PortError, Sink, Source};
-pub use real::{ReaderSource, StreamConn, SystemClock, TcpDial, TcpListen, WriterSink};
+pub use real::{
+    ReaderSource, StreamConn, SystemClock, TcpDial, TcpListen, WITHOUT_END, Waits, WriterSink,
+};
 pub use session::SessionEnd;

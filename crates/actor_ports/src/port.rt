@@ -103,6 +103,10 @@ pub trait Dial: Drop + Send {
         ensures fresh { IfOk result (λ other. dial_faults other ≡ 0) }
         ensures anew { IfOk result (λ other. StartsAnew (dialled self.now) (dialled other)) }
         ensures memory { IfErr result (λ e. e ≡ PortError.OutOfMemory) };
+
+    /// Says that no connection of this program is wanted any more: each that waits fails soon, where the dialler can see to
+    /// that.
+    fn end_links(&self) {}
 }
 
 /// What waits for connections.
@@ -116,6 +120,11 @@ pub trait Listen: Drop + Send {
     fn accept(&mut self) -> Result<Self::Link, PortError>
         ensures fresh { IfOk result (λ link. Self.Link.read_faults link ≡ 0) }
         ensures cause { HasCause (listen_faults self.old) (listen_faults self.new) result };
+
+    /// Closes the port, where the listener can: who connects from now on is refused, and each accept fails.
+    fn close(&mut self)
+        ensures same { listen_faults self.new ≡ listen_faults self.old }
+    {}
 }
 
 /// What gives the time, in milliseconds since 1970-01-01T00:00:00Z.

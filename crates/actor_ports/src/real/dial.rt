@@ -1,33 +1,36 @@
 // A dialler over TCP.
 ghost use Rattle.std.specs.Prelude.{◌≡◌, ◌<◌, ◌≤◌, ◌+◌, ◌-◌, None, nat_lt, if◌then◌else◌, IfOk, IfErr};
 ghost use Rattle.actor_ports.specs.Port.{HasCause, faults_after};
-ghost use Rattle.actor_ports.specs.Traffic.{TakesRoom, Counts};
+ghost use Rattle.actor_ports.specs.Traffic.{TakesRoom, Counts, StartsAnew};
 ghost use Rattle.actor_ports.specs.Real.{DialCount};
 
+use super::pace::{Waits, set_looks};
 use super::stream::StreamConn;
-use super::timed::set_wait;
 use crate::port::{Dial, PortError};
 use std::alloc::Global;
 use std::io;
 use std::marker::Model;
 use std::net::{IpAddr, Ipv4Addr, Net, SocketAddr, TcpStream};
-use std::time::Duration;
+use std::sync::atomic::{AtomicBool, Ordering};
+use std::time::{Clock, Duration};
 
 /// A dialler over TCP. It reports nothing of what was dialled.
 ///
 /// In `main(rt: HostRuntime)`, to connect within 5 seconds, and to wait 10 for each byte:
-/// `let dialler = TcpDial::new(rt.alloc(), rt, Some(5_000), Some(10_000));`
+/// `let ended = AtomicBool::new(false);`
+/// `let dialler = TcpDial::new(rt.alloc(), rt, &ended, Some(5_000), Waits::quiet(10_000));`
 #[derive(Drop)]
-pub struct TcpDial<N: Net<Stream = TcpStream> + Copy + Send> {
+pub struct TcpDial<'a, N: Net<Stream = TcpStream> + Clock + Copy> {
     alloc: Global,
     net: N,
+    ended: &'a AtomicBool,
     connect_ms: Option<u64>,
-    wait_ms: Option<u64>,
+    waits: Waits,
     room: u64,
     faults: u64,
 }
 
-impl<N: Net<Stream = TcpStream> + Copy + Send> Model for TcpDial<N> {
+impl<'a, N: Net<Stream = TcpStream> + Clock + Copy> Model for TcpDial<'a, N> {
     ghost use Rattle.std.specs.Prelude.{◌<◌, ◌+◌, ◌^◌};
     ghost use Rattle.actor_ports.specs.Real.{DialCount};
 
@@ -38,26 +41,32 @@ impl<N: Net<Stream = TcpStream> + Copy + Send> Model for TcpDial<N> {
     ghost invariant = { λ s. s.faults + s.room < 2 ^ 64 };
 }
 
-impl<N: Net<Stream = TcpStream> + Copy + Send> TcpDial<N> {
-    /// A dialler whose dials fail after `connect_ms` milliseconds without an answer, and whose links fail after
-    /// `wait_ms` milliseconds in which no byte comes or goes. `None` waits for as long as the system does, and 0 counts
-    /// as 1.
-    pub fn new(alloc: Global, net: N, connect_ms: Option<u64>, wait_ms: Option<u64>) -> TcpDial<N>
+impl<'a, N: Net<Stream = TcpStream> + Clock + Copy> TcpDial<'a, N> {
+    /// A dialler whose dials fail after `connect_ms` milliseconds without an answer, and whose links wait so, as long as
+    /// `ended` is false. `None` waits for as long as the system does, and 0 counts as 1. `end_links` makes `ended` true.
+    pub fn new(
+        alloc: Global,
+        net: N,
+        ended: &'a AtomicBool,
+        connect_ms: Option<u64>,
+        waits: Waits,
+    ) -> TcpDial<'a, N>
         ensures { result ≡ record { room = 0; faults = 0 } }
     {
         TcpDial {
             alloc,
             net,
+            ended,
             connect_ms,
-            wait_ms,
+            waits,
             room: 0,
             faults: 0,
         }
     }
 }
 
-impl<N: Net<Stream = TcpStream> + Copy + Send> Dial for TcpDial<N> {
-    type Link = StreamConn<TcpStream>;
+impl<'a, N: Net<Stream = TcpStream> + Clock + Copy + Send> Dial for TcpDial<'a, N> {
+    type Link = StreamConn<'a, TcpStream, N>;
 
     ghost dial_faults = { λ s. s.faults };
 
@@ -67,7 +76,7 @@ impl<N: Net<Stream = TcpStream> + Copy + Send> Dial for TcpDial<N> {
 
     /// Connects; a failure is counted. When the faults and the links that are out together reach 2^64 - 1, no further
     /// one can be counted: it answers `OutOfMemory` and connects to nothing.
-    fn dial(&mut self, ip: u32, port: u16) -> Result<StreamConn<TcpStream>, PortError>
+    fn dial(&mut self, ip: u32, port: u16) -> Result<StreamConn<'a, TcpStream, N>, PortError>
         ensures fresh { IfOk result (λ link. link.faults ≡ 0) }
         ensures room { TakesRoom self.old.room self.new.room result }
         ensures cause { HasCause self.old.faults self.new.faults result }
@@ -77,22 +86,22 @@ impl<N: Net<Stream = TcpStream> + Copy + Send> Dial for TcpDial<N> {
         if self.faults >= u64::MAX - self.room {
             return Err(PortError::OutOfMemory);
         }
-        let Ok(stream) = connect(&self.net, ip, port, self.connect_ms, self.wait_ms) else {
+        let Ok(stream) = connect(&self.net, ip, port, self.connect_ms, self.waits) else {
             self.faults += 1;
             return Err(PortError::Failed);
         };
-        let link = StreamConn::new(self.alloc, stream)?;
+        let link = StreamConn::new(self.alloc, stream, self.net, self.ended, self.waits)?;
         self.room += 1;
         Ok(link)
     }
 
     /// Closes the link.
-    fn done(&mut self, link: StreamConn<TcpStream>)
+    fn done(&mut self, link: StreamConn<'a, TcpStream, N>)
         requires { 0 < self.old.room }
         ensures room { self.old.room ≤ self.new.room + 1 }
-        ensures cause { Counts self.old.faults self.new.faults link.faults }
+        ensures cause { Counts self.old.faults self.new.faults link.entry.faults }
 
-        ensures counted { self.new.faults ≡ self.old.faults + (if nat_lt 0 link.faults then 1 else 0) }
+        ensures counted { self.new.faults ≡ self.old.faults + (if nat_lt 0 link.entry.faults then 1 else 0) }
     {
         self.room -= 1;
         if link.faults() > 0 {
@@ -101,8 +110,9 @@ impl<N: Net<Stream = TcpStream> + Copy + Send> Dial for TcpDial<N> {
     }
 
     /// A dialler with the same time-outs. It takes no memory.
-    fn another(&self) -> Result<TcpDial<N>, PortError>
+    fn another(&self) -> Result<TcpDial<'a, N>, PortError>
         ensures fresh { IfOk result (λ other. other.faults ≡ 0) }
+        ensures anew { IfOk result (λ other. StartsAnew None None) }
         ensures memory { IfErr result (λ e. e ≡ PortError.OutOfMemory) }
 
         ensures counts { IfOk result (λ other. other ≡ record { room = 0; faults = 0 }) }
@@ -110,27 +120,32 @@ impl<N: Net<Stream = TcpStream> + Copy + Send> Dial for TcpDial<N> {
         Ok(TcpDial {
             alloc: self.alloc,
             net: self.net,
+            ended: self.ended,
             connect_ms: self.connect_ms,
-            wait_ms: self.wait_ms,
+            waits: self.waits,
             room: 0,
             faults: 0,
         })
     }
+
+    fn end_links(&self) {
+        self.ended.store(true, Ordering::SeqCst);
+    }
 }
 
-// A stream to the address, whose reads and writes wait at most `wait_ms` milliseconds.
+// A stream to the address, whose reads and writes come back once in a while.
 fn connect<N: Net<Stream = TcpStream>>(
     net: &N,
     ip: u32,
     port: u16,
     connect_ms: Option<u64>,
-    wait_ms: Option<u64>,
+    waits: Waits,
 ) -> io::Result<TcpStream> {
     let address = SocketAddr::new(IpAddr::V4(Ipv4Addr::from_bits(ip)), port);
     let stream = match connect_ms {
         Some(ms) => net.connect_timeout(address, Duration::from_millis(ms.max(1)))?,
         None => net.connect(address)?,
     };
-    set_wait(&stream, wait_ms)?;
+    set_looks(&stream, waits)?;
     Ok(stream)
 }

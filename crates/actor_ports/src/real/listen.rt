@@ -1,13 +1,14 @@
 // A listener over TCP.
-ghost use Rattle.std.specs.Prelude.{◌≡◌, ◌<◌, IfOk, IfSome};
+ghost use Rattle.std.specs.Prelude.{◌≡◌, ◌<◌, IfOk, IfSome, None, Some};
 ghost use Rattle.actor_ports.specs.Port.{HasCause, faults_after};
 
+use super::pace::{Waits, set_looks};
 use super::stream::StreamConn;
-use super::timed::set_wait;
 use crate::port::{Listen, PortError};
 use std::alloc::Global;
 use std::marker::Model;
 use std::net::{OpenListener, TcpStream};
+use std::sync::atomic::AtomicBool;
 use std::time::{Clock, Duration};
 use std::{io, thread};
 
@@ -17,43 +18,55 @@ const PAUSE_MS: u64 = 50;
 /// A listener over TCP.
 ///
 /// In `main(rt: HostRuntime)`, for connections that fail after a minute without a byte:
-/// `let listener = TcpListen::new(rt.alloc(), rt, TcpListener::bind(&rt, "127.0.0.1:7400")?, Some(60_000));`
+/// `let ended = AtomicBool::new(false);`
+/// `let bound = TcpListener::bind(&rt, "127.0.0.1:7400")?;`
+/// `let listener = TcpListen::new(rt.alloc(), rt, &ended, bound, Waits::quiet(60_000));`
 #[derive(Drop)]
-pub struct TcpListen<L: OpenListener<Stream = TcpStream> + Drop + Send, C: Clock + Copy> {
+pub struct TcpListen<'a, L: OpenListener<Stream = TcpStream> + Drop + Send, C: Clock + Copy> {
     alloc: Global,
     clock: C,
-    listener: L,
-    wait_ms: Option<u64>,
+    ended: &'a AtomicBool,
+    listener: Option<L>,
+    waits: Waits,
     faults: u64,
 }
 
-impl<L: OpenListener<Stream = TcpStream> + Drop + Send, C: Clock + Copy> Model for TcpListen<L, C> {
+impl<'a, L: OpenListener<Stream = TcpStream> + Drop + Send, C: Clock + Copy> Model
+    for TcpListen<'a, L, C> {
+    ghost use Rattle.std.specs.Prelude.{Option};
     ghost use Rattle.actor_ports.specs.Real.{Counted};
 
-    ghost Value = { Counted L };
+    ghost Value = { Counted (Option L) };
 
     ghost view = { λ s. record { inner = s.listener; faults = s.faults } };
 }
 
-impl<L: OpenListener<Stream = TcpStream> + Drop + Send, C: Clock + Copy> TcpListen<L, C> {
-    /// A listener whose connections fail after `wait_ms` milliseconds in which no byte comes or goes. `None` waits for
-    /// as long as the system does, and 0 counts as 1. By the clock it waits while the system has no room for a connection.
-    pub fn new(alloc: Global, clock: C, listener: L, wait_ms: Option<u64>) -> TcpListen<L, C>
-        ensures { result ≡ record { inner = listener; faults = 0 } }
+impl<'a, L: OpenListener<Stream = TcpStream> + Drop + Send, C: Clock + Copy> TcpListen<'a, L, C> {
+    /// A listener whose connections wait so, as long as `ended` is false. By the clock it waits too while the system has no
+    /// room for a connection.
+    pub fn new(
+        alloc: Global,
+        clock: C,
+        ended: &'a AtomicBool,
+        listener: L,
+        waits: Waits,
+    ) -> TcpListen<'a, L, C>
+        ensures { result ≡ record { inner = Some listener; faults = 0 } }
     {
         TcpListen {
             alloc,
             clock,
-            listener,
-            wait_ms,
+            ended,
+            listener: Some(listener),
+            waits,
             faults: 0,
         }
     }
 }
 
-impl<L: OpenListener<Stream = TcpStream> + Drop + Send, C: Clock + Copy + Send> Listen
-    for TcpListen<L, C> {
-    type Link = StreamConn<TcpStream>;
+impl<'a, L: OpenListener<Stream = TcpStream> + Drop + Send, C: Clock + Copy + Send> Listen
+    for TcpListen<'a, L, C> {
+    type Link = StreamConn<'a, TcpStream, C>;
 
     ghost listen_faults = { λ s. s.faults };
 
@@ -61,7 +74,7 @@ impl<L: OpenListener<Stream = TcpStream> + Drop + Send, C: Clock + Copy + Send> 
     /// connection (too many open files, no memory), it waits and tries again; a connection that is gone before it is
     /// accepted, or that fails as it is set up, is nobody's fault, and the next one is waited for. After 2^64 - 1 failures
     /// no further one can be counted: it answers `OutOfMemory` and accepts nothing.
-    fn accept(&mut self) -> Result<StreamConn<TcpStream>, PortError>
+    fn accept(&mut self) -> Result<StreamConn<'a, TcpStream, C>, PortError>
         ensures fresh { IfOk result (λ link. link.faults ≡ 0) }
         ensures cause { HasCause self.old.faults self.new.faults result }
 
@@ -70,11 +83,27 @@ impl<L: OpenListener<Stream = TcpStream> + Drop + Send, C: Clock + Copy + Send> 
         if self.faults == u64::MAX {
             return Err(PortError::OutOfMemory);
         }
-        let Some(conn) = accept_next(self.alloc, &self.clock, &self.listener, self.wait_ms) else {
+        let next = accept_next(
+            self.alloc,
+            self.clock,
+            self.ended,
+            &self.listener,
+            self.waits,
+        );
+        let Some(conn) = next else {
             self.faults += 1;
             return Err(PortError::Failed);
         };
         Ok(conn)
+    }
+
+    /// Closes the port; a connection that nobody took yet is closed with it.
+    fn close(&mut self)
+        ensures same { self.new.faults ≡ self.old.faults }
+
+        ensures closed { self.new ≡ record self.old { inner = None } }
+    {
+        self.listener = None;
     }
 }
 
@@ -100,26 +129,28 @@ fn remedy_for(error: &io::Error) -> Remedy {
     }
 }
 
-// The next connection; none if the port is lost.
-fn accept_next(
+// The next connection; none if the port is closed or lost.
+fn accept_next<'a, L: OpenListener<Stream = TcpStream>, C: Clock + Copy>(
     alloc: Global,
-    clock: &impl Clock,
-    listener: &impl OpenListener<Stream = TcpStream>,
-    wait_ms: Option<u64>,
-) -> Option<StreamConn<TcpStream>>
+    clock: C,
+    ended: &'a AtomicBool,
+    listener: &Option<L>,
+    waits: Waits,
+) -> Option<StreamConn<'a, TcpStream, C>>
     ensures { IfSome result (λ conn. conn.faults ≡ 0) }
 {
+    let listener = listener.as_ref()?;
     for _ in 0..u64::MAX {
         match listener.accept() {
             Ok((stream, _)) => {
-                if let Some(conn) = set_up(alloc, stream, wait_ms) {
+                if let Some(conn) = set_up(alloc, stream, clock, ended, waits) {
                     return Some(conn);
                 }
             }
             Err(error) => match remedy_for(&error) {
                 Remedy::GiveUp => return None,
                 Remedy::TakeNext => {}
-                Remedy::Wait => thread::sleep(clock, Duration::from_millis(PAUSE_MS)),
+                Remedy::Wait => thread::sleep(&clock, Duration::from_millis(PAUSE_MS)),
             },
         }
     }
@@ -127,9 +158,15 @@ fn accept_next(
 }
 
 // A connection over this stream, unless it is gone or there is no memory for it.
-fn set_up(alloc: Global, stream: TcpStream, wait_ms: Option<u64>) -> Option<StreamConn<TcpStream>>
+fn set_up<'a, C: Clock + Copy>(
+    alloc: Global,
+    stream: TcpStream,
+    clock: C,
+    ended: &'a AtomicBool,
+    waits: Waits,
+) -> Option<StreamConn<'a, TcpStream, C>>
     ensures { IfSome result (λ conn. conn.faults ≡ 0) }
 {
-    set_wait(&stream, wait_ms).ok()?;
-    StreamConn::new(alloc, stream).ok()
+    set_looks(&stream, waits).ok()?;
+    StreamConn::new(alloc, stream, clock, ended, waits).ok()
 }

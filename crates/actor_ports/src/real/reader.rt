@@ -4,9 +4,10 @@ ghost use Rattle.std.specs.Io.KnownBytes.{Consumes, IsAtEnd, Keeps};
 ghost use Rattle.actor_ports.specs.Port.{HasCause, Appends, faults_after};
 ghost use Rattle.actor_ports.specs.Real.{Counted, ReadsThrough};
 
+use super::pace::{Impatient, Patience, Remedy, remedy_for};
 use crate::port::{PortError, Source};
 use std::alloc::Global;
-use std::io::{ErrorKind, Read};
+use std::io::Read;
 use std::marker::Model;
 
 // The most bytes that one read asks the library for.
@@ -68,6 +69,7 @@ impl<R: Read + Drop> Source for ReaderSource<R> {
     {
         read_counted(
             &mut self.reader,
+            &mut Impatient,
             &mut self.piece,
             &mut self.faults,
             into,
@@ -89,8 +91,9 @@ pub(super) fn make_piece(alloc: Global) -> Result<Vec<u8>, PortError>
 
 // Appends what one read of the library gives, at most a piece, to `into`. A failure is counted as long as the count
 // can rise.
-pub(super) fn read_counted<R: Read>(
+pub(super) fn read_counted<R: Read, P: Patience>(
     reader: &mut R,
+    patience: &mut P,
     piece: &mut Vec<u8>,
     faults: &mut u64,
     into: &mut Vec<u8>,
@@ -108,7 +111,7 @@ pub(super) fn read_counted<R: Read>(
     if *faults == u64::MAX || into.reserve(room).is_err() {
         return Err(PortError::OutOfMemory);
     }
-    let Some(count) = read_piece(reader, piece.as_mut_slice(), room) else {
+    let Some(count) = read_piece(reader, patience, piece.as_mut_slice(), room) else {
         *faults += 1;
         return Err(PortError::Failed);
     };
@@ -116,8 +119,14 @@ pub(super) fn read_counted<R: Read>(
     Ok(count)
 }
 
-// One read of the library into the first bytes of `piece`; it tries again after each interruption.
-fn read_piece<R: Read>(reader: &mut R, piece: &mut [u8], room: usize) -> Option<usize>
+// One read of the library into the first bytes of `piece`; it tries again after each interruption, and where nothing came in
+// time, as long as there is patience.
+fn read_piece<R: Read, P: Patience>(
+    reader: &mut R,
+    patience: &mut P,
+    piece: &mut [u8],
+    room: usize,
+) -> Option<usize>
     requires some { 0 < room }
     requires within { room ≤ length piece.old }
     ensures bound { IfSome result (λ n. n ≤ room) }
@@ -125,14 +134,21 @@ fn read_piece<R: Read>(reader: &mut R, piece: &mut [u8], room: usize) -> Option<
     ensures end { IfSome result (λ n. n ≡ 0 → IsAtEnd (R.remaining reader.new)) }
     ensures failed { IfNone result (Keeps (R.remaining reader.old) (R.remaining reader.new)) }
 {
+    let mut looks = 0u64;
     for _ in 0..u64::MAX {
+        if patience.is_over(looks) {
+            return None;
+        }
         match reader.read(&mut piece[..room]) {
-            Ok(count) => return Some(count),
-            Err(error) => {
-                if error.kind() != ErrorKind::Interrupted {
-                    return None;
-                }
+            Ok(count) => {
+                patience.moves(count);
+                return Some(count);
             }
+            Err(error) => match remedy_for(&error) {
+                Remedy::Again => {}
+                Remedy::Look => looks = looks.saturating_add(1),
+                Remedy::GiveUp => return None,
+            },
         }
     }
     None

@@ -3,24 +3,28 @@ ghost use Rattle.std.specs.Prelude.{◌≡◌, ◌<◌, ◌≤◌, ◌↔◌, No
 ghost use Rattle.actor_ports.specs.Port.{HasCause, Appends, faults_after};
 ghost use Rattle.actor_ports.specs.Real.{Counted, ReadsThrough, WritesThrough};
 
+use super::pace::{Pace, Waits};
 use super::reader::{make_piece, read_counted};
 use super::writer::write_counted;
 use crate::port::{Conn, PortError, Sink, Source};
 use std::alloc::Global;
 use std::io::{Read, Write};
 use std::marker::Model;
+use std::sync::atomic::AtomicBool;
+use std::time::Clock;
 
 /// A connection over one of the library's streams. It reports nothing of the bytes that go over it.
 ///
-/// A stream that has a time-out fails when the time is over; that counts like any other failure.
+/// It fails once it has waited for too long, or isn't wanted any more; that counts like any other failure.
 #[derive(Drop)]
-pub struct StreamConn<S: Read + Write + Drop + Send> {
+pub struct StreamConn<'a, S: Read + Write + Drop + Send, C: Clock + Copy> {
     stream: S,
+    pace: Pace<'a, C>,
     piece: Vec<u8>,
     faults: u64,
 }
 
-impl<S: Read + Write + Drop + Send> Model for StreamConn<S> {
+impl<'a, S: Read + Write + Drop + Send, C: Clock + Copy> Model for StreamConn<'a, S, C> {
     ghost use Rattle.std.specs.Prelude.{◌≡◌, vec_len};
     ghost use Rattle.actor_ports.specs.Real.{Counted};
 
@@ -31,16 +35,24 @@ impl<S: Read + Write + Drop + Send> Model for StreamConn<S> {
     ghost invariant = { λ s. vec_len s.piece ≡ 65536 };
 }
 
-impl<S: Read + Write + Drop + Send> StreamConn<S> {
-    /// A connection over this stream, with room for one piece of 65,536 bytes.
+impl<'a, S: Read + Write + Drop + Send, C: Clock + Copy> StreamConn<'a, S, C> {
+    /// A connection over this stream, with room for one piece of 65,536 bytes. It waits by this clock, as long as `ended` is
+    /// false; a read or write of the stream has to come back once in a while for that, as `WouldBlock` or `TimedOut`.
     /// The only error is `OutOfMemory`, which drops the stream.
-    pub fn new(alloc: Global, stream: S) -> Result<StreamConn<S>, PortError>
+    pub fn new(
+        alloc: Global,
+        stream: S,
+        clock: C,
+        ended: &'a AtomicBool,
+        waits: Waits,
+    ) -> Result<StreamConn<'a, S, C>, PortError>
         ensures holds { IfOk result (λ s. s ≡ record { inner = stream; faults = 0 }) }
         ensures memory { IfErr result (λ e. e ≡ PortError.OutOfMemory) }
     {
         let piece = make_piece(alloc)?;
         Ok(StreamConn {
             stream,
+            pace: Pace::new(clock, ended, waits),
             piece,
             faults: 0,
         })
@@ -54,7 +66,7 @@ impl<S: Read + Write + Drop + Send> StreamConn<S> {
     }
 }
 
-impl<S: Read + Write + Drop + Send> Source for StreamConn<S> {
+impl<S: Read + Write + Drop + Send, C: Clock + Copy> Source for StreamConn<'_, S, C> {
     ghost remaining = { λ _. None };
 
     ghost read_faults = { λ s. s.faults };
@@ -72,6 +84,7 @@ impl<S: Read + Write + Drop + Send> Source for StreamConn<S> {
     {
         read_counted(
             &mut self.stream,
+            &mut self.pace,
             &mut self.piece,
             &mut self.faults,
             into,
@@ -80,7 +93,7 @@ impl<S: Read + Write + Drop + Send> Source for StreamConn<S> {
     }
 }
 
-impl<S: Read + Write + Drop + Send> Sink for StreamConn<S> {
+impl<S: Read + Write + Drop + Send, C: Clock + Copy> Sink for StreamConn<'_, S, C> {
     ghost contents = { λ _. None };
 
     ghost write_faults = { λ s. s.faults };
@@ -95,11 +108,11 @@ impl<S: Read + Write + Drop + Send> Sink for StreamConn<S> {
         ensures spent { IsErrOf result PortError.OutOfMemory ↔ (self.old.faults ≡ u64.MAX) }
         ensures through { WritesThrough (S.Write.contents self.old.inner) (S.Write.contents self.new.inner) bytes.now result }
     {
-        write_counted(&mut self.stream, &mut self.faults, bytes)
+        write_counted(&mut self.stream, &mut self.pace, &mut self.faults, bytes)
     }
 }
 
-impl<S: Read + Write + Drop + Send> Conn for StreamConn<S> {
+impl<S: Read + Write + Drop + Send, C: Clock + Copy + Send> Conn for StreamConn<'_, S, C> {
     ghost one_count = { λ _. refl };
 
     ghost one_traffic = { λ _. refl };

@@ -4,8 +4,9 @@ ghost use Rattle.std.specs.Io.KnownBytes.{Appends, Keeps};
 ghost use Rattle.actor_ports.specs.Port.{HasCause, faults_after};
 ghost use Rattle.actor_ports.specs.Real.{Counted, WritesKnownFront, WritesThrough};
 
+use super::pace::{Impatient, Patience, Remedy, remedy_for};
 use crate::port::{PortError, Sink};
-use std::io::{ErrorKind, Write};
+use std::io::Write;
 use std::marker::Model;
 
 /// A sink over one of the library's writers. It reports what was written if the writer does.
@@ -50,13 +51,14 @@ impl<W: Write + Drop> Sink for WriterSink<W> {
         ensures spent { IsErrOf result PortError.OutOfMemory ↔ (self.old.faults ≡ u64.MAX) }
         ensures through { WritesThrough (W.contents self.old.inner) (W.contents self.new.inner) bytes.now result }
     {
-        write_counted(&mut self.writer, &mut self.faults, bytes)
+        write_counted(&mut self.writer, &mut Impatient, &mut self.faults, bytes)
     }
 }
 
 // Writes all of the bytes and flushes. A failure is counted as long as the count can rise.
-pub(super) fn write_counted<W: Write>(
+pub(super) fn write_counted<W: Write, P: Patience>(
     writer: &mut W,
+    patience: &mut P,
     faults: &mut u64,
     bytes: &[u8],
 ) -> Result<(), PortError>
@@ -67,7 +69,7 @@ pub(super) fn write_counted<W: Write>(
     if *faults == u64::MAX {
         return Err(PortError::OutOfMemory);
     }
-    if !write_whole(writer, bytes) {
+    if !write_whole(writer, patience, bytes) {
         *faults += 1;
         return Err(PortError::Failed);
     }
@@ -75,36 +77,44 @@ pub(super) fn write_counted<W: Write>(
 }
 
 // Writes all of the bytes and flushes; or answers false, and a prefix of them was written.
-fn write_whole<W: Write>(writer: &mut W, bytes: &[u8]) -> bool
+fn write_whole<W: Write, P: Patience>(writer: &mut W, patience: &mut P, bytes: &[u8]) -> bool
     ensures whole { IsTrue result → Appends (W.contents writer.old) (W.contents writer.new) bytes.now }
     ensures front { WritesKnownFront (W.contents writer.old) (W.contents writer.new) bytes.now }
 {
+    patience.rests();
+    patience.moves(bytes.len());
     let mut done = 0;
     while done < bytes.len() {
-        let Some(count) = write_piece(writer, &bytes[done..]) else {
+        let Some(count) = write_piece(writer, patience, &bytes[done..]) else {
             return false;
         };
         done += count;
     }
+    patience.rests();
     writer.flush().is_ok()
 }
 
-// One write of the library; it tries again after each interruption. A write that takes nothing has failed.
-fn write_piece<W: Write>(writer: &mut W, bytes: &[u8]) -> Option<usize>
+// One write of the library; it tries again after each interruption, and where nothing went in time, as long as there is
+// patience. A write that takes nothing has failed.
+fn write_piece<W: Write, P: Patience>(writer: &mut W, patience: &P, bytes: &[u8]) -> Option<usize>
     ensures some { IfSome result (λ n. 0 < n) }
     ensures bound { IfSome result (λ n. n ≤ length bytes.now) }
     ensures written { IfSome result (λ n. Appends (W.contents writer.old) (W.contents writer.new) (take n bytes.now)) }
     ensures failed { IfNone result (Keeps (W.contents writer.old) (W.contents writer.new)) }
 {
+    let mut looks = 0u64;
     for _ in 0..u64::MAX {
+        if patience.is_over(looks) {
+            return None;
+        }
         match writer.write(bytes) {
             Ok(0) => return None,
             Ok(count) => return Some(count),
-            Err(error) => {
-                if error.kind() != ErrorKind::Interrupted {
-                    return None;
-                }
-            }
+            Err(error) => match remedy_for(&error) {
+                Remedy::Again => {}
+                Remedy::Look => looks = looks.saturating_add(1),
+                Remedy::GiveUp => return None,
+            },
         }
     }
     None

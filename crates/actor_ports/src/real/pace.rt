@@ -1,0 +1,165 @@
+// How long a connection waits, and when it is given up.
+use std::io;
+use std::io::ErrorKind;
+use std::net::TcpStream;
+use std::sync::atomic::{AtomicBool, Ordering};
+use std::time::{Clock, Duration, Instant};
+
+// The longest that a read or write of the library waits before it is looked whether to go on, in milliseconds.
+const LONGEST_LOOK_MS: u64 = 500;
+
+// How many bytes of a message bring it a second more.
+const BYTES_A_SECOND: u64 = 65_536;
+
+/// How long a connection waits, in milliseconds. `None` waits for as long as the system does, and 0 counts as 1.
+#[derive(Clone, Copy)]
+pub struct Waits {
+    /// While no byte comes or goes.
+    pub quiet_ms: Option<u64>,
+    /// For a message: all that comes between two writes, from its first byte on, or that is written at once. It has a second
+    /// more for each 65,536 bytes.
+    pub message_ms: Option<u64>,
+    /// From its beginning to its end.
+    pub whole_ms: Option<u64>,
+}
+
+/// For as long as the system does.
+pub const WITHOUT_END: Waits = Waits {
+    quiet_ms: None,
+    message_ms: None,
+    whole_ms: None,
+};
+
+impl Waits {
+    /// Only while no byte comes or goes.
+    pub fn quiet(ms: u64) -> Waits {
+        Waits {
+            quiet_ms: Some(ms),
+            message_ms: None,
+            whole_ms: None,
+        }
+    }
+
+    // How long one read or write of the library waits.
+    fn look_ms(&self) -> u64 {
+        match self.quiet_ms {
+            Some(ms) => ms.max(1).min(LONGEST_LOOK_MS),
+            None => LONGEST_LOOK_MS,
+        }
+    }
+}
+
+// Whether the loops over reads and writes go on.
+pub(super) trait Patience {
+    // So many bytes of a message have come, or are to be written.
+    fn moves(&mut self, count: usize);
+
+    // The message is over.
+    fn rests(&mut self);
+
+    // Whether to give up, after so many looks in a row at which no byte came or went.
+    fn is_over(&self, looks: u64) -> bool;
+}
+
+// Gives up where nothing comes or goes in time.
+#[derive(Drop)]
+pub(super) struct Impatient;
+
+impl Patience for Impatient {
+    fn moves(&mut self, _count: usize) {}
+
+    fn rests(&mut self) {}
+
+    fn is_over(&self, looks: u64) -> bool {
+        looks > 0
+    }
+}
+
+// What a connection has waited, by a clock, and whether it is still wanted: it isn't once `ended` is true.
+#[derive(Drop)]
+pub(super) struct Pace<'a, C: Clock + Copy> {
+    clock: C,
+    ended: &'a AtomicBool,
+    waits: Waits,
+    made: Option<Instant>,
+    began: Option<Instant>,
+    moved: u64,
+}
+
+impl<'a, C: Clock + Copy> Pace<'a, C> {
+    // That of a connection that begins now.
+    pub(super) fn new(clock: C, ended: &'a AtomicBool, waits: Waits) -> Pace<'a, C> {
+        Pace {
+            clock,
+            ended,
+            waits,
+            made: Instant::now(&clock).ok(),
+            began: None,
+            moved: 0,
+        }
+    }
+
+    // Whether so many milliseconds are over since then.
+    fn is_past(&self, since: Option<Instant>, ms: Option<u64>) -> bool {
+        let (Some(since), Some(ms)) = (since, ms) else {
+            return false;
+        };
+        match since.elapsed(&self.clock) {
+            Ok(past) => past >= Duration::from_millis(ms),
+            Err(_) => false,
+        }
+    }
+}
+
+impl<C: Clock + Copy> Patience for Pace<'_, C> {
+    fn moves(&mut self, count: usize) {
+        self.moved = self.moved.saturating_add(count as u64);
+        if self.began.is_none() {
+            self.began = Instant::now(&self.clock).ok();
+        }
+    }
+
+    fn rests(&mut self) {
+        self.moved = 0;
+        self.began = None;
+    }
+
+    fn is_over(&self, looks: u64) -> bool {
+        if self.ended.load(Ordering::SeqCst) {
+            return true;
+        }
+        let quiet = looks.saturating_mul(self.waits.look_ms());
+        if self.waits.quiet_ms.is_some_and(|ms| quiet >= ms) {
+            return true;
+        }
+        let more_ms = (self.moved / BYTES_A_SECOND).saturating_mul(1_000);
+        let message_ms = self.waits.message_ms.map(|ms| ms.saturating_add(more_ms));
+        self.is_past(self.began, message_ms) || self.is_past(self.made, self.waits.whole_ms)
+    }
+}
+
+// Makes each read and write of a new stream come back after a while, so that it can be looked whether to go on.
+pub(super) fn set_looks(stream: &TcpStream, waits: Waits) -> io::Result<()> {
+    let wait = Some(Duration::from_millis(waits.look_ms()));
+    stream.set_read_timeout(wait)?;
+    stream.set_write_timeout(wait)
+}
+
+// What is to be done after an error of a stream.
+#[derive(Clone, Copy)]
+pub(super) enum Remedy {
+    // To try again.
+    Again,
+    // To look whether to go on.
+    Look,
+    // The stream has failed.
+    GiveUp,
+}
+
+pub(super) fn remedy_for(error: &io::Error) -> Remedy {
+    match error.kind() {
+        ErrorKind::Interrupted => Remedy::Again,
+        ErrorKind::WouldBlock | ErrorKind::TimedOut => Remedy::Look,
+        _ => Remedy::GiveUp,
+    }
+}
