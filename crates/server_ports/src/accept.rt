@@ -1,6 +1,7 @@
 // The connections of a port, each in a thread of its own.
 ghost use Rattle.std.specs.Prelude.{◌≡◌, ◌<◌, ◌≤◌};
 ghost use Rattle.server_ports.specs.declared.accept.ServerEnd.TheVariants.{PortFault};
+ghost use Rattle.actor_ports.specs.declared.port.PortError.{PortError};
 ghost use Rattle.server_ports.specs.declared.duty.Duty.{Duty};
 
 use crate::duty::Duty;
@@ -23,10 +24,21 @@ pub enum ServerEnd {
     OutOfMemory,
 }
 
+// How a loop ends whose listener gave this error.
+fn end_of(error: PortError) -> ServerEnd
+    ensures { result ≡ PortFault → error ≡ PortError.Failed }
+{
+    match error {
+        PortError::Failed => ServerEnd::PortFault,
+        PortError::OutOfMemory => ServerEnd::OutOfMemory,
+    }
+}
+
 /// Accepts connections until `most` were served or the service is over, and serves each by `serve` in a thread of its own.
 /// One beyond those that the service takes at once waits to be accepted. While no thread can be made, a connection waits,
 /// with pauses, and is closed if the service is over first. Before each accept it makes a turn of each work from number
-/// `idle` on. It returns when all connections have ended, and gives its pass back.
+/// `idle` on. A port that fails ends the service; once that is over the port is closed, and what still waits is woken. It
+/// returns when all connections have ended, and gives its pass back.
 fn accept_all<
     R: Threads + Wait + Sync,
     V: Service<P>,
@@ -64,6 +76,7 @@ fn accept_all<
             let mut pass = pass;
             let mut port = port;
             let mut served = 0u64;
+            let mut end = ServerEnd::Served;
             for _ in rt.forever() {
                 if service.is_over() || most == Some(served) {
                     break;
@@ -75,8 +88,11 @@ fn accept_all<
                 }
                 let conn = match port.accept() {
                     Ok(conn) => conn,
-                    Err(PortError::Failed) => return (port, ServerEnd::PortFault, pass),
-                    Err(PortError::OutOfMemory) => return (port, ServerEnd::OutOfMemory, pass),
+                    Err(error) => {
+                        end = end_of(error);
+                        service.end();
+                        break;
+                    }
                 };
                 served = served.saturating_add(1);
                 let (kept, own) = service.split(pass);
@@ -103,13 +119,17 @@ fn accept_all<
                     pass = duty(Duty::Pause, pass);
                 }
             }
-            (port, ServerEnd::Served, pass)
+            if service.is_over() {
+                port.close();
+                pass = duty(Duty::Wake, pass);
+            }
+            (port, end, pass)
         },
     )
 }
 
-/// Accepts connections and serves them as `accept_all` does. Then the service is over, the loops that wait for a
-/// connection are woken, and the works whose turns were made here are finished.
+/// Accepts connections and serves them as `accept_all` does. Then the service is over, what still waits is woken, and the
+/// works whose turns were made here are finished.
 pub(crate) fn accept_to_end<
     R: Threads + Wait + Sync,
     V: Service<P>,

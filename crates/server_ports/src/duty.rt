@@ -14,6 +14,7 @@ pub enum Duty {
     Pause,
     /// What is left to do for it, once the service is over.
     Finish(u32),
-    /// To wake the loops that wait for a connection, once the service is over.
+    /// To wake the loops that wait for a connection, and to end the connections that wait for a byte, once the service is
+    /// over.
     Wake,
 }

@@ -49,4 +49,8 @@ impl<L: Listen + Drop + Send> Listen for HostPort<L> {
             }
         }
     }
+
+    fn close(&mut self) {
+        self.port.close();
+    }
 }

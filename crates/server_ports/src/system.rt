@@ -1,5 +1,5 @@
 // The host over the system's files and TCP.
-ghost use Rattle.std.specs.Prelude.{◌≡◌, ◌<◌, ◌≤◌, ◌+◌, ◌-◌, None, IfOk};
+ghost use Rattle.std.specs.Prelude.{◌≡◌, ◌<◌, ◌≤◌, ◌+◌, ◌-◌, ◌↔◌, None, IfOk, IsTrue};
 ghost use Rattle.actor_ports.specs.Port.{HasCause};
 ghost use Rattle.actor_ports.specs.Traffic.{Counts};
 ghost use Rattle.server_ports.specs.Hosts.{HostCounts, none_out, given_out, out_after};
@@ -8,13 +8,15 @@ use crate::disk::HostDisk;
 use crate::host::Host;
 use crate::port::HostPort;
 use actor_names::Address;
-use actor_ports::{PortError, TcpListen};
+use actor_ports::{PortError, TcpListen, Waits};
 use disk_model::FileDisk;
 use std::alloc::Global;
 use std::fs::{File, Files, OpenOptions};
 use std::marker::Model;
 use std::net::{IpAddr, Ipv4Addr, Net, SocketAddr, TcpListener, TcpStream};
 use std::os::unix::fs::OpenOptionsExt;
+use std::sync::Arc;
+use std::sync::atomic::AtomicBool;
 use std::time::Clock;
 
 // Opens a file, and locks it: another process, or another disk of this one, that has it open is a failure. A file that is
@@ -34,7 +36,8 @@ fn open_alone<S: Files<File = File>>(system: &S, path: &str, create: bool) -> Op
 /// The system's files and TCP ports. It reports nothing of what was asked for.
 ///
 /// In `main(rt: HostRuntime)`, for connections that fail after a minute without a byte:
-/// `let host = SystemHost::new(rt.alloc(), rt, Some(60_000));`
+/// `let ended = Arc::new(rt.alloc(), AtomicBool::new(false))?;`
+/// `let host = SystemHost::new(rt.alloc(), rt, ended, Waits::quiet(60_000));`
 #[derive(Drop)]
 pub struct SystemHost<
     S: Files<File = File>
@@ -46,7 +49,8 @@ pub struct SystemHost<
 > {
     alloc: Global,
     system: S,
-    wait_ms: Option<u64>,
+    ended: Arc<AtomicBool, Global>,
+    waits: Waits,
     disks_out: u64,
     disk_faults: u64,
     ports_out: u64,
@@ -79,15 +83,20 @@ impl<
         + Send
         + Drop,
 > SystemHost<S> {
-    /// A host whose connections fail after `wait_ms` milliseconds in which no byte comes or goes. `None` waits for as long
-    /// as the system does, and 0 counts as 1.
-    pub fn new(alloc: Global, system: S, wait_ms: Option<u64>) -> SystemHost<S>
+    /// A host whose connections wait so, as long as `ended` is false.
+    pub fn new(
+        alloc: Global,
+        system: S,
+        ended: Arc<AtomicBool, Global>,
+        waits: Waits,
+    ) -> SystemHost<S>
         ensures { result ≡ record { disks = none_out; ports = none_out } }
     {
         SystemHost {
             alloc,
             system,
-            wait_ms,
+            ended,
+            waits,
             disks_out: 0,
             disk_faults: 0,
             ports_out: 0,
@@ -153,6 +162,9 @@ impl<
         if self.port_faults >= u64::MAX - self.ports_out {
             return Err(PortError::OutOfMemory);
         }
+        let Ok(ended) = Arc::try_clone(&self.ended) else {
+            return Err(PortError::OutOfMemory);
+        };
         let address = SocketAddr::new(IpAddr::V4(Ipv4Addr::from_bits(at.ip)), at.port);
         let Ok(listener) = self.system.bind(address) else {
             self.port_faults += 1;
@@ -160,7 +172,7 @@ impl<
         };
         self.ports_out += 1;
         Ok(HostPort {
-            port: TcpListen::new(self.alloc, self.system, listener, self.wait_ms),
+            port: TcpListen::new(self.alloc, self.system, ended, listener, self.waits),
             faults: 0,
         })
     }
@@ -191,11 +203,15 @@ impl<
         }
     }
 
-    fn disk_failed(disk: &HostDisk<FileDisk<File>>) -> bool {
+    fn disk_failed(disk: &HostDisk<FileDisk<File>>) -> bool
+        ensures { IsTrue result ↔ (0 < disk.now.faults) }
+    {
         disk.faults > 0
     }
 
-    fn port_failed(port: &HostPort<TcpListen<TcpListener, S>>) -> bool {
+    fn port_failed(port: &HostPort<TcpListen<TcpListener, S>>) -> bool
+        ensures { IsTrue result ↔ (0 < port.now.faults) }
+    {
         port.faults > 0
     }
 }

@@ -1,7 +1,7 @@
 // A dialler over TCP.
 ghost use Rattle.std.specs.Prelude.{◌≡◌, ◌<◌, ◌≤◌, ◌+◌, ◌-◌, None, nat_lt, if◌then◌else◌, IfOk, IfErr};
 ghost use Rattle.actor_ports.specs.Port.{HasCause, faults_after};
-ghost use Rattle.actor_ports.specs.Traffic.{TakesRoom, Counts, StartsAnew};
+ghost use Rattle.actor_ports.specs.Traffic.{TakesRoom, Counts};
 ghost use Rattle.actor_ports.specs.Real.{DialCount};
 
 use super::pace::{Waits, set_looks};
@@ -11,26 +11,27 @@ use std::alloc::Global;
 use std::io;
 use std::marker::Model;
 use std::net::{IpAddr, Ipv4Addr, Net, SocketAddr, TcpStream};
+use std::sync::Arc;
 use std::sync::atomic::{AtomicBool, Ordering};
 use std::time::{Clock, Duration};
 
 /// A dialler over TCP. It reports nothing of what was dialled.
 ///
 /// In `main(rt: HostRuntime)`, to connect within 5 seconds, and to wait 10 for each byte:
-/// `let ended = AtomicBool::new(false);`
-/// `let dialler = TcpDial::new(rt.alloc(), rt, &ended, Some(5_000), Waits::quiet(10_000));`
+/// `let ended = Arc::new(rt.alloc(), AtomicBool::new(false))?;`
+/// `let dialler = TcpDial::new(rt.alloc(), rt, ended, Some(5_000), Waits::quiet(10_000));`
 #[derive(Drop)]
-pub struct TcpDial<'a, N: Net<Stream = TcpStream> + Clock + Copy> {
+pub struct TcpDial<N: Net<Stream = TcpStream> + Clock + Copy> {
     alloc: Global,
     net: N,
-    ended: &'a AtomicBool,
+    ended: Arc<AtomicBool, Global>,
     connect_ms: Option<u64>,
     waits: Waits,
     room: u64,
     faults: u64,
 }
 
-impl<'a, N: Net<Stream = TcpStream> + Clock + Copy> Model for TcpDial<'a, N> {
+impl<N: Net<Stream = TcpStream> + Clock + Copy> Model for TcpDial<N> {
     ghost use Rattle.std.specs.Prelude.{◌<◌, ◌+◌, ◌^◌};
     ghost use Rattle.actor_ports.specs.Real.{DialCount};
 
@@ -41,16 +42,16 @@ impl<'a, N: Net<Stream = TcpStream> + Clock + Copy> Model for TcpDial<'a, N> {
     ghost invariant = { λ s. s.faults + s.room < 2 ^ 64 };
 }
 
-impl<'a, N: Net<Stream = TcpStream> + Clock + Copy> TcpDial<'a, N> {
+impl<N: Net<Stream = TcpStream> + Clock + Copy> TcpDial<N> {
     /// A dialler whose dials fail after `connect_ms` milliseconds without an answer, and whose links wait so, as long as
     /// `ended` is false. `None` waits for as long as the system does, and 0 counts as 1. `end_links` makes `ended` true.
     pub fn new(
         alloc: Global,
         net: N,
-        ended: &'a AtomicBool,
+        ended: Arc<AtomicBool, Global>,
         connect_ms: Option<u64>,
         waits: Waits,
-    ) -> TcpDial<'a, N>
+    ) -> TcpDial<N>
         ensures { result ≡ record { room = 0; faults = 0 } }
     {
         TcpDial {
@@ -65,8 +66,8 @@ impl<'a, N: Net<Stream = TcpStream> + Clock + Copy> TcpDial<'a, N> {
     }
 }
 
-impl<'a, N: Net<Stream = TcpStream> + Clock + Copy + Send> Dial for TcpDial<'a, N> {
-    type Link = StreamConn<'a, TcpStream, N>;
+impl<N: Net<Stream = TcpStream> + Clock + Copy + Send> Dial for TcpDial<N> {
+    type Link = StreamConn<TcpStream, N>;
 
     ghost dial_faults = { λ s. s.faults };
 
@@ -76,7 +77,7 @@ impl<'a, N: Net<Stream = TcpStream> + Clock + Copy + Send> Dial for TcpDial<'a, 
 
     /// Connects; a failure is counted. When the faults and the links that are out together reach 2^64 - 1, no further
     /// one can be counted: it answers `OutOfMemory` and connects to nothing.
-    fn dial(&mut self, ip: u32, port: u16) -> Result<StreamConn<'a, TcpStream, N>, PortError>
+    fn dial(&mut self, ip: u32, port: u16) -> Result<StreamConn<TcpStream, N>, PortError>
         ensures fresh { IfOk result (λ link. link.faults ≡ 0) }
         ensures room { TakesRoom self.old.room self.new.room result }
         ensures cause { HasCause self.old.faults self.new.faults result }
@@ -86,22 +87,25 @@ impl<'a, N: Net<Stream = TcpStream> + Clock + Copy + Send> Dial for TcpDial<'a, 
         if self.faults >= u64::MAX - self.room {
             return Err(PortError::OutOfMemory);
         }
+        let Ok(ended) = Arc::try_clone(&self.ended) else {
+            return Err(PortError::OutOfMemory);
+        };
         let Ok(stream) = connect(&self.net, ip, port, self.connect_ms, self.waits) else {
             self.faults += 1;
             return Err(PortError::Failed);
         };
-        let link = StreamConn::new(self.alloc, stream, self.net, self.ended, self.waits)?;
+        let link = StreamConn::new(self.alloc, stream, self.net, ended, self.waits)?;
         self.room += 1;
         Ok(link)
     }
 
     /// Closes the link.
-    fn done(&mut self, link: StreamConn<'a, TcpStream, N>)
+    fn done(&mut self, link: StreamConn<TcpStream, N>)
         requires { 0 < self.old.room }
         ensures room { self.old.room ≤ self.new.room + 1 }
-        ensures cause { Counts self.old.faults self.new.faults link.entry.faults }
+        ensures cause { Counts self.old.faults self.new.faults link.faults }
 
-        ensures counted { self.new.faults ≡ self.old.faults + (if nat_lt 0 link.entry.faults then 1 else 0) }
+        ensures counted { self.new.faults ≡ self.old.faults + (if nat_lt 0 link.faults then 1 else 0) }
     {
         self.room -= 1;
         if link.faults() > 0 {
@@ -109,18 +113,20 @@ impl<'a, N: Net<Stream = TcpStream> + Clock + Copy + Send> Dial for TcpDial<'a, 
         }
     }
 
-    /// A dialler with the same time-outs. It takes no memory.
-    fn another(&self) -> Result<TcpDial<'a, N>, PortError>
+    /// A dialler with the same time-outs. It takes no memory; at more than 2^63 others it answers `OutOfMemory`.
+    fn another(&self) -> Result<TcpDial<N>, PortError>
         ensures fresh { IfOk result (λ other. other.faults ≡ 0) }
-        ensures anew { IfOk result (λ other. StartsAnew None None) }
         ensures memory { IfErr result (λ e. e ≡ PortError.OutOfMemory) }
 
         ensures counts { IfOk result (λ other. other ≡ record { room = 0; faults = 0 }) }
     {
+        let Ok(ended) = Arc::try_clone(&self.ended) else {
+            return Err(PortError::OutOfMemory);
+        };
         Ok(TcpDial {
             alloc: self.alloc,
             net: self.net,
-            ended: self.ended,
+            ended,
             connect_ms: self.connect_ms,
             waits: self.waits,
             room: 0,

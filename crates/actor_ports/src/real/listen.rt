@@ -8,6 +8,7 @@ use crate::port::{Listen, PortError};
 use std::alloc::Global;
 use std::marker::Model;
 use std::net::{OpenListener, TcpStream};
+use std::sync::Arc;
 use std::sync::atomic::AtomicBool;
 use std::time::{Clock, Duration};
 use std::{io, thread};
@@ -18,21 +19,20 @@ const PAUSE_MS: u64 = 50;
 /// A listener over TCP.
 ///
 /// In `main(rt: HostRuntime)`, for connections that fail after a minute without a byte:
-/// `let ended = AtomicBool::new(false);`
+/// `let ended = Arc::new(rt.alloc(), AtomicBool::new(false))?;`
 /// `let bound = TcpListener::bind(&rt, "127.0.0.1:7400")?;`
-/// `let listener = TcpListen::new(rt.alloc(), rt, &ended, bound, Waits::quiet(60_000));`
+/// `let listener = TcpListen::new(rt.alloc(), rt, ended, bound, Waits::quiet(60_000));`
 #[derive(Drop)]
-pub struct TcpListen<'a, L: OpenListener<Stream = TcpStream> + Drop + Send, C: Clock + Copy> {
+pub struct TcpListen<L: OpenListener<Stream = TcpStream> + Drop + Send, C: Clock + Copy> {
     alloc: Global,
     clock: C,
-    ended: &'a AtomicBool,
+    ended: Arc<AtomicBool, Global>,
     listener: Option<L>,
     waits: Waits,
     faults: u64,
 }
 
-impl<'a, L: OpenListener<Stream = TcpStream> + Drop + Send, C: Clock + Copy> Model
-    for TcpListen<'a, L, C> {
+impl<L: OpenListener<Stream = TcpStream> + Drop + Send, C: Clock + Copy> Model for TcpListen<L, C> {
     ghost use Rattle.std.specs.Prelude.{Option};
     ghost use Rattle.actor_ports.specs.Real.{Counted};
 
@@ -41,16 +41,16 @@ impl<'a, L: OpenListener<Stream = TcpStream> + Drop + Send, C: Clock + Copy> Mod
     ghost view = { λ s. record { inner = s.listener; faults = s.faults } };
 }
 
-impl<'a, L: OpenListener<Stream = TcpStream> + Drop + Send, C: Clock + Copy> TcpListen<'a, L, C> {
+impl<L: OpenListener<Stream = TcpStream> + Drop + Send, C: Clock + Copy> TcpListen<L, C> {
     /// A listener whose connections wait so, as long as `ended` is false. By the clock it waits too while the system has no
     /// room for a connection.
     pub fn new(
         alloc: Global,
         clock: C,
-        ended: &'a AtomicBool,
+        ended: Arc<AtomicBool, Global>,
         listener: L,
         waits: Waits,
-    ) -> TcpListen<'a, L, C>
+    ) -> TcpListen<L, C>
         ensures { result ≡ record { inner = Some listener; faults = 0 } }
     {
         TcpListen {
@@ -64,9 +64,9 @@ impl<'a, L: OpenListener<Stream = TcpStream> + Drop + Send, C: Clock + Copy> Tcp
     }
 }
 
-impl<'a, L: OpenListener<Stream = TcpStream> + Drop + Send, C: Clock + Copy + Send> Listen
-    for TcpListen<'a, L, C> {
-    type Link = StreamConn<'a, TcpStream, C>;
+impl<L: OpenListener<Stream = TcpStream> + Drop + Send, C: Clock + Copy + Send> Listen
+    for TcpListen<L, C> {
+    type Link = StreamConn<TcpStream, C>;
 
     ghost listen_faults = { λ s. s.faults };
 
@@ -74,7 +74,7 @@ impl<'a, L: OpenListener<Stream = TcpStream> + Drop + Send, C: Clock + Copy + Se
     /// connection (too many open files, no memory), it waits and tries again; a connection that is gone before it is
     /// accepted, or that fails as it is set up, is nobody's fault, and the next one is waited for. After 2^64 - 1 failures
     /// no further one can be counted: it answers `OutOfMemory` and accepts nothing.
-    fn accept(&mut self) -> Result<StreamConn<'a, TcpStream, C>, PortError>
+    fn accept(&mut self) -> Result<StreamConn<TcpStream, C>, PortError>
         ensures fresh { IfOk result (λ link. link.faults ≡ 0) }
         ensures cause { HasCause self.old.faults self.new.faults result }
 
@@ -86,7 +86,7 @@ impl<'a, L: OpenListener<Stream = TcpStream> + Drop + Send, C: Clock + Copy + Se
         let next = accept_next(
             self.alloc,
             self.clock,
-            self.ended,
+            &self.ended,
             &self.listener,
             self.waits,
         );
@@ -130,13 +130,13 @@ fn remedy_for(error: &io::Error) -> Remedy {
 }
 
 // The next connection; none if the port is closed or lost.
-fn accept_next<'a, L: OpenListener<Stream = TcpStream>, C: Clock + Copy>(
+fn accept_next<L: OpenListener<Stream = TcpStream>, C: Clock + Copy>(
     alloc: Global,
     clock: C,
-    ended: &'a AtomicBool,
+    ended: &Arc<AtomicBool, Global>,
     listener: &Option<L>,
     waits: Waits,
-) -> Option<StreamConn<'a, TcpStream, C>>
+) -> Option<StreamConn<TcpStream, C>>
     ensures { IfSome result (λ conn. conn.faults ≡ 0) }
 {
     let listener = listener.as_ref()?;
@@ -158,15 +158,16 @@ fn accept_next<'a, L: OpenListener<Stream = TcpStream>, C: Clock + Copy>(
 }
 
 // A connection over this stream, unless it is gone or there is no memory for it.
-fn set_up<'a, C: Clock + Copy>(
+fn set_up<C: Clock + Copy>(
     alloc: Global,
     stream: TcpStream,
     clock: C,
-    ended: &'a AtomicBool,
+    ended: &Arc<AtomicBool, Global>,
     waits: Waits,
-) -> Option<StreamConn<'a, TcpStream, C>>
+) -> Option<StreamConn<TcpStream, C>>
     ensures { IfSome result (λ conn. conn.faults ≡ 0) }
 {
     set_looks(&stream, waits).ok()?;
+    let ended = Arc::try_clone(ended).ok()?;
     StreamConn::new(alloc, stream, clock, ended, waits).ok()
 }

@@ -1,7 +1,9 @@
 // How long a connection waits, and when it is given up.
+use std::alloc::Global;
 use std::io;
 use std::io::ErrorKind;
 use std::net::TcpStream;
+use std::sync::Arc;
 use std::sync::atomic::{AtomicBool, Ordering};
 use std::time::{Clock, Duration, Instant};
 
@@ -77,18 +79,18 @@ impl Patience for Impatient {
 
 // What a connection has waited, by a clock, and whether it is still wanted: it isn't once `ended` is true.
 #[derive(Drop)]
-pub(super) struct Pace<'a, C: Clock + Copy> {
+pub(super) struct Pace<C: Clock + Copy> {
     clock: C,
-    ended: &'a AtomicBool,
+    ended: Arc<AtomicBool, Global>,
     waits: Waits,
     made: Option<Instant>,
     began: Option<Instant>,
     moved: u64,
 }
 
-impl<'a, C: Clock + Copy> Pace<'a, C> {
+impl<C: Clock + Copy> Pace<C> {
     // That of a connection that begins now.
-    pub(super) fn new(clock: C, ended: &'a AtomicBool, waits: Waits) -> Pace<'a, C> {
+    pub(super) fn new(clock: C, ended: Arc<AtomicBool, Global>, waits: Waits) -> Pace<C> {
         Pace {
             clock,
             ended,
@@ -111,7 +113,7 @@ impl<'a, C: Clock + Copy> Pace<'a, C> {
     }
 }
 
-impl<C: Clock + Copy> Patience for Pace<'_, C> {
+impl<C: Clock + Copy> Patience for Pace<C> {
     fn moves(&mut self, count: usize) {
         self.moved = self.moved.saturating_add(count as u64);
         if self.began.is_none() {

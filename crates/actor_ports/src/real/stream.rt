@@ -10,6 +10,7 @@ use crate::port::{Conn, PortError, Sink, Source};
 use std::alloc::Global;
 use std::io::{Read, Write};
 use std::marker::Model;
+use std::sync::Arc;
 use std::sync::atomic::AtomicBool;
 use std::time::Clock;
 
@@ -17,14 +18,14 @@ use std::time::Clock;
 ///
 /// It fails once it has waited for too long, or isn't wanted any more; that counts like any other failure.
 #[derive(Drop)]
-pub struct StreamConn<'a, S: Read + Write + Drop + Send, C: Clock + Copy> {
+pub struct StreamConn<S: Read + Write + Drop + Send, C: Clock + Copy> {
     stream: S,
-    pace: Pace<'a, C>,
+    pace: Pace<C>,
     piece: Vec<u8>,
     faults: u64,
 }
 
-impl<'a, S: Read + Write + Drop + Send, C: Clock + Copy> Model for StreamConn<'a, S, C> {
+impl<S: Read + Write + Drop + Send, C: Clock + Copy> Model for StreamConn<S, C> {
     ghost use Rattle.std.specs.Prelude.{◌≡◌, vec_len};
     ghost use Rattle.actor_ports.specs.Real.{Counted};
 
@@ -35,7 +36,7 @@ impl<'a, S: Read + Write + Drop + Send, C: Clock + Copy> Model for StreamConn<'a
     ghost invariant = { λ s. vec_len s.piece ≡ 65536 };
 }
 
-impl<'a, S: Read + Write + Drop + Send, C: Clock + Copy> StreamConn<'a, S, C> {
+impl<S: Read + Write + Drop + Send, C: Clock + Copy> StreamConn<S, C> {
     /// A connection over this stream, with room for one piece of 65,536 bytes. It waits by this clock, as long as `ended` is
     /// false; a read or write of the stream has to come back once in a while for that, as `WouldBlock` or `TimedOut`.
     /// The only error is `OutOfMemory`, which drops the stream.
@@ -43,9 +44,9 @@ impl<'a, S: Read + Write + Drop + Send, C: Clock + Copy> StreamConn<'a, S, C> {
         alloc: Global,
         stream: S,
         clock: C,
-        ended: &'a AtomicBool,
+        ended: Arc<AtomicBool, Global>,
         waits: Waits,
-    ) -> Result<StreamConn<'a, S, C>, PortError>
+    ) -> Result<StreamConn<S, C>, PortError>
         ensures holds { IfOk result (λ s. s ≡ record { inner = stream; faults = 0 }) }
         ensures memory { IfErr result (λ e. e ≡ PortError.OutOfMemory) }
     {
@@ -66,7 +67,7 @@ impl<'a, S: Read + Write + Drop + Send, C: Clock + Copy> StreamConn<'a, S, C> {
     }
 }
 
-impl<S: Read + Write + Drop + Send, C: Clock + Copy> Source for StreamConn<'_, S, C> {
+impl<S: Read + Write + Drop + Send, C: Clock + Copy> Source for StreamConn<S, C> {
     ghost remaining = { λ _. None };
 
     ghost read_faults = { λ s. s.faults };
@@ -93,7 +94,7 @@ impl<S: Read + Write + Drop + Send, C: Clock + Copy> Source for StreamConn<'_, S
     }
 }
 
-impl<S: Read + Write + Drop + Send, C: Clock + Copy> Sink for StreamConn<'_, S, C> {
+impl<S: Read + Write + Drop + Send, C: Clock + Copy> Sink for StreamConn<S, C> {
     ghost contents = { λ _. None };
 
     ghost write_faults = { λ s. s.faults };
@@ -112,7 +113,7 @@ impl<S: Read + Write + Drop + Send, C: Clock + Copy> Sink for StreamConn<'_, S, 
     }
 }
 
-impl<S: Read + Write + Drop + Send, C: Clock + Copy + Send> Conn for StreamConn<'_, S, C> {
+impl<S: Read + Write + Drop + Send, C: Clock + Copy + Send> Conn for StreamConn<S, C> {
     ghost one_count = { λ _. refl };
 
     ghost one_traffic = { λ _. refl };
