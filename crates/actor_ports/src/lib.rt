@@ -10,10 +10,10 @@ mod memory;
 mod port;
 mod real;
 mod session;
+mod waits;
 
 pub use memory::{MemClock, MemConn, MemDial, MemListen, MemSink, MemSource};
 pub use port::{Clock, Conn, Dial, Listen, PortError, Sink, Source};
-pub use real::{
-    ReaderSource, StreamConn, SystemClock, TcpDial, TcpListen, WITHOUT_END, Waits, WriterSink,
-};
+pub use real::{ReaderSource, StreamConn, SystemClock, TcpDial, TcpListen, WriterSink};
 pub use session::SessionEnd;
+pub use waits::{WITHOUT_END, Waits};

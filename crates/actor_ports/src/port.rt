@@ -3,6 +3,7 @@ ghost use Rattle.std.specs.Prelude.{◌≡◌, ◌<◌, ◌≤◌, ℕ, ◌+◌,
 ghost use Rattle.actor_ports.specs.Port.{HasCause, Appends, TakesFront, WritesAll};
 ghost use Rattle.actor_ports.specs.Traffic.{Place, Traffic, Dialled, Receives, Sends, Dials, TakesRoom, TakesBack, Counts, StartsAnew};
 
+use crate::waits::Waits;
 use thiserror::Error;
 
 /// Why a call to the outside gave no answer.
@@ -88,6 +89,16 @@ pub trait Dial: Drop + Send {
         ensures dials { Dials Self.Link.read_traffic (dialled self.old) (dialled self.new) (record { ip = ip; port = port }) result }
         ensures room { TakesRoom (room self.old) (room self.new) result }
         ensures cause { HasCause (dial_faults self.old) (dial_faults self.new) result };
+
+    /// Connects as `dial` does; the link waits so, where the dialler can see to that.
+    fn dial_waiting(&mut self, ip: u32, port: u16, _waits: Waits) -> Result<Self::Link, PortError>
+        ensures fresh { IfOk result (λ link. Self.Link.read_faults link ≡ 0) }
+        ensures dials { Dials Self.Link.read_traffic (dialled self.old) (dialled self.new) (record { ip = ip; port = port }) result }
+        ensures room { TakesRoom (room self.old) (room self.new) result }
+        ensures cause { HasCause (dial_faults self.old) (dial_faults self.new) result }
+    {
+        self.dial(ip, port)
+    }
 
     /// Takes a link back. It needs no memory and can't fail; a link that failed counts as a fault of the dialler.
     fn done(&mut self, link: Self::Link)

@@ -4,14 +4,15 @@
 // server_ports and actor_ports.
 #![tactic(auto)]
 
-use actor_ports::{ReaderSource, SystemClock, TcpDial, WriterSink};
+use actor_ports::{ReaderSource, SystemClock, TcpDial, WITHOUT_END, Waits, WriterSink};
 use actors_top::{Outside, Status, run};
 use server_ports::SystemHost;
 use std::fs::{File, Files};
 use std::net::{Net, TcpListener, TcpStream};
 use std::process::ExitCode;
 use std::rt::Env;
-use std::sync::Wait;
+use std::sync::atomic::AtomicBool;
+use std::sync::{Arc, Wait};
 use std::thread::Threads;
 use std::time::Clock;
 use std::{env, io};
@@ -25,8 +26,12 @@ const LINK_WAIT_MS: u64 = 10_000;
 /// How long a link to another sidecar waits for a byte, in milliseconds.
 const PEER_WAIT_MS: u64 = 300_000;
 
-/// How long a connection to a server waits for a byte, in milliseconds.
-const CONNECTION_WAIT_MS: u64 = 60_000;
+/// How long a connection to a server waits: for the next message, and for the whole of one that has begun.
+const CONNECTION_WAITS: Waits = Waits {
+    quiet_ms: Some(60_000),
+    message_ms: Some(30_000),
+    whole_ms: None,
+};
 
 fn main(rt: HostRuntime) -> ExitCode {
     ExitCode::from(status(rt))
@@ -53,17 +58,36 @@ fn status<
         Ok(words) => words,
         Err(refused) => return refused as u8,
     };
+    // One flag for all connections, so that they end together.
+    let Ok(ended) = Arc::new(rt.alloc(), AtomicBool::new(false)) else {
+        return Status::OutOfMemory as u8;
+    };
+    let (Ok(app_ended), Ok(peers_ended), Ok(host_ended)) = (
+        Arc::try_clone(&ended),
+        Arc::try_clone(&ended),
+        Arc::try_clone(&ended),
+    ) else {
+        return Status::OutOfMemory as u8;
+    };
     let Ok(input) = ReaderSource::new(rt.alloc(), rt.reader()) else {
         return Status::OutOfMemory as u8;
     };
+    let connect = Some(CONNECT_MS);
     let mut outside = Outside {
         input,
         output: WriterSink::new(io::writer(&rt)),
-        net: TcpDial::new(rt.alloc(), rt, Some(CONNECT_MS), Some(LINK_WAIT_MS)),
-        app: TcpDial::new(rt.alloc(), rt, Some(CONNECT_MS), None),
-        peers: TcpDial::new(rt.alloc(), rt, Some(CONNECT_MS), Some(PEER_WAIT_MS)),
+        net: TcpDial::new(rt.alloc(), rt, ended, connect, Waits::quiet(LINK_WAIT_MS)),
+        app: TcpDial::new(rt.alloc(), rt, app_ended, connect, WITHOUT_END),
+        peers: TcpDial::new(
+            rt.alloc(),
+            rt,
+            peers_ended,
+            connect,
+            Waits::quiet(PEER_WAIT_MS),
+        ),
         time: SystemClock::new(rt),
-        host: SystemHost::new(rt.alloc(), rt, Some(CONNECTION_WAIT_MS)),
+        steady: SystemClock::steady(rt),
+        host: SystemHost::new(rt.alloc(), rt, host_ended, CONNECTION_WAITS),
     };
     run(&rt, rt.alloc(), words.as_slice(), &mut outside)
 }

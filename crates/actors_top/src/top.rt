@@ -47,6 +47,8 @@ pub struct Outside<I, W, N, T, H> {
     pub peers: N,
     /// What gives the time.
     pub time: T,
+    /// A clock that nobody sets while the program runs: silence is measured by it.
+    pub steady: T,
     /// What opens disks and binds ports.
     pub host: H,
 }
@@ -67,7 +69,7 @@ fn placement<R: Threads + Wait + Sync, I: Source, W: Sink, N: Dial, T: Clock, H:
     ensures ports_back { H.ports_out out.new.host ≡ H.ports_out out.old.host }
     ensures disks_back { result ≢ ServerStatus.OutOfMemory → H.disks_out out.new.host ≡ H.disks_out out.old.host }
 {
-    match run_placement(rt, alloc, words, &mut out.host, &out.net, &mut out.time) {
+    match run_placement(rt, alloc, words, &mut out.host, &out.net, &mut out.steady) {
         PlacementEnd::Done => ServerStatus::Done,
         PlacementEnd::DiskFault => ServerStatus::DiskFault,
         PlacementEnd::PortFault => ServerStatus::PortFault,
@@ -128,6 +130,7 @@ fn sidecar<R: Threads + Wait + Sync, I: Source, W: Sink, N: Dial, T: Clock, H: H
         &mut out.net,
         &callees,
         &mut out.time,
+        &out.steady,
     );
     tell_sidecar(alloc, &end, &mut out.output)
 }

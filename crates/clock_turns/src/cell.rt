@@ -9,15 +9,22 @@ ghost use Rattle.clock_turns.specs.Closings.{Closing, IsTold, IsOwed, owed_entri
 use crate::closing_stand::{closing_end, is_fault};
 use crate::ends::TickEnd;
 use actor_names::{ActorKey, Address};
-use actor_ports::Dial;
+use actor_ports::{Dial, Waits};
 use app_texts::deactivate_request;
-use exchanges::exchange_at;
+use exchanges::exchange_waiting;
 use http_edge::{EdgeError, HttpResponse};
 use part_model::PartEvent;
 use sidecar_node::{Seats, SidecarNode};
 use std::alloc::Global;
 use std::sync::Wait;
 use timer_book::TimerEvent;
+
+// How long an application has to take notice that an actor is no longer active. Then the actor counts as told.
+const TOLD_WAITS: Waits = Waits {
+    quiet_ms: None,
+    message_ms: None,
+    whole_ms: Some(10_000),
+};
 
 /// What a deactivation came to.
 #[derive(Drop)]
@@ -52,7 +59,7 @@ fn tell_app<L: Dial>(
 {
     match deactivate_request(alloc, at, key) {
         Err(_) => Err(EdgeError::OutOfMemory),
-        Ok(asked) => exchange_at(alloc, app, at, &asked),
+        Ok(asked) => exchange_waiting(alloc, app, at, Some(TOLD_WAITS), &asked),
     }
 }
 

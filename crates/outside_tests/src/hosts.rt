@@ -1,10 +1,12 @@
 // What a host gives out, over memory and over the system.
 use actor_names::Address;
-use actor_ports::MemListen;
+use actor_ports::{MemListen, WITHOUT_END};
 use disk_model::{Disk, MemDisk};
 use server_ports::{Host, MemHost, SystemHost};
 use std::alloc::Global;
 use std::fs;
+use std::sync::Arc;
+use std::sync::atomic::AtomicBool;
 use std::test::Fail;
 
 const PATH: &str = "outside_tests_host";
@@ -35,7 +37,8 @@ fn returned_disk_that_failed_counts_as_fault(rt: HostRuntime) -> Result<(), Fail
 
 #[test]
 fn system_opens_files_and_binds_ports(rt: HostRuntime) -> Result<(), Fail> {
-    let mut host = SystemHost::new(rt.alloc(), rt, None);
+    let ended = Arc::new(rt.alloc(), AtomicBool::new(false))?;
+    let mut host = SystemHost::new(rt.alloc(), rt, ended, WITHOUT_END);
     assert!(rt; host.open_disk(PATH, false).is_err());
     let mut disk = host.open_disk(PATH, true)?;
     assert!(rt; host.open_disk(PATH, false).is_err());

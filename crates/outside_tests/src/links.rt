@@ -1,6 +1,8 @@
 // A link over which nothing comes, and a port that is closed, over TCP on one machine.
-use actor_ports::{Dial, Listen, PortError, Sink, Source, TcpDial, TcpListen};
+use actor_ports::{Dial, Listen, PortError, Sink, Source, TcpDial, TcpListen, Waits};
 use std::net::{Ipv4Addr, SocketAddr, TcpListener};
+use std::sync::Arc;
+use std::sync::atomic::AtomicBool;
 use std::test::Fail;
 
 /// 127.0.0.1.
@@ -10,8 +12,10 @@ const HERE: u32 = 0x7f00_0001;
 fn silent_link_and_closed_port_fail(rt: HostRuntime) -> Result<(), Fail> {
     let bound = TcpListener::bind(&rt, SocketAddr::from((Ipv4Addr::LOCALHOST, 0)))?;
     let port = bound.local_addr()?.port();
-    let mut listener = TcpListen::new(rt.alloc(), rt, bound, Some(50));
-    let mut dialler = TcpDial::new(rt.alloc(), rt, Some(5_000), Some(5_000));
+    let ended = Arc::new(rt.alloc(), AtomicBool::new(false))?;
+    let theirs = Arc::try_clone(&ended)?;
+    let mut listener = TcpListen::new(rt.alloc(), rt, theirs, bound, Waits::quiet(50));
+    let mut dialler = TcpDial::new(rt.alloc(), rt, ended, Some(5_000), Waits::quiet(5_000));
     let mut here = dialler.dial(HERE, port)?;
     let mut there = listener.accept()?;
     let mut into = Vec::new(rt.alloc());

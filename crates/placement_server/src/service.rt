@@ -37,9 +37,11 @@ fn knock<N: Dial>(net: &mut N, at: Address) {
 }
 
 impl<D: Disk> PlacementService<'_, D> {
-    /// Says that the server is over, and wakes the loops that wait for a connection.
+    /// Says that the server is over, ends the connections that wait for a byte, and wakes the loops that wait for a
+    /// connection.
     pub(crate) fn stop<N: Dial>(&self, net: &mut N) {
         self.over.store(true, Ordering::SeqCst);
+        net.end_links();
         knock(net, self.at);
         if let Some(at) = self.state_at {
             knock(net, at);
@@ -103,7 +105,8 @@ fn tick<R: Wait, D: Disk + Drop + Send, K: Clock, N: Dial>(
     pass
 }
 
-// Makes a connection to each port, if there are two: the loop of one may still wait for one.
+// Ends the connections that wait for a byte. Makes a connection to each port, if there are two: the loop of one may still
+// wait for one.
 fn wake<D: Disk, K: Clock, N: Dial>(
     service: &PlacementService<'_, D>,
     pass: Pass<D, K, N>,
@@ -111,6 +114,7 @@ fn wake<D: Disk, K: Clock, N: Dial>(
     ensures { result.seat ≡ pass.seat }
 {
     let mut pass = pass;
+    pass.net.end_links();
     if let Some(at) = service.state_at {
         knock(&mut pass.net, service.at);
         knock(&mut pass.net, at);

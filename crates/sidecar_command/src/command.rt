@@ -48,7 +48,7 @@ fn parts_of(words: &SidecarWords<'_>) -> u8
 /// Runs a sidecar. The store draws its boot, and its application says what it hosts; then it binds its two ports and serves
 /// them, until as many connections of callers were served as the words say, or without an end. It ends earlier if it
 /// doesn't start, has to stop, or a port fails. It starts by `net`, which gives it the connections to the placement and the
-/// store too; those of turns come from `callees`.
+/// store too; those of turns come from `callees`. Silence is measured by `steady`, all else by `clock`.
 pub fn run_sidecar<R: Threads + Wait + Sync, H: Host, N: Dial, K: Clock>(
     rt: &R,
     alloc: Global,
@@ -57,6 +57,7 @@ pub fn run_sidecar<R: Threads + Wait + Sync, H: Host, N: Dial, K: Clock>(
     net: &mut N,
     callees: &Callees<'_, N>,
     clock: &mut K,
+    steady: &K,
 ) -> SidecarEnd
     ensures asks { AsksPorts (place_of words.now.listen) (place_of words.now.peer) (H.asked host.old) (H.asked host.new) }
     // A fault is answered only if a count of such faults rose, and a stop only for a sound cause, once all parts were stopped.
@@ -79,5 +80,7 @@ pub fn run_sidecar<R: Threads + Wait + Sync, H: Host, N: Dial, K: Clock>(
         Ok(made) => made,
         Err(_) => return SidecarEnd::OutOfMemory,
     };
-    serve_started(rt, alloc, &node, seats, words, host, net, callees, clock)
+    serve_started(
+        rt, alloc, &node, seats, words, host, net, callees, clock, steady,
+    )
 }

@@ -44,6 +44,7 @@ fn serve_bound<R: Threads + Wait + Sync, H: Host, N: Dial, K: Clock>(
     links: Links<N>,
     net: N,
     clock: K,
+    steady: K,
 ) -> SidecarEnd
     requires seats { IsSeatsOf node.now seats }
     requires new { IsNew node.now seats }
@@ -72,6 +73,7 @@ fn serve_bound<R: Threads + Wait + Sync, H: Host, N: Dial, K: Clock>(
         links,
         net,
         clock,
+        steady,
         words.sessions,
     );
     let callers_failed = H::port_failed(&callers);
@@ -95,6 +97,7 @@ pub(crate) fn serve_started<R: Threads + Wait + Sync, H: Host, N: Dial, K: Clock
     net: &N,
     callees: &Callees<'_, N>,
     clock: &K,
+    steady: &K,
 ) -> SidecarEnd
     requires seats { IsSeatsOf node.now seats }
     requires new { IsNew node.now seats }
@@ -109,7 +112,7 @@ pub(crate) fn serve_started<R: Threads + Wait + Sync, H: Host, N: Dial, K: Clock
     let Some(links) = own_links(words, net, callees) else {
         return SidecarEnd::OutOfMemory;
     };
-    let (Ok(net), Ok(clock)) = (net.another(), clock.another()) else {
+    let (Ok(net), Ok(clock), Ok(steady)) = (net.another(), clock.another(), steady.another()) else {
         return SidecarEnd::OutOfMemory;
     };
     let callers = match host.bind(&words.listen) {
@@ -118,7 +121,7 @@ pub(crate) fn serve_started<R: Threads + Wait + Sync, H: Host, N: Dial, K: Clock
     };
     match host.bind(&words.peer) {
         Ok(peers) => serve_bound(
-            rt, alloc, node, seats, callers, peers, words, host, links, net, clock,
+            rt, alloc, node, seats, callers, peers, words, host, links, net, clock, steady,
         ),
         Err(error) => {
             host.done_port(callers);

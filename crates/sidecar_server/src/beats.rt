@@ -9,7 +9,7 @@ ghost use Rattle.sidecar_server.specs.Watch.{WatchTakes};
 use crate::pass::Pass;
 use crate::service::SidecarService;
 use crate::watch::{WatchEvent, is_final};
-use actor_ports::{Clock, Dial};
+use actor_ports::{Clock, Dial, Waits};
 use placement_beats::{TurnEnd, leave_turn, placement_turn};
 use sidecar_node::stop_turn;
 use std::sync::Wait;
@@ -66,6 +66,13 @@ fn heard_of<N: Dial, K: Clock>(end: TurnEnd, began: u64) -> Option<WatchEvent>
     }
 }
 
+// How long a link to the placement waits for a byte: within the patience of the watch, so that a silence is seen in time.
+const WAITS: Waits = Waits {
+    quiet_ms: Some(2_000),
+    message_ms: None,
+    whole_ms: None,
+};
+
 // The link to the placement, dialled if there is none.
 fn linked<N: Dial, K: Clock>(
     service: &SidecarService<'_, N, K>,
@@ -74,7 +81,9 @@ fn linked<N: Dial, K: Clock>(
 ) -> Option<N::Link> {
     match link {
         Some(link) => Some(link),
-        None => net.dial(service.placement.ip, service.placement.port).ok(),
+        None => net
+            .dial_waiting(service.placement.ip, service.placement.port, WAITS)
+            .ok(),
     }
 }
 
@@ -106,7 +115,7 @@ pub(crate) fn beat<R: Wait, N: Dial, K: Clock>(
     };
     let mut link = link;
     // The placement can't have heard this turn's frame before it began.
-    let began = pass.clock.now_ms();
+    let began = pass.steady.now_ms();
     let (seats, end) = placement_turn(
         rt,
         service.alloc,
@@ -114,7 +123,7 @@ pub(crate) fn beat<R: Wait, N: Dial, K: Clock>(
         pass.seats,
         &mut pass.book,
         &mut link,
-        &mut pass.clock,
+        &mut pass.steady,
     );
     pass.seats = seats;
     pass.link = kept_link(end, link);

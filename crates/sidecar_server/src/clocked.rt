@@ -20,7 +20,7 @@ pub(crate) fn look<R: Wait, N: Dial, K: Clock>(
     ensures { Admits service.now.node.now service.now.watch.now result.seats result.watch }
 {
     let mut pass = pass;
-    let now = pass.clock.now_ms();
+    let now = pass.steady.now_ms();
     tell_watch(rt, service, pass, WatchEvent::Look { now })
 }
 

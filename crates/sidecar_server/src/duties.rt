@@ -9,14 +9,15 @@ use actor_ports::{Clock, Dial};
 use server_ports::{Duty, SHORT_PAUSE_MS};
 use std::sync::Wait;
 
-// The works: the turns with the placement, the watch, the deactivation of idle actors, timers, and reminders as the last.
+// The works: the turns with the placement, the watch, timers and reminders. All that follow deactivate the actors whose time
+// is over: several threads, so that many actors that move, or an application that doesn't answer, hold up a space less.
 const BEATS: u32 = 0;
 
 const WATCH: u32 = 1;
 
-const CLOSING: u32 = 2;
+const TIMERS: u32 = 2;
 
-const TIMERS: u32 = 3;
+const REMINDERS: u32 = 3;
 
 // How long they wait between two turns, in milliseconds.
 const USUAL_PAUSE_MS: u64 = 200;
@@ -27,13 +28,11 @@ const REMINDERS_PAUSE_MS: u64 = 1_000;
 
 // How long a work waits between two turns.
 fn pause_of(work: u32) -> u64 {
-    if work == TIMERS {
-        return TIMERS_PAUSE_MS;
+    match work {
+        TIMERS => TIMERS_PAUSE_MS,
+        REMINDERS => REMINDERS_PAUSE_MS,
+        _ => USUAL_PAUSE_MS,
     }
-    if work < TIMERS {
-        return USUAL_PAUSE_MS;
-    }
-    REMINDERS_PAUSE_MS
 }
 
 // One turn of a work.
@@ -52,13 +51,13 @@ fn turn<R: Wait, N: Dial, K: Clock>(
     if work == WATCH {
         return look(rt, service, pass);
     }
-    if work == CLOSING {
-        return close_idle(rt, service, pass);
-    }
     if work == TIMERS {
         return run_timers(rt, service, pass);
     }
-    run_reminders(rt, service, pass)
+    if work == REMINDERS {
+        return run_reminders(rt, service, pass);
+    }
+    close_idle(rt, service, pass)
 }
 
 /// What a thread does beside the connections. With the last of its turns the sidecar leaves the placement.

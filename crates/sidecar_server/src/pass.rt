@@ -7,7 +7,7 @@ use sidecar_node::Seats;
 use step_gate::Seat;
 
 /// What a thread of a sidecar has to itself: its seats at the gates of the parts and timers and at that of the watch, what
-/// it calls, a dialler for the placement and to wake the ports with, and a clock. The thread that speaks with the placement
+/// it calls, a dialler for the placement and to wake the ports with, a clock, and one by which silence is measured. The thread that speaks with the placement
 /// alone keeps the book of that and the link to it.
 #[derive(Drop)]
 pub(crate) struct Pass<N: Dial, K: Clock> {
@@ -16,6 +16,7 @@ pub(crate) struct Pass<N: Dial, K: Clock> {
     pub(crate) links: Links<N>,
     pub(crate) net: N,
     pub(crate) clock: K,
+    pub(crate) steady: K,
     pub(crate) book: PlacementBook,
     pub(crate) link: Option<N::Link>,
 }

@@ -102,7 +102,7 @@ fn stop_all<R: Wait>(rt: &R, node: &SidecarNode, seats: Seats) -> Seats
 /// sidecar has to stop, or a port fails. Each connection has a thread of its own. Beside them the sidecar speaks with the
 /// placement and looks whether it is heard, every 200 milliseconds; it deactivates idle actors as often, runs the timers
 /// that are due every 100 milliseconds, and the reminders every 1,000. At the end all parts are stopped, and the sidecar
-/// leaves the placement. Its host must be one that a Register frame can carry.
+/// leaves the placement. Whether it is heard is measured by `steady`. Its host must be one that a Register frame can carry.
 pub fn serve_sidecar<R: Threads + Wait + Sync, C: Conn, L: Listen<Link = C>, N: Dial, K: Clock>(
     rt: &R,
     alloc: Global,
@@ -114,6 +114,7 @@ pub fn serve_sidecar<R: Threads + Wait + Sync, C: Conn, L: Listen<Link = C>, N: 
     links: Links<N>,
     net: N,
     clock: K,
+    steady: K,
     most: Option<u64>,
 ) -> (L, L, Result<SidecarServed, OutOfMemory>)
     requires seats { IsSeatsOf node.now seats }
@@ -129,8 +130,8 @@ pub fn serve_sidecar<R: Threads + Wait + Sync, C: Conn, L: Listen<Link = C>, N: 
         Ok(last) => last,
         Err(error) => return (callers, peers, Err(error)),
     };
-    let mut clock = clock;
-    let now = clock.now_ms();
+    let mut steady = steady;
+    let now = steady.now_ms();
     let (gate, seat) = match Gate::new(alloc, Watch::new(now)) {
         Ok(made) => made,
         Err(error) => return (callers, peers, Err(error)),
@@ -143,6 +144,7 @@ pub fn serve_sidecar<R: Threads + Wait + Sync, C: Conn, L: Listen<Link = C>, N: 
         links,
         net,
         clock,
+        steady,
         book: PlacementBook {
             acked: None,
             heard: now,

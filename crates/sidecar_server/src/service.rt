@@ -13,8 +13,8 @@ use std::alloc::Global;
 use std::sync::atomic::{AtomicBool, Ordering};
 use step_gate::Gate;
 
-// How many works a sidecar has (`duties`).
-const WORKS: u32 = 5;
+// How many works a sidecar has (`duties`): all that follow the fourth deactivate actors.
+const WORKS: u32 = 12;
 
 /// What the threads of a sidecar share: its node, the gate of the watch, the address of the placement, those at which it
 /// listens itself, and whether it is over.
@@ -37,9 +37,11 @@ fn knock<N: Dial>(net: &mut N, at: Address) {
 }
 
 impl<N: Dial, K: Clock> SidecarService<'_, N, K> {
-    /// Says that the sidecar is over, and wakes the loops that wait for a connection.
+    /// Says that the sidecar is over, ends the connections that wait for a byte, and wakes the loops that wait for a
+    /// connection.
     pub(crate) fn close(&self, net: &mut N) {
         self.over.store(true, Ordering::SeqCst);
+        net.end_links();
         knock(net, self.callers);
         knock(net, self.peers);
     }
@@ -56,7 +58,11 @@ impl<N: Dial, K: Clock> Service<Pass<N, K>> for SidecarService<'_, N, K> {
         ) else {
             return (pass, None);
         };
-        let (Ok(net), Ok(clock)) = (pass.net.another(), pass.clock.another()) else {
+        let (Ok(net), Ok(clock), Ok(steady)) = (
+            pass.net.another(),
+            pass.clock.another(),
+            pass.steady.another(),
+        ) else {
             return (pass, None);
         };
         let links = Links {
@@ -83,6 +89,7 @@ impl<N: Dial, K: Clock> Service<Pass<N, K>> for SidecarService<'_, N, K> {
             links,
             net,
             clock,
+            steady,
             book,
             link: None,
         };

@@ -24,6 +24,7 @@ pub(crate) fn serve_at<R: Wait, C: Conn, N: Dial, K: Clock>(
         links,
         net: _,
         clock,
+        steady: _,
         book: _,
         link: _,
     } = pass;

@@ -64,8 +64,19 @@ impl<D: Disk + Drop + Send, K: Clock, N: Dial> Service<Pass<D, K, N>> for StoreS
     }
 }
 
-// One compaction, if the file is long enough. The server is over if the store has lost its disk; then the loop that waits
-// for a connection is woken by one.
+impl<D: Disk> StoreService<'_, D> {
+    /// Says that the server is over, ends the connections that wait for a byte, and wakes the loop that waits for a
+    /// connection.
+    pub(crate) fn stop<N: Dial>(&self, net: &mut N) {
+        self.over.store(true, Ordering::SeqCst);
+        net.end_links();
+        if let Ok(link) = net.dial(self.at.ip, self.at.port) {
+            net.done(link);
+        }
+    }
+}
+
+// One compaction, if the file is long enough. The server is over if the store has lost its disk.
 fn compact<R: Wait, D: Disk + Drop + Send, K: Clock, N: Dial>(
     rt: &R,
     service: &StoreService<'_, D>,
@@ -78,18 +89,13 @@ fn compact<R: Wait, D: Disk + Drop + Send, K: Clock, N: Dial>(
     let now = pass.clock.now_ms();
     match compact_turn(rt, service.gate, &mut pass.seat, pass.least, now) {
         Some(least) => pass.least = least,
-        None => {
-            service.over.store(true, Ordering::SeqCst);
-            if let Ok(link) = pass.net.dial(service.at.ip, service.at.port) {
-                pass.net.done(link);
-            }
-        }
+        None => service.stop(&mut pass.net),
     }
     pass
 }
 
-/// What a thread does beside the connections: the compactions are the one work. No loop is to be woken, since there is one
-/// port.
+/// What a thread does beside the connections: the compactions are the one work. Once the server is over, the connections that
+/// wait for a byte are ended; no loop is to be woken, since there is one port.
 pub(crate) fn do_duty<R: Wait, D: Disk + Drop + Send, K: Clock, N: Dial>(
     rt: &R,
     service: &StoreService<'_, D>,
@@ -111,6 +117,10 @@ pub(crate) fn do_duty<R: Wait, D: Disk + Drop + Send, K: Clock, N: Dial>(
             pass.clock.pause(SHORT_PAUSE_MS);
             pass
         }
-        Duty::Finish(_) | Duty::Wake => pass,
+        Duty::Finish(_) => pass,
+        Duty::Wake => {
+            pass.net.end_links();
+            pass
+        }
     }
 }

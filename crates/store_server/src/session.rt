@@ -9,10 +9,8 @@ use actor_ports::{Clock, Conn, Dial, SessionEnd};
 use disk_model::Disk;
 use std::alloc::Global;
 use std::sync::Wait;
-use std::sync::atomic::Ordering;
 
-/// Serves a connection until it ends. The server is over if the store has lost its disk; then the loop that waits for a
-/// connection is woken by one.
+/// Serves a connection until it ends. The server is over if the store has lost its disk.
 pub(crate) fn serve_one<R: Wait, D: Disk + Drop + Send, C: Conn, K: Clock, N: Dial>(
     rt: &R,
     alloc: Global,
@@ -33,9 +31,6 @@ pub(crate) fn serve_one<R: Wait, D: Disk + Drop + Send, C: Conn, K: Clock, N: Di
     let mut net = net;
     let (_, end) = store_session(rt, alloc, service.gate, seat, &mut conn, &mut clock);
     if let SessionEnd::Broken { requests: _ } = end {
-        service.over.store(true, Ordering::SeqCst);
-        if let Ok(link) = net.dial(service.at.ip, service.at.port) {
-            net.done(link);
-        }
+        service.stop(&mut net);
     }
 }

@@ -4,9 +4,10 @@ ghost use Rattle.actor_ports.specs.Port.{HasCause, faults_after};
 ghost use Rattle.actor_ports.specs.Traffic.{TakesRoom, Counts};
 ghost use Rattle.actor_ports.specs.Real.{DialCount};
 
-use super::pace::{Waits, set_looks};
+use super::pace::set_looks;
 use super::stream::StreamConn;
 use crate::port::{Dial, PortError};
+use crate::waits::Waits;
 use std::alloc::Global;
 use std::io;
 use std::marker::Model;
@@ -84,17 +85,33 @@ impl<N: Net<Stream = TcpStream> + Clock + Copy + Send> Dial for TcpDial<N> {
 
         ensures counted { self.new.faults ≡ faults_after self.old.faults result }
     {
+        self.dial_waiting(ip, port, self.waits)
+    }
+
+    /// Connects as `dial` does, and to a link that waits so.
+    fn dial_waiting(
+        &mut self,
+        ip: u32,
+        port: u16,
+        waits: Waits,
+    ) -> Result<StreamConn<TcpStream, N>, PortError>
+        ensures fresh { IfOk result (λ link. link.faults ≡ 0) }
+        ensures room { TakesRoom self.old.room self.new.room result }
+        ensures cause { HasCause self.old.faults self.new.faults result }
+
+        ensures counted { self.new.faults ≡ faults_after self.old.faults result }
+    {
         if self.faults >= u64::MAX - self.room {
             return Err(PortError::OutOfMemory);
         }
         let Ok(ended) = Arc::try_clone(&self.ended) else {
             return Err(PortError::OutOfMemory);
         };
-        let Ok(stream) = connect(&self.net, ip, port, self.connect_ms, self.waits) else {
+        let Ok(stream) = connect(&self.net, ip, port, self.connect_ms, waits) else {
             self.faults += 1;
             return Err(PortError::Failed);
         };
-        let link = StreamConn::new(self.alloc, stream, self.net, ended, self.waits)?;
+        let link = StreamConn::new(self.alloc, stream, self.net, ended, waits)?;
         self.room += 1;
         Ok(link)
     }

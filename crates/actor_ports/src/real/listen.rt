@@ -2,9 +2,10 @@
 ghost use Rattle.std.specs.Prelude.{◌≡◌, ◌<◌, IfOk, IfSome, None, Some};
 ghost use Rattle.actor_ports.specs.Port.{HasCause, faults_after};
 
-use super::pace::{Waits, set_looks};
+use super::pace::set_looks;
 use super::stream::StreamConn;
 use crate::port::{Listen, PortError};
+use crate::waits::Waits;
 use std::alloc::Global;
 use std::marker::Model;
 use std::net::{OpenListener, TcpStream};

@@ -1,4 +1,5 @@
 // How long a connection waits, and when it is given up.
+use crate::waits::Waits;
 use std::alloc::Global;
 use std::io;
 use std::io::ErrorKind;
@@ -13,41 +14,11 @@ const LONGEST_LOOK_MS: u64 = 500;
 // How many bytes of a message bring it a second more.
 const BYTES_A_SECOND: u64 = 65_536;
 
-/// How long a connection waits, in milliseconds. `None` waits for as long as the system does, and 0 counts as 1.
-#[derive(Clone, Copy)]
-pub struct Waits {
-    /// While no byte comes or goes.
-    pub quiet_ms: Option<u64>,
-    /// For a message: all that comes between two writes, from its first byte on, or that is written at once. It has a second
-    /// more for each 65,536 bytes.
-    pub message_ms: Option<u64>,
-    /// From its beginning to its end.
-    pub whole_ms: Option<u64>,
-}
-
-/// For as long as the system does.
-pub const WITHOUT_END: Waits = Waits {
-    quiet_ms: None,
-    message_ms: None,
-    whole_ms: None,
-};
-
-impl Waits {
-    /// Only while no byte comes or goes.
-    pub fn quiet(ms: u64) -> Waits {
-        Waits {
-            quiet_ms: Some(ms),
-            message_ms: None,
-            whole_ms: None,
-        }
-    }
-
-    // How long one read or write of the library waits.
-    fn look_ms(&self) -> u64 {
-        match self.quiet_ms {
-            Some(ms) => ms.max(1).min(LONGEST_LOOK_MS),
-            None => LONGEST_LOOK_MS,
-        }
+// How long one read or write of the library waits.
+fn look_ms(waits: Waits) -> u64 {
+    match waits.quiet_ms {
+        Some(ms) => ms.max(1).min(LONGEST_LOOK_MS),
+        None => LONGEST_LOOK_MS,
     }
 }
 
@@ -130,7 +101,7 @@ impl<C: Clock + Copy> Patience for Pace<C> {
         if self.ended.load(Ordering::SeqCst) {
             return true;
         }
-        let quiet = looks.saturating_mul(self.waits.look_ms());
+        let quiet = looks.saturating_mul(look_ms(self.waits));
         if self.waits.quiet_ms.is_some_and(|ms| quiet >= ms) {
             return true;
         }
@@ -142,7 +113,7 @@ impl<C: Clock + Copy> Patience for Pace<C> {
 
 // Makes each read and write of a new stream come back after a while, so that it can be looked whether to go on.
 pub(super) fn set_looks(stream: &TcpStream, waits: Waits) -> io::Result<()> {
-    let wait = Some(Duration::from_millis(waits.look_ms()));
+    let wait = Some(Duration::from_millis(look_ms(waits)));
     stream.set_read_timeout(wait)?;
     stream.set_write_timeout(wait)
 }

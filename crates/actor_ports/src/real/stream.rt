@@ -3,10 +3,11 @@ ghost use Rattle.std.specs.Prelude.{◌≡◌, ◌<◌, ◌≤◌, ◌↔◌, No
 ghost use Rattle.actor_ports.specs.Port.{HasCause, Appends, faults_after};
 ghost use Rattle.actor_ports.specs.Real.{Counted, ReadsThrough, WritesThrough};
 
-use super::pace::{Pace, Waits};
+use super::pace::Pace;
 use super::reader::{make_piece, read_counted};
 use super::writer::write_counted;
 use crate::port::{Conn, PortError, Sink, Source};
+use crate::waits::Waits;
 use std::alloc::Global;
 use std::io::{Read, Write};
 use std::marker::Model;

@@ -1,23 +1,23 @@
 // What calls the server.
 use super::link::{read_frame, send};
-use actor_ports::{Dial, StreamConn, TcpDial};
+use crate::outside::dialler;
+use actor_ports::{Conn, Dial, StreamConn};
 use case_texts::add_hex;
 use std::alloc::Global;
 use std::net::{Net, TcpStream};
+use std::time::Clock;
 
 /// 127.0.0.1.
 pub(crate) const HERE: u32 = 0x7f00_0001;
 
-type Link = StreamConn<TcpStream>;
-
 // So many links to the port, open at once.
-fn dial_all<N: Net<Stream = TcpStream> + Copy + Send>(
+fn dial_all<N: Net<Stream = TcpStream> + Clock + Copy + Send>(
     net: N,
     alloc: Global,
     port: u16,
     count: u64,
-) -> Option<Vec<Link>> {
-    let mut dialler = TcpDial::new(alloc, net, Some(5_000), Some(10_000));
+) -> Option<Vec<StreamConn<TcpStream, N>>> {
+    let mut dialler = dialler(net, alloc)?;
     let mut links = Vec::new(alloc);
     for _ in 0..count {
         links.push(dialler.dial(HERE, port).ok()?).ok()?;
@@ -26,14 +26,14 @@ fn dial_all<N: Net<Stream = TcpStream> + Copy + Send>(
 }
 
 // Sends bytes over a link, and appends the frame that is read from it.
-fn ask(alloc: Global, link: &mut Link, bytes: &[u8], text: &mut String) -> Option<()> {
+fn ask<C: Conn>(alloc: Global, link: &mut C, bytes: &[u8], text: &mut String) -> Option<()> {
     send(link, bytes)?;
     let frame = read_frame(alloc, link)?;
     add_hex(alloc, frame.as_slice(), text)
 }
 
 // Asks over each link, from the last one on; each is closed then.
-fn ask_all(alloc: Global, links: Vec<Link>, bytes: &[u8], text: &mut String) -> Option<()> {
+fn ask_all<C: Conn>(alloc: Global, links: Vec<C>, bytes: &[u8], text: &mut String) -> Option<()> {
     let mut links = links;
     for _ in 0..links.len() {
         let mut link = links.pop()?;
@@ -44,7 +44,7 @@ fn ask_all(alloc: Global, links: Vec<Link>, bytes: &[u8], text: &mut String) -> 
 
 /// The frames that are read over so many links at once and one more. That one is sent half of the bytes first, and what is
 /// left of them when all the others were answered. `None` if a link fails.
-pub(crate) fn answers<N: Net<Stream = TcpStream> + Copy + Send>(
+pub(crate) fn answers<N: Net<Stream = TcpStream> + Clock + Copy + Send>(
     net: N,
     alloc: Global,
     port: u16,

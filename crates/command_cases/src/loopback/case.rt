@@ -98,7 +98,7 @@ fn add_served<
     let words = words_of(alloc, command, port, count)?;
     let input = MemSource::new(alloc, b"", &[]).ok()?;
     let output = MemSink::new(alloc, &[]).ok()?;
-    let mut outside = outside_of(rt, alloc, input, output, host_of(rt, alloc, listener)?);
+    let mut outside = outside_of(rt, alloc, input, output, host_of(rt, alloc, listener)?)?;
     let (frames, status) = served(
         rt,
         alloc,

@@ -1,6 +1,5 @@
 // What a server is given, and gives back: disks in memory, and one port of TCP.
-use crate::outside::{CaseHost, CaseOutside};
-use actor_ports::TcpListen;
+use crate::outside::{CaseHost, CaseOutside, listener};
 use case_texts::add;
 use disk_model::MemDisk;
 use server_ports::MemHost;
@@ -20,13 +19,11 @@ fn disks(alloc: Global) -> Option<Vec<MemDisk>> {
 pub(crate) fn host_of<N: Clock + Copy + Send + Drop>(
     clock: N,
     alloc: Global,
-    listener: TcpListener,
+    port: TcpListener,
 ) -> Option<CaseHost<N>> {
     let disks = disks(alloc)?;
     let mut ports = Vec::new(alloc);
-    ports
-        .push(TcpListen::new(alloc, clock, listener, Some(10_000)))
-        .ok()?;
+    ports.push(listener(clock, alloc, port)?).ok()?;
     MemHost::new(alloc, disks, ports, &[]).ok()
 }
 

@@ -96,6 +96,7 @@ fn status_of<R: Threads + Wait + Clock + Sync + Send + Copy + Drop>(
         app: Dialler { stage, room: 0 },
         peers: Dialler { stage, room: 0 },
         time: SystemClock::new(Moments { rt, stage }),
+        steady: SystemClock::new(Moments { rt, stage }),
         host: host_of(rt, alloc, stage)?,
     };
     let status = run(&rt, alloc, words.as_slice(), &mut outside);
