@@ -40,6 +40,18 @@ fn shown_moments_never_fall(rt: HostRuntime) {
 }
 
 #[test]
+fn steady_clock_takes_no_step_of_the_system_clock(rt: HostRuntime) {
+    let told = Told {
+        moments: &[7_200_000, 10_800_000, 3_600_000],
+        place: AtomicUsize::new(0),
+    };
+    let mut clock = SystemClock::steady(&told);
+    for _ in 0..4 {
+        assert_eq!(rt; clock.now_ms(), 7_200_000);
+    }
+}
+
+#[test]
 fn pause_lets_time_pass(rt: HostRuntime) -> Result<(), Fail> {
     let mut clock = SystemClock::new(rt);
     let before = clock.now_ms();

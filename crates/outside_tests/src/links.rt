@@ -26,6 +26,13 @@ fn silent_link_and_closed_port_fail(rt: HostRuntime) -> Result<(), Fail> {
     assert_eq!(rt; here.read(&mut into, 5), Ok(5));
     assert_eq!(rt; here.read(&mut into, 5), Ok(0));
     dialler.done(here);
+    // No connection is wanted any more.
+    let mut last = dialler.dial(HERE, port)?;
+    dialler.end_links();
+    assert_eq!(rt; last.write(b"more"), Err(PortError::Failed));
+    assert_eq!(rt; last.read(&mut into, 5), Err(PortError::Failed));
+    listener.close();
+    assert!(rt; listener.accept().is_err());
     assert_eq!(rt; into.as_slice(), b"reply".as_slice());
     drop(listener);
     let mut other = dialler.another()?;

@@ -84,7 +84,7 @@ impl Case {
     >(&self, rt: R, alloc: Global) -> Option<(u8, MemSink)> {
         let input = MemSource::new(alloc, self.input.as_slice(), self.reads.as_slice()).ok()?;
         let output = MemSink::new(alloc, self.writes.as_slice()).ok()?;
-        let mut outside = outside_of(rt, alloc, input, output, bare_host(alloc)?);
+        let mut outside = outside_of(rt, alloc, input, output, bare_host(alloc)?)?;
         let status = run(&rt, alloc, self.words.as_slice(), &mut outside);
         Some((status, outside.output))
     }
