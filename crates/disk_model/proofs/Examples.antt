@@ -1,9 +1,9 @@
 -- Worked examples of the definitions.
 use Rattle.std.proofs.Common.{◌≡◌, inl, ℕ, [], ◌∷◌, Ok, Err, refl, arith}
-use Rattle.actor_ports.specs.declared.port.PortError.TheVariants.{Failed, OutOfMemory}
-use Rattle.disk_model.specs.declared.change.Change.TheVariants.{Over, CutTo}
-use Rattle.disk_model.specs.Disk.{DiskState, MayLeave, fresh, moments, overwritten, changed, flushed}
-use Rattle.disk_model.specs.Memory.{DiskMemory, new_disk, call_after, after_write, after_cut, after_sync, after_look}
+use Rattle.actor_ports.specs.declared.port.PortError.TheVariants.{Failed}
+use Rattle.disk_model.specs.declared.change.Change.TheVariants.{Over}
+use Rattle.disk_model.specs.Disk.{MayLeave, overwritten}
+use Rattle.disk_model.specs.Memory.{DiskMemory, new_disk, call_after, after_write, after_cut, after_sync}
 
 write_replaces_range : overwritten (97 ∷ 98 ∷ 99 ∷ []) 1 (88 ∷ []) ≡ 97 ∷ 88 ∷ 99 ∷ []
 write_replaces_range = refl

@@ -3,7 +3,8 @@ use Rattle.std.proofs.Common.{◌≡◌, inl, inr, ℕ, ◌≤◌, List, [], ◌
 use Rattle.std.specs.Prelude.{IfOk}
 use Rattle.actor_ports.specs.declared.port.PortError.{PortError}
 use Rattle.actor_ports.specs.declared.port.PortError.TheVariants.{Failed, OutOfMemory}
-use Rattle.disk_model.specs.Disk.{DiskState, MayMake, MayLead, MayLeave, fresh, overwritten, changed, flushed, Writes, Cuts, Syncs}
+use Rattle.disk_model.specs.Disk.{DiskState, MayMake, MayLead, fresh, overwritten, changed, Writes, Cuts, Syncs}
+use Rattle.disk_model.specs.Memory.{torn_by, torn_by_all}
 use Rattle.disk_model.specs.Crash.{ReadsAnImage}
 use Rattle.disk_model.specs.declared.change.Change.{Change}
 use Rattle.disk_model.specs.declared.change.Change.TheVariants.{Over, CutTo}
@@ -47,3 +48,8 @@ syncs_reads (Ok x) d e reads syncs = subst ReadsAnImage (sym syncs) refl
 syncs_reads (Err Failed) d e reads (inl same) = subst ReadsAnImage (sym same) reads
 syncs_reads (Err Failed) d e reads (inr syncs) = subst ReadsAnImage (sym syncs) refl
 syncs_reads (Err OutOfMemory) d e reads same = subst ReadsAnImage (sym same) reads
+
+-- one more change by the choice
+pub torn_push : (choice : ℕ) (changes : List Change) (last : Change) (bytes : List ℕ) → torn_by_all choice (changes ++ last ∷ []) bytes ≡ torn_by choice last (torn_by_all choice changes bytes)
+torn_push choice [] last bytes = refl
+torn_push choice (change ∷ changes) last bytes = torn_push choice changes last (torn_by choice change bytes)

@@ -1,5 +1,5 @@
 -- What a disk in memory holds: own.
-use Rattle.std.specs.Prelude.{◌≡◌, ℕ, ◌+◌, min, List, [], ◌∷◌, ◌++◌, length, take, map, Result, Ok, Err}
+use Rattle.std.specs.Prelude.{◌≡◌, ℕ, ◌+◌, ◌/◌, ◌%◌, min, nat_eq, nat_lt, Bool, if◌then◌else◌, List, [], ◌∷◌, ◌++◌, length, take, map, replicate, Result, Ok, Err}
 use Rattle.disk_model.specs.declared.change.Change.{Change}
 use Rattle.disk_model.specs.declared.change.Change.TheVariants.{Over, CutTo}
 use Rattle.disk_model.specs.declared.past.Past.{Past}
@@ -29,6 +29,31 @@ disk_of bytes synced pending past = record { bytes = bytes; instant = record { s
 -- the moment is added to those that are kept
 abbrev pub Keeps : List ℕ → List Change → List Past → List Past → Type 0
 Keeps synced pending old new = map instant_of new ≡ map instant_of old ++ record { synced = synced; pending = pending } ∷ []
+
+-- ---- what a crash leaves by a choice
+
+-- a write that wasn't synced has filled its whole range with one value; where a cut has put the range past the end, it has
+-- no effect
+abbrev pub written_by : ℕ → ℕ → ℕ → List ℕ → List ℕ
+written_by value at n bytes = if nat_lt (length bytes) at then bytes else overwritten bytes at (replicate n value)
+
+abbrev pub cut_by : Bool → ℕ → List ℕ → List ℕ
+cut_by made len bytes = if made then take len bytes else bytes
+
+-- a write has the low byte of the choice, and a cut was made if the byte above that is even
+abbrev pub torn_by : ℕ → Change → List ℕ → List ℕ
+torn_by choice (Over at n) bytes = written_by (choice % 256) at n bytes
+torn_by choice (CutTo len) bytes = cut_by (nat_eq (choice / 256 % 2) 0) len bytes
+
+abbrev pub torn_by_all : ℕ → List Change → List ℕ → List ℕ
+torn_by_all choice [] bytes = bytes
+torn_by_all choice (change ∷ changes) bytes = torn_by_all choice changes (torn_by choice change bytes)
+
+-- with choice 0 no change since the last sync came through, with 1 all did
+abbrev pub left_by : ℕ → DiskState → List ℕ
+left_by choice d = if nat_eq choice 0 then d.instant.synced else (if nat_eq choice 1 then d.bytes else torn_by_all choice d.instant.pending d.instant.synced)
+
+-- ----
 
 -- the number of calls after one more; numbers end at 2^64 - 1
 abbrev pub call_after : ℕ → ℕ

@@ -2,7 +2,7 @@
 ghost use Rattle.std.specs.Prelude.{◌≡◌, ◌<◌, ◌≤◌, ℕ, ◌+◌, ◌↔◌, List, [], ◌∷◌, ◌++◌, length, take, drop, Some, IfOk, IfErr, IsTrue, IsErrOf, Contains};
 ghost use Rattle.actor_ports.specs.Port.{HasCause, Appends};
 ghost use Rattle.disk_model.specs.Disk.{DiskState, Tells, Writes, Cuts, Syncs, Reads, IsSpent, MayMake, MayLeave};
-ghost use Rattle.disk_model.specs.Memory.{DiskMemory, new_disk, call_after, after_error, after_look, after_change, after_write, after_cut, after_sync};
+ghost use Rattle.disk_model.specs.Memory.{DiskMemory, new_disk, left_by, call_after, after_error, after_look, after_change, after_write, after_cut, after_sync};
 
 use crate::change::Change;
 use crate::disk::Disk;
@@ -126,9 +126,8 @@ impl MemDisk {
     /// With choice 0 no change since the last sync came through, with 1 all did. With any other choice each write has
     /// filled its whole range with the low byte of `choice`, and each cut was made if the byte above that is even.
     pub fn image(&self, choice: u64) -> Result<MemDisk, PortError>
-        ensures leaves { IfOk result (λ m. (left : List ℕ) × MayLeave self.now.disk.instant left × (m ≡ new_disk left [])) }
-        ensures nothing { choice ≡ 0 → IfOk result (λ m. m.disk.bytes ≡ self.now.disk.instant.synced) }
-        ensures all { choice ≡ 1 → IfOk result (λ m. m.disk.bytes ≡ self.now.disk.bytes) }
+        ensures leaves { IfOk result (λ m. MayLeave self.now.disk.instant m.disk.bytes) }
+        ensures chosen { IfOk result (λ m. m ≡ new_disk (left_by choice self.now.disk) []) }
         ensures memory { IfErr result (λ e. e ≡ PortError.OutOfMemory) }
     {
         let Ok(left) = self.left_bytes(choice) else {
@@ -143,8 +142,7 @@ impl MemDisk {
     // The bytes that a crash now may leave.
     fn left_bytes(&self, choice: u64) -> Result<Vec<u8>, AllocError>
         ensures leaves { IfOk result (λ v. MayLeave self.now.disk.instant v.items) }
-        ensures nothing { choice ≡ 0 → IfOk result (λ v. v.items ≡ self.now.disk.instant.synced) }
-        ensures all { choice ≡ 1 → IfOk result (λ v. v.items ≡ self.now.disk.bytes) }
+        ensures chosen { IfOk result (λ v. v.items ≡ left_by choice self.now.disk) }
     {
         match choice {
             0 => Vec::from_slice(self.alloc, &self.synced),

@@ -1,6 +1,7 @@
 // What a crash may leave of a disk in memory: one of its images, chosen by a number.
-ghost use Rattle.std.specs.Prelude.{◌≡◌, ◌<◌, ◌≤◌, ℕ, length, IfOk};
+ghost use Rattle.std.specs.Prelude.{◌≡◌, ◌<◌, ◌≤◌, ◌%◌, ℕ, Bool, length, replicate, IfOk};
 ghost use Rattle.disk_model.specs.Disk.{MayMake, MayLead, overwritten};
+ghost use Rattle.disk_model.specs.Memory.{written_by, cut_by, torn_by, torn_by_all};
 
 use crate::change::Change;
 use std::alloc::{AllocError, Global};
@@ -25,7 +26,7 @@ pub(crate) fn overwrite(
 
 // `n` bytes of one value.
 fn fill(alloc: Global, value: u8, n: usize) -> Result<Vec<u8>, AllocError>
-    ensures { IfOk result (λ v. length v.items ≡ n) }
+    ensures { IfOk result (λ v. v.items ≡ replicate n value) }
 {
     Ok(vec![in alloc; value; n]?)
 }
@@ -39,7 +40,8 @@ fn tear_write(
     n: u64,
     value: u8,
 ) -> Result<Vec<u8>, AllocError>
-    ensures { IfOk result (λ v. MayMake (Change.Over at n) bytes.now v.items) }
+    ensures made { IfOk result (λ v. MayMake (Change.Over at n) bytes.now v.items) }
+    ensures chosen { IfOk result (λ v. v.items ≡ written_by value at n bytes.now) }
 {
     let place = at as usize;
     if place > bytes.len() {
@@ -51,7 +53,8 @@ fn tear_write(
 
 // What a crash leaves of a cut that wasn't synced.
 fn tear_cut(alloc: Global, bytes: &[u8], len: u64, is_made: bool) -> Result<Vec<u8>, AllocError>
-    ensures { IfOk result (λ v. MayMake (Change.CutTo len) bytes.now v.items) }
+    ensures made { IfOk result (λ v. MayMake (Change.CutTo len) bytes.now v.items) }
+    ensures chosen { IfOk result (λ v. v.items ≡ cut_by is_made len bytes.now) }
 {
     let end = len as usize;
     if is_made && end < bytes.len() {
@@ -64,7 +67,8 @@ fn tear_cut(alloc: Global, bytes: &[u8], len: u64, is_made: bool) -> Result<Vec<
 // What a crash leaves of a change that wasn't synced: a write has filled its whole range with the low byte
 // of `choice`, and a cut was made if the byte above it is even.
 fn tear(alloc: Global, bytes: &[u8], change: Change, choice: u64) -> Result<Vec<u8>, AllocError>
-    ensures { IfOk result (λ v. MayMake change bytes.now v.items) }
+    ensures made { IfOk result (λ v. MayMake change bytes.now v.items) }
+    ensures chosen { IfOk result (λ v. v.items ≡ torn_by choice change bytes.now) }
 {
     match change {
         Change::Over { at, n } => tear_write(alloc, bytes, at, n, (choice % 256) as u8),
@@ -79,7 +83,8 @@ pub(crate) fn tear_all(
     pending: &[Change],
     choice: u64,
 ) -> Result<Vec<u8>, AllocError>
-    ensures { IfOk result (λ v. MayLead pending.now synced.now v.items) }
+    ensures leads { IfOk result (λ v. MayLead pending.now synced.now v.items) }
+    ensures chosen { IfOk result (λ v. v.items ≡ torn_by_all choice pending.now synced.now) }
 {
     let mut image = synced.to_vec(alloc)?;
     for change in pending {

@@ -1,6 +1,6 @@
 use Rattle.std.proofs.Common.{◌≡◌, ℕ, List, subst}
 use Rattle.std.specs.Prelude.{IfOk}
-use Rattle.disk_model.specs.Disk.{MayLead, MayLeave}
+use Rattle.disk_model.specs.Disk.{MayLeave}
 use Rattle.disk_model.specs.Memory.{DiskMemory}
 use Rattle.disk_model.proofs.Sound.{nothing_made, left_as}
 use Rattle.disk_model.proofs.memory.MemDisk.left_bytes.Goals as goal
