@@ -1,11 +1,10 @@
 -- What an exchange read and wrote.
-use Rattle.std.proofs.Common.{◌≡◌, ◌∙◌, ℕ, ◌+◌, ◌<◌, ◌≤◌, List, [], ◌∷◌, ◌++◌, length, take, Option, Some, None, Result, Ok, Err, refl, sym, ap, subst, arith, append-nil, append_assoc, length-append, inl, inr}
+use Rattle.std.proofs.Common.{◌≡◌, ◌∙◌, ℕ, ◌+◌, ◌<◌, ◌≤◌, List, [], ◌++◌, length, take, Option, None, Result, Ok, Err, refl, sym, ap, subst, arith, append-nil, append_assoc, length-append, inl, inr}
 use Rattle.std.proofs.Math.Seq.{take-length}
 use Rattle.actor_ports.specs.declared.port.PortError.{PortError}
 use Rattle.actor_ports.specs.declared.port.PortError.TheVariants as ports
-use Rattle.actor_ports.specs.Port.{HasCause}
 use Rattle.actor_ports.specs.Traffic.{Traffic}
-use Rattle.http_edge.specs.Carry.{Carried, nothing, then_carried, IsFront, Over, AtEnd, Writes}
+use Rattle.http_edge.specs.Carry.{Carried, nothing, IsFront, Over, AtEnd, Writes}
 use Rattle.http_edge.proofs.Carried.{over_nothing, over_then, end_told, told_along}
 use Rattle.frame_wire.specs.declared.frame.Frame.{Frame}
 use Rattle.exchanges.specs.declared.frame_end.FrameEnd.{FrameEnd}
@@ -14,7 +13,7 @@ use Rattle.std.specs.Int.{w32, from_be_bytes}
 use Rattle.frame_wire.specs.Streams.{look, end_look}
 use Rattle.exchanges.specs.declared.front.Front.TheVariants as fronts
 use Rattle.exchanges.proofs.Fronts.{whole_short, whole_filled, same_len, look_more}
-use Rattle.exchanges.specs.FrameExchanges.{BeginsWith, IsNoFrame, ReadsFrame, ExchangesFrame, IsCut, EndCause, end_of}
+use Rattle.exchanges.specs.FrameExchanges.{BeginsWith, IsNoFrame, ReadsFrame, ExchangesFrame, end_of}
 
 -- bytes that were read
 abbrev pub came : List ℕ → Carried

@@ -1,5 +1,5 @@
 -- What went over a link, taken as a whole input.
-use Rattle.std.proofs.Common.{◌≡◌, ℕ, List, Option, None, Result, Ok, Err}
+use Rattle.std.proofs.Common.{ℕ, List, Option, None, Ok, Err}
 use Rattle.actor_ports.specs.Traffic.{Traffic}
 use Rattle.http_edge.specs.declared.message.HttpResponse.{HttpResponse}
 use Rattle.http_edge.specs.declared.error.EdgeError.TheVariants.{BadHead, HeadTooLong, TooManyFields, Chunked, BadLength, BodyTooLong, CutShort, ConnFault, OutOfMemory}

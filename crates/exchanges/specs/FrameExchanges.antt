@@ -3,7 +3,7 @@ use Rattle.std.specs.Prelude.{◌≡◌, ◌<◌, ◌≤◌, ◌⊎◌, ℕ, Lis
 use Rattle.actor_ports.specs.declared.port.PortError.{PortError}
 use Rattle.actor_ports.specs.declared.port.PortError.TheVariants as ports
 use Rattle.actor_ports.specs.Traffic.{Traffic}
-use Rattle.http_edge.specs.Carry.{Carried, IsFront, Over, AtEnd}
+use Rattle.http_edge.specs.Carry.{Carried, IsFront, AtEnd}
 use Rattle.frame_wire.specs.declared.error.FrameError.{FrameError}
 use Rattle.frame_wire.specs.declared.error.FrameError.TheVariants as faults
 use Rattle.frame_wire.specs.declared.frame.Frame.{Frame}

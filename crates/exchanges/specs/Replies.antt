@@ -1,5 +1,5 @@
 -- An exchange of HTTP: a request's text, and the reply that the bytes read are. Own.
-use Rattle.std.specs.Prelude.{◌≡◌, ℕ, List, Option, None, Result, Ok, Err}
+use Rattle.std.specs.Prelude.{ℕ, List, Option, None, Result, Err}
 use Rattle.actor_names.specs.declared.address.Address.{Address}
 use Rattle.actor_ports.specs.Traffic.{Place, Traffic}
 use Rattle.http_edge.specs.Carry.{Carried}

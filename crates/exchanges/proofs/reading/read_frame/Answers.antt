@@ -1,4 +1,4 @@
-use Rattle.std.proofs.Common.{◌≡◌, List, ℕ, subst}
+use Rattle.std.proofs.Common.{List, ℕ, subst}
 use Rattle.exchanges.specs.declared.front.Front.TheVariants as fronts
 use Rattle.exchanges.specs.FrameExchanges.{BeginsWith}
 use Rattle.exchanges.proofs.Readings.{first_whole, then_rest}

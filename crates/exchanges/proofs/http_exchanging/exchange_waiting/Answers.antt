@@ -1,8 +1,7 @@
-use Rattle.std.proofs.Common.{◌≡◌}
 use Rattle.http_edge.specs.Texts.{request_text}
 use Rattle.exchanges.specs.Replies.{place_at}
 use Rattle.exchanges.proofs.Diallings.{no_dial, failed_dial, one_exchange}
-use Rattle.exchanges.proofs.http_exchanging.exchange_at.Goals as goal
+use Rattle.exchanges.proofs.http_exchanging.exchange_waiting.Goals as goal
 
 pub returns-in-Err-Failed : goal.returns-in-Err-Failed
 returns-in-Err-Failed g c =
