@@ -107,6 +107,16 @@ pub trait Dial: Drop + Send {
         ensures room { room self.old ≤ room self.new + 1 }
         ensures cause { Counts (dial_faults self.old) (dial_faults self.new) (Self.Link.read_faults link) };
 
+    /// Takes a link back as `done` does. Another exchange may be made over it, so the dialler may give it out again.
+    fn keep(&mut self, link: Self::Link)
+        requires { 0 < room self.old }
+        ensures takes_back { TakesBack (dialled self.old) (dialled self.new) (Self.Link.read_traffic link) }
+        ensures room { room self.old ≤ room self.new + 1 }
+        ensures cause { Counts (dial_faults self.old) (dial_faults self.new) (Self.Link.read_faults link) }
+    {
+        self.done(link);
+    }
+
     /// Another dialler of the same kind, with its own count of faults, which is 0. Its only error is `OutOfMemory`.
     fn another(&self) -> Result<Self, PortError>
     where

@@ -1,5 +1,6 @@
 // One exchange with the store.
-ghost use Rattle.std.specs.Prelude.{◌≡◌, List};
+ghost use Rattle.std.specs.Prelude.{◌≡◌, ◌<◌, List};
+ghost use Rattle.actor_ports.specs.Traffic.{TakesBack, Counts};
 ghost use Rattle.frame_wire.specs.Frames.{frame_bytes};
 ghost use Rattle.exchanges.specs.Exchanges.{Exchange, Dialling};
 ghost use Rattle.exchanges.specs.Replies.{place_at};
@@ -13,6 +14,19 @@ use actor_names::Address;
 use actor_ports::{Dial, PortError};
 use frame_wire::{Frame, StoreAnswer, StoreCommand, frame_law};
 use std::alloc::Global;
+
+// Gives the link back. Another exchange may be made over it, if a whole frame was read: then nothing of it is left.
+fn give_back<L: Dial>(dialler: &mut L, link: L::Link, is_whole: bool)
+    requires { 0 < L.room dialler.old }
+    ensures takes_back { TakesBack (L.dialled dialler.old) (L.dialled dialler.new) (L.Link.read_traffic link) }
+    ensures cause { Counts (L.dial_faults dialler.old) (L.dial_faults dialler.new) (L.Link.read_faults link) }
+{
+    if is_whole {
+        dialler.keep(link);
+    } else {
+        dialler.done(link);
+    }
+}
 
 // One exchange of this text, which is the frame's.
 fn send_text<L: Dial>(
@@ -34,7 +48,7 @@ fn send_text<L: Dial>(
         Err(PortError::OutOfMemory) => return Err(StoreEnd::OutOfMemory),
     };
     let got = exchange_frame(alloc, text.as_slice(), &mut link);
-    dialler.done(link);
+    give_back(dialler, link, got.is_ok());
     answer_in(asked, got)
 }
 

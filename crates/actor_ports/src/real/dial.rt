@@ -1,5 +1,5 @@
 // A dialler over TCP.
-ghost use Rattle.std.specs.Prelude.{◌≡◌, ◌<◌, ◌≤◌, ◌+◌, ◌-◌, None, nat_lt, if◌then◌else◌, IfOk, IfErr};
+ghost use Rattle.std.specs.Prelude.{◌≡◌, ◌<◌, ◌≤◌, ◌+◌, ◌-◌, None, nat_lt, if◌then◌else◌, IfOk, IfErr, IfSome};
 ghost use Rattle.actor_ports.specs.Port.{HasCause, faults_after};
 ghost use Rattle.actor_ports.specs.Traffic.{TakesRoom, Counts};
 ghost use Rattle.actor_ports.specs.Real.{DialCount};
@@ -16,7 +16,8 @@ use std::sync::Arc;
 use std::sync::atomic::{AtomicBool, Ordering};
 use std::time::{Clock, Duration};
 
-/// A dialler over TCP. It reports nothing of what was dialled.
+/// A dialler over TCP. It reports nothing of what was dialled. It holds the link that it was given to keep last, and gives it
+/// out again at the next dial to its place, if it is still open and nothing has come over it.
 ///
 /// In `main(rt: HostRuntime)`, to connect within 5 seconds, and to wait 10 for each byte:
 /// `let ended = Arc::new(rt.alloc(), AtomicBool::new(false))?;`
@@ -28,6 +29,7 @@ pub struct TcpDial<N: Net<Stream = TcpStream> + Clock + Copy> {
     ended: Arc<AtomicBool, Global>,
     connect_ms: Option<u64>,
     waits: Waits,
+    kept: Option<StreamConn<TcpStream, N>>,
     room: u64,
     faults: u64,
 }
@@ -61,6 +63,7 @@ impl<N: Net<Stream = TcpStream> + Clock + Copy> TcpDial<N> {
             ended,
             connect_ms,
             waits,
+            kept: None,
             room: 0,
             faults: 0,
         }
@@ -104,10 +107,15 @@ impl<N: Net<Stream = TcpStream> + Clock + Copy + Send> Dial for TcpDial<N> {
         if self.faults >= u64::MAX - self.room {
             return Err(PortError::OutOfMemory);
         }
+        let address = SocketAddr::new(IpAddr::V4(Ipv4Addr::from_bits(ip)), port);
+        if let Some(link) = kept_link(&mut self.kept, address, waits) {
+            self.room += 1;
+            return Ok(link);
+        }
         let Ok(ended) = Arc::try_clone(&self.ended) else {
             return Err(PortError::OutOfMemory);
         };
-        let Ok(stream) = connect(&self.net, ip, port, self.connect_ms, waits) else {
+        let Ok(stream) = connect(&self.net, address, self.connect_ms, waits) else {
             self.faults += 1;
             return Err(PortError::Failed);
         };
@@ -130,6 +138,22 @@ impl<N: Net<Stream = TcpStream> + Clock + Copy + Send> Dial for TcpDial<N> {
         }
     }
 
+    /// Keeps the link, if it hasn't failed, in place of the one that was kept before.
+    fn keep(&mut self, link: StreamConn<TcpStream, N>)
+        requires { 0 < self.old.room }
+        ensures room { self.old.room ≤ self.new.room + 1 }
+        ensures cause { Counts self.old.faults self.new.faults link.faults }
+
+        ensures counted { self.new.faults ≡ self.old.faults + (if nat_lt 0 link.faults then 1 else 0) }
+    {
+        self.room -= 1;
+        if link.faults() > 0 {
+            self.faults += 1;
+        } else {
+            self.kept = Some(link);
+        }
+    }
+
     /// A dialler with the same time-outs. It takes no memory; at more than 2^63 others it answers `OutOfMemory`.
     fn another(&self) -> Result<TcpDial<N>, PortError>
         ensures fresh { IfOk result (λ other. other.faults ≡ 0) }
@@ -146,6 +170,7 @@ impl<N: Net<Stream = TcpStream> + Clock + Copy + Send> Dial for TcpDial<N> {
             ended,
             connect_ms: self.connect_ms,
             waits: self.waits,
+            kept: None,
             room: 0,
             faults: 0,
         })
@@ -156,15 +181,28 @@ impl<N: Net<Stream = TcpStream> + Clock + Copy + Send> Dial for TcpDial<N> {
     }
 }
 
+// The link that is kept, if it leads there and can be used again.
+fn kept_link<N: Clock + Copy>(
+    kept: &mut Option<StreamConn<TcpStream, N>>,
+    address: SocketAddr,
+    waits: Waits,
+) -> Option<StreamConn<TcpStream, N>>
+    ensures { IfSome result (λ link. link.faults ≡ 0) }
+{
+    let link = kept.take()?;
+    if link.place() != Some(address) {
+        return None;
+    }
+    link.again(waits)
+}
+
 // A stream to the address, whose reads and writes come back once in a while.
 fn connect<N: Net<Stream = TcpStream>>(
     net: &N,
-    ip: u32,
-    port: u16,
+    address: SocketAddr,
     connect_ms: Option<u64>,
     waits: Waits,
 ) -> io::Result<TcpStream> {
-    let address = SocketAddr::new(IpAddr::V4(Ipv4Addr::from_bits(ip)), port);
     let stream = match connect_ms {
         Some(ms) => net.connect_timeout(address, Duration::from_millis(ms.max(1)))?,
         None => net.connect(address)?,

@@ -15,7 +15,7 @@ const LONGEST_LOOK_MS: u64 = 500;
 const BYTES_A_SECOND: u64 = 65_536;
 
 // How long one read or write of the library waits.
-fn look_ms(waits: Waits) -> u64 {
+pub(super) fn look_ms(waits: Waits) -> u64 {
     match waits.quiet_ms {
         Some(ms) => ms.max(1).min(LONGEST_LOOK_MS),
         None => LONGEST_LOOK_MS,
@@ -72,6 +72,16 @@ impl<C: Clock + Copy> Pace<C> {
         }
     }
 
+    // That of the same connection, used anew.
+    pub(super) fn again(self, waits: Waits) -> Pace<C> {
+        Pace::new(self.clock, self.ended, waits)
+    }
+
+    // How it waits.
+    pub(super) fn waits(&self) -> Waits {
+        self.waits
+    }
+
     // Whether so many milliseconds are over since then.
     fn is_past(&self, since: Option<Instant>, ms: Option<u64>) -> bool {
         let (Some(since), Some(ms)) = (since, ms) else {
@@ -109,6 +119,18 @@ impl<C: Clock + Copy> Patience for Pace<C> {
         let message_ms = self.waits.message_ms.map(|ms| ms.saturating_add(more_ms));
         self.is_past(self.began, message_ms) || self.is_past(self.made, self.waits.whole_ms)
     }
+}
+
+// Whether a stream is open, and nothing has come over it that nobody has read.
+pub(super) fn is_still(stream: &TcpStream) -> bool {
+    if stream.set_nonblocking(true).is_err() {
+        return false;
+    }
+    let is_still = match stream.peek(&mut [0]) {
+        Ok(_) => false,
+        Err(error) => error.kind() == ErrorKind::WouldBlock,
+    };
+    stream.set_nonblocking(false).is_ok() && is_still
 }
 
 // Makes each read and write of a new stream come back after a while, so that it can be looked whether to go on.

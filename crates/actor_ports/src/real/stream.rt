@@ -1,9 +1,9 @@
 // A connection over one of the library's streams.
-ghost use Rattle.std.specs.Prelude.{◌≡◌, ◌<◌, ◌≤◌, ◌↔◌, None, IfOk, IfErr, IsErrOf, refl};
+ghost use Rattle.std.specs.Prelude.{◌≡◌, ◌<◌, ◌≤◌, ◌↔◌, None, IfOk, IfErr, IfSome, IsErrOf, refl};
 ghost use Rattle.actor_ports.specs.Port.{HasCause, Appends, faults_after};
 ghost use Rattle.actor_ports.specs.Real.{Counted, ReadsThrough, WritesThrough};
 
-use super::pace::Pace;
+use super::pace::{Pace, is_still, look_ms, set_looks};
 use super::reader::{make_piece, read_counted};
 use super::writer::write_counted;
 use crate::port::{Conn, PortError, Sink, Source};
@@ -11,6 +11,7 @@ use crate::waits::Waits;
 use std::alloc::Global;
 use std::io::{Read, Write};
 use std::marker::Model;
+use std::net::{SocketAddr, TcpStream};
 use std::sync::Arc;
 use std::sync::atomic::AtomicBool;
 use std::time::Clock;
@@ -65,6 +66,37 @@ impl<S: Read + Write + Drop + Send, C: Clock + Copy> StreamConn<S, C> {
         ensures { result ≡ self.now.faults }
     {
         self.faults
+    }
+}
+
+impl<C: Clock + Copy> StreamConn<TcpStream, C> {
+    // The address of its other end.
+    pub(super) fn place(&self) -> Option<SocketAddr> {
+        self.stream.peer_addr().ok()
+    }
+
+    // The same connection for another use, without a fault, if it is open and nothing has come that nobody has read.
+    pub(super) fn again(self, waits: Waits) -> Option<StreamConn<TcpStream, C>>
+        ensures { IfSome result (λ s. s.faults ≡ 0) }
+    {
+        let StreamConn {
+            stream,
+            pace,
+            piece,
+            faults: _,
+        } = self;
+        if !is_still(&stream) {
+            return None;
+        }
+        if look_ms(pace.waits()) != look_ms(waits) {
+            set_looks(&stream, waits).ok()?;
+        }
+        Some(StreamConn {
+            stream,
+            pace: pace.again(waits),
+            piece,
+            faults: 0,
+        })
     }
 }
 

@@ -27,4 +27,4 @@ returns g c =
     (asked_carries c.frame_law.ensures.reads c.frame_law.ensures.no_prefix c.args.asked.now c.as_slice.result.now x.0 (g.L.Link.Source.read_traffic c.in-Ok.link) (g.L.Link.Source.read_traffic c.exchange_frame-got.new.conn) c.exchange_frame-got.result c.answer_in.result
     (c.as_slice.ensures.value ∙ c.requires) c.answer_in.ensures x.2)
     (asked_rises c.args.asked.now c.exchange_frame-got.result _ _ c.answer_in.result c.answer_in.ensures c.exchange_frame-got.ensures.cause)
-    c.done.ensures.takes_back c.done.ensures.cause
+    c.give_back.ensures.takes_back c.give_back.ensures.cause
