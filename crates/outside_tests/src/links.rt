@@ -39,3 +39,28 @@ fn silent_link_and_closed_port_fail(rt: HostRuntime) -> Result<(), Fail> {
     assert_eq!(rt; other.dial(HERE, port).err(), Some(PortError::Failed));
     Ok(())
 }
+
+#[test]
+fn kept_link_is_given_out_again_while_it_is_open(rt: HostRuntime) -> Result<(), Fail> {
+    let bound = TcpListener::bind(&rt, SocketAddr::from((Ipv4Addr::LOCALHOST, 0)))?;
+    let port = bound.local_addr()?.port();
+    let ended = Arc::new(rt.alloc(), AtomicBool::new(false))?;
+    let theirs = Arc::try_clone(&ended)?;
+    let mut listener = TcpListen::new(rt.alloc(), rt, theirs, bound, Waits::quiet(5_000));
+    let mut dialler = TcpDial::new(rt.alloc(), rt, ended, Some(5_000), Waits::quiet(5_000));
+    let first = dialler.dial(HERE, port)?;
+    let mut there = listener.accept()?;
+    dialler.keep(first);
+    let mut again = dialler.dial(HERE, port)?;
+    again.write(b"a")?;
+    let mut into = Vec::new(rt.alloc());
+    assert_eq!(rt; there.read(&mut into, 5), Ok(1));
+    dialler.keep(again);
+    drop(there);
+    let mut fresh = dialler.dial(HERE, port)?;
+    let mut taken = listener.accept()?;
+    fresh.write(b"b")?;
+    assert_eq!(rt; taken.read(&mut into, 5), Ok(1));
+    assert_eq!(rt; into.as_slice(), b"ab".as_slice());
+    Ok(())
+}
