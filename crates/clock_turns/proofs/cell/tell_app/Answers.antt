@@ -8,8 +8,8 @@ returns-in-Err g c = ([], refl, none_made _ _)
 
 pub returns-in-Ok : goal.returns-in-Ok
 returns-in-Ok g c =
-    let x = c.exchange_at.ensures in (
+    let x = c.exchange_waiting.ensures in (
       x.0,
-      subst (λ (t : List ℕ). IsHttpExchange t (place_at c.args.at.now) x.0 c.exchange_at.result) c.in-Ok.ensures x.1,
+      subst (λ (t : List ℕ). IsHttpExchange t (place_at c.args.at.now) x.0 c.exchange_waiting.result) c.in-Ok.ensures x.1,
       x.2,
     )
