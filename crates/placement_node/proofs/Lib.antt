@@ -1,4 +1,5 @@
 pub mod Fits
+pub mod Histories
 pub mod Laws
 pub mod Opens
 pub mod Pushes

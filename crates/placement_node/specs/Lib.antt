@@ -1,4 +1,5 @@
 pub mod Found
+pub mod Histories
 pub mod Node
 pub mod Openings
 pub mod Ranges

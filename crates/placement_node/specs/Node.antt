@@ -9,7 +9,7 @@ use Rattle.placement_core.specs.Placement.{PlacementState, PlacementStep, placem
 use Rattle.placement_core.specs.Runs.{AreRooms}
 use Rattle.placement_node.specs.declared.reply.NodeEvent.{NodeEvent}
 use Rattle.placement_node.specs.declared.reply.NodeReply.{NodeReply}
-use Rattle.placement_node.specs.Ranges.{ReplyFits}
+use Rattle.placement_node.specs.Ranges.{EventFits, ReplyFits}
 use Rattle.placement_node.specs.Records.{payloads_of}
 use Rattle.placement_node.specs.Replies.{event_space, refused, reply_of, Outcome, Done, NoMemory, NoRoom, Failed, Shut, outcome_of}
 
@@ -68,6 +68,7 @@ pub record NodeMoves (old : NodeState) (event : NodeEvent) (reply : NodeReply) (
   pub shut : old.journal.is_broken ≡ true → (reply ≡ refused refusals.Reopen) × (new ≡ old)
   pub works : old.journal.is_broken ≡ false → Works old event reply new (outcome_of reply)
 
--- what the step of a machine allows: such a move, with a reply that may be sent
+-- what the step of a machine allows: such a move, with a reply that may be sent, by an event whose host or member fits
+-- a frame
 abbrev pub NodeAllows : NodeState → NodeEvent → NodeReply → NodeState → Type 0
-NodeAllows old event reply new = NodeMoves old event reply new × ReplyFits reply
+NodeAllows old event reply new = NodeMoves old event reply new × ReplyFits reply × EventFits event.event

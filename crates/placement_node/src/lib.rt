@@ -2,7 +2,7 @@
 //
 // Promise: a step of a `PlacementNode` answers what the placement's step answers, and its record is written first
 // (`specs/Node`); an opening restarts the placement from the records of its journal (`specs/Openings`). It depends on
-// `placement_core`, `placement_payloads`, `tx_journal`, `frame_wire` and `state_machine`.
+// `placement_core`, `placement_payloads`, `tx_journal`, `frame_wire`, `state_machine`, and `step_gate` for histories.
 #![tactic(auto)]
 
 mod answer;

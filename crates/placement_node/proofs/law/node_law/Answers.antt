@@ -1,3 +1,4 @@
+use Rattle.placement_node.proofs.Histories.{follows_history}
 use Rattle.placement_node.proofs.Laws.{steps_at_end, leaves_end}
 use Rattle.placement_node.proofs.Opens.{opens_at_end}
 use Rattle.placement_node.proofs.Stands.{stands_after}
@@ -21,3 +22,6 @@ returns-clause-told c = tells_last
 
 pub returns-clause-versions : goal.returns-clause-versions
 returns-clause-versions c = versions_rise
+
+pub returns-clause-history : goal.returns-clause-history
+returns-clause-history c = follows_history
