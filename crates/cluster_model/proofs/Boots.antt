@@ -1,5 +1,5 @@
 -- A boot keeps the cluster safe: its parts are new, and no message names its member.
-use Rattle.std.proofs.Common.{◌≡◌, ℕ, ◌≤◌, List, [], ◌++◌, Option, refl, sym, ap, ◌∙◌, subst, inl, inr, arith}
+use Rattle.std.proofs.Common.{◌≡◌, ℕ, ◌+◌, ◌<◌, ◌≤◌, List, [], ◌++◌, Option, refl, sym, ap, ◌∙◌, subst, inl, inr, arith}
 use Rattle.std.specs.Prelude.{zero, suc}
 use Rattle.actor_names.specs.declared.member.Member.{Member}
 use Rattle.actor_names.specs.declared.actor_key.ActorKey.{ActorKey}
@@ -28,6 +28,11 @@ pub In-new_parts : (m : Member) (kinds : List TypeSettings) (i n : ℕ) (x : Par
 In-new_parts m kinds i zero x h = absurd h
 In-new_parts m kinds i (suc n) x (inl e) = (i, e)
 In-new_parts m kinds i (suc n) x (inr h) = In-new_parts m kinds (suc i) n x h
+
+pub number-new_parts : (m : Member) (kinds : List TypeSettings) (i n : ℕ) (x : PartState) → In x (new_parts m kinds i n) → x.number < i + n
+number-new_parts m kinds i zero x h = absurd h
+number-new_parts m kinds i (suc n) x (inl e) = let a : x.number ≡ i = ap (λ (y : PartState). y.number) e in omega arith
+number-new_parts m kinds i (suc n) x (inr h) = let a = number-new_parts m kinds (suc i) n x h in omega arith
 
 module _ (owner : PlacementTable → ActorKey → Option HostInfo) where
   pub new_part_backed : (ms : List Message) (boots : ℕ) (m : Member) (i : ℕ) (kinds : List TypeSettings) → m.boot ≤ boots → IsPartBacked owner ms boots (new_part m i kinds)

@@ -8,19 +8,24 @@ use Rattle.place_table.specs.declared.ack_stage.AckStage.{AckStage}
 use Rattle.place_table.specs.declared.ack_stage.AckStage.TheVariants as stages
 use Rattle.place_table.specs.Hosts.{PlacementTable}
 use Rattle.turn_core.specs.CellSound.{In}
+use Rattle.part_model.specs.Activity.{activity_of}
 use Rattle.part_model.specs.Part.{PartState}
+use Rattle.part_model.proofs.Changes.{at-In}
 use Rattle.round_core.specs.declared.phase.RoundPhase.TheVariants.{Running}
 use Rattle.member_roster.specs.Members.{Joined, joined_node}
+use Rattle.placement_core.specs.Placement.{room_of}
 use Rattle.world_events.specs.declared.event.WorldEvent.{WorldEvent}
 use Rattle.world_events.specs.declared.settings.WorldSettings.{WorldSettings}
-use Rattle.cluster_model.specs.Messages.{LockAt, UpdateTo, Tells, table_of}
+use Rattle.cluster_model.specs.Messages.{Ack, LockAt, UpdateTo, Asks, Tells, table_of}
 use Rattle.cluster_model.specs.Spaces.{SpaceState, seen_in, KeepsToSpace}
 use Rattle.cluster_model.proofs.SpaceParts.{backed, from_messages, space_is}
 use Rattle.cluster_model.specs.World as world
 use Rattle.cluster_model.specs.World.{ClusterState}
 use Rattle.cluster_model.specs.Invariant.{WasTold, IsRoundSound, RoundFacts}
-use Rattle.cluster_model.specs.Cluster.{last_of, VersionsBelowNext, OneTablePerVersion, MembersOrStopped, InformedAreTargets, AcksAreReached, ActiveMeansOwned, NobodyBehindUnlock, TurnsUnderOneChain, ClusterInvariant}
+use Rattle.cluster_model.specs.Cluster.{last_of, VersionsBelowNext, OneTablePerVersion, MembersOrStopped, InformedAreTargets, AcksAreReached, ActiveMeansOwned, NobodyBehindUnlock, TurnsUnderOneChain, MarksTellCells, ClusterInvariant}
+use Rattle.cluster_model.proofs.Basics.{In-slice_get}
 use Rattle.cluster_model.proofs.Joins.{entry_of, one_entry}
+use Rattle.cluster_model.proofs.Named.{place-In}
 use Rattle.cluster_model.proofs.PartKeeps.{told_update}
 use Rattle.cluster_model.specs.Invariant.{IsSafeSpace, IsSafeWorld}
 use Rattle.cluster_model.proofs.Runs.{IsToldWorld, run_told}
@@ -60,6 +65,9 @@ module _ (owner : PlacementTable → ActorKey → Option HostInfo) (part_of : Ac
   versions_below =
       record {
         messages = λ m v k. below v (t.safe.messages.told_below m v k);
+        acks = λ m stage v k.
+            let h = from_messages w.messages (Asks (Ack m stage v)) space k in
+            subst (λ (z : List ℕ). v < (room_of w.placement z).next_version) (sym (space_is space m h.1)) (safe.acks m stage v h.0);
         seen = λ p i. below p.seen (seen_low p i);
         opened = λ p i. below p.opened (let l = seen_low p i in let h = (t.safe.parts p i).tied.opened_seen in omega arith);
         installed = λ p i. below p.table.version (let l = seen_low p i in let h = (t.safe.parts p i).tied.table_seen in omega arith);
@@ -106,6 +114,7 @@ module _ (owner : PlacementTable → ActorKey → Option HostInfo) (part_of : Ac
             let b = entry_of s.room.members n j in
             let same : joined_node a.0 ≡ joined_node b.0 = ap (λ (z : Member). z.node) (sym a.2) ∙ e ∙ ap (λ (z : Member). z.node) b.2 in
             a.2 ∙ ap (λ (z : Joined). z.host.member) (one_entry s.room.members a.0 b.0 t.reached.distinct a.1 b.1 same) ∙ sym b.2;
+        distinct = t.reached.distinct;
         opening = t.reached.kept.unused;
         member_booted = t.safe.booted.joined;
         told_booted = t.safe.booted.told;
@@ -156,6 +165,17 @@ module _ (owner : PlacementTable → ActorKey → Option HostInfo) (part_of : Ac
         no_idle_waiter = λ p i. (backed owner w t.safe p i).sound.no_idle_waiter;
       }
 
+  pub marks_tell : MarksTellCells owner part_of w
+  marks_tell =
+      record {
+        here = λ p k i e. (let a = place-In w.parts p i in t.told.fits.here a.0 p a.1 k e);
+        cells = λ p c i j.
+            let a = place-In w.parts p i in
+            let at = t.told.fits.placed a.0 p a.1 c j in
+            (at, t.told.fits.here a.0 p a.1 c.key at ∙ ap activity_of (at-In p.cells c (backed owner w t.safe p i).sound.in_order j));
+        nowhere = λ m k away. t.told.fits.nowhere m k (λ i p g. away p (In-slice_get w.parts i p g));
+      }
+
   pub cluster_invariant : ClusterInvariant owner part_of w
   cluster_invariant =
       record {
@@ -167,6 +187,7 @@ module _ (owner : PlacementTable → ActorKey → Option HostInfo) (part_of : Ac
         owned = active_owned;
         unlocked = λ space. nobody_behind owner part_of w t.safe space;
         turns = one_chain;
+        told = marks_tell;
         single = single_activation w.marks t.told.never;
         isolated = record {
           one_chain = overlap_chain (world.depth_in w.settings) w.marks t.told.chain;

@@ -11,6 +11,8 @@ pub mod Boots
 pub mod Named
 pub mod SpaceParts
 pub mod Lines
+mod Forgets
+mod Acks
 pub mod Worlds
 pub mod Histories
 pub mod Openings
@@ -30,4 +32,4 @@ pub mod Balances
 mod TargetRows
 mod RoundSteps
 mod Sendings
-mod Targets
+pub mod Targets

@@ -1,11 +1,12 @@
 -- What every event of a cluster comes down to: a property that seven changes of a safe cluster preserve is preserved by
 -- every event, and by every list of events. A property of the calls made so far needs a case of its own for a call.
-use Rattle.std.proofs.Common.{◌≡◌, ℕ, true, ◌+◌, ◌≤◌, List, [], ◌∷◌, length, Option, None, Some, refl, sym, ap, ◌∙◌, subst, inr}
+use Rattle.std.proofs.Common.{◌≡◌, ℕ, true, ◌+◌, ◌≤◌, List, [], ◌∷◌, ◌++◌, length, Option, None, Some, refl, sym, ap, ◌∙◌, subst}
 use Rattle.std.specs.Prelude.{suc, nat_le, ◌==◌, slice_get}
 use Rattle.std.proofs.lemmas.Bool.{cond_both}
 use Rattle.actor_names.specs.declared.member.Member.{Member}
 use Rattle.actor_names.specs.declared.actor_key.ActorKey.{ActorKey}
 use Rattle.place_table.specs.declared.host.HostInfo.{HostInfo}
+use Rattle.place_table.specs.declared.ack_stage.AckStage.{AckStage}
 use Rattle.place_table.specs.Hosts.{PlacementTable}
 use Rattle.turn_core.specs.CellSound.{In}
 use Rattle.part_model.specs.declared.event.PartEvent.{PartEvent}
@@ -18,7 +19,7 @@ use Rattle.round_core.specs.declared.event.PlaceEvent.TheVariants as changes
 use Rattle.placement_core.specs.Placement.{late_in, placement_step, placement_restarted}
 use Rattle.part_model.specs.declared.ack.Ack as declared
 use Rattle.part_model.specs.Acks.{collected, are_stopped}
-use Rattle.part_model.specs.Progress.{MemberReached}
+use Rattle.part_model.specs.Progress.{PartReached}
 use Rattle.part_model.proofs.Collects.{collected_reached, stopped_receipts}
 use Rattle.world_events.specs.declared.event.WorldEvent.{WorldEvent}
 use Rattle.world_events.specs.declared.event.WorldEvent.TheVariants as lines
@@ -32,11 +33,15 @@ use Rattle.cluster_model.proofs.SpaceParts.{backed}
 use Rattle.cluster_model.proofs.Named.{booted_part, all_stopped_all, none_running, same_place, told_heard, told_asks_not, ask_heard, ask_asks, In-message_at, In-receipts_of}
 
 module _ (owner : PlacementTable → ActorKey → Option HostInfo) (part_of : ActorKey → ℕ → ℕ) where
+  -- each part of the member has reached the stage of the version, and none has stopped
+  abbrev pub AllReached : List PartState → Member → AckStage → ℕ → Type 0
+  AllReached ps m stage v = (p : PartState) → In p ps → p.member ≡ m → PartReached owner stage v p
+
   -- what is known of a request that is added
   abbrev pub MayAsk : ClusterState → Request → Type 0
   MayAsk w (Register h) = ⊥
   MayAsk w (Beat m) = Unit {0}
-  MayAsk w (Ack m s v) = MemberReached owner w.parts m s v × (m.boot ≤ w.boots)
+  MayAsk w (Ack m s v) = AllReached w.parts m s v × (m.boot ≤ w.boots)
   MayAsk w (Leave m) = AllStopped w.parts m × (m.boot ≤ w.boots)
 
   -- an event of the placement that no message brings
@@ -122,8 +127,8 @@ module _ (owner : PlacementTable → ActorKey → Option HostInfo) (part_of : Ac
     acks w m None e b booted t = t
     acks w m (Some a) e b booted t = kept.ask w (Ack m a.stage a.version) t (reached, b) booted
       where
-        reached : MemberReached owner w.parts m a.stage a.version
-        reached p i is = inr (collected_reached owner (world.receipts_of owner part_of w.parts m) a e p (In-receipts_of owner part_of w.parts m p i is))
+        reached : AllReached w.parts m a.stage a.version
+        reached p i is = collected_reached owner (world.receipts_of owner part_of w.parts m) a e p (In-receipts_of owner part_of w.parts m p i is)
 
     delivers : (w : ClusterState) (o : Option Message) → ((x : Message) → o ≡ Some x → In x w.messages) → P w → Ends (world.deliver w o)
     delivers w None i t = t
@@ -210,3 +215,8 @@ module _ (owner : PlacementTable → ActorKey → Option HostInfo) (part_of : Ac
     pub run_kept : (w : ClusterState) (es : List WorldEvent) → P w → P (world.cluster_run owner part_of w es)
     run_kept w [] t = t
     run_kept w (e ∷ es) t = run_kept (world.cluster_step owner part_of w e).world es (step_kept w e t)
+
+  -- a run of some events, and then of others
+  pub cluster_run-append : (w : ClusterState) (es fs : List WorldEvent) → world.cluster_run owner part_of w (es ++ fs) ≡ world.cluster_run owner part_of (world.cluster_run owner part_of w es) fs
+  cluster_run-append w [] fs = refl
+  cluster_run-append w (e ∷ es) fs = cluster_run-append (world.cluster_step owner part_of w e).world es fs

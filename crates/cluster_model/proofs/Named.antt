@@ -1,7 +1,7 @@
 -- What the events of a cluster name: members, parts and messages.
-use Rattle.std.proofs.Common.{◌≡◌, ℕ, true, not, ◌||◌, List, [], ◌∷◌, Option, None, Some, refl, sym, ap, ◌∙◌, subst, inl, inr}
+use Rattle.std.proofs.Common.{◌≡◌, ℕ, Bool, true, cond, not, ◌||◌, List, [], ◌∷◌, Option, None, Some, refl, sym, ap, ◌∙◌, subst, inl, inr}
 use Rattle.std.specs.Prelude.{zero, suc, ◌==◌, slice_get}
-use Rattle.std.proofs.lemmas.Bool.{and_parts, or_cases, eqb-true, cond_both, false≢true, true≢false, not-true}
+use Rattle.std.proofs.lemmas.Bool.{and_parts, and_from, or_cases, eqb-true, eq-eqb, cases_Bool, both_ways, cond_both, false≢true, true≢false, not-true}
 use Rattle.actor_names.specs.declared.member.Member.{Member}
 use Rattle.actor_names.specs.declared.actor_key.ActorKey.{ActorKey}
 use Rattle.place_table.specs.declared.host.HostInfo.{HostInfo}
@@ -52,6 +52,25 @@ none_running ps (x ∷ xs) e m i =
     cond_both (all_stopped ps x) _ _ (λ (r : Option Member). r ≡ None → AllStopped ps m)
     (λ t f. elim i [ inl s ↦ subst (AllStopped ps) (sym s) (all_stopped_all ps x t) | inr j ↦ more f m j ])
     (λ t f. absurd (cc)) e
+
+-- a part of the list has a place
+pub place-In : (ps : List PartState) (p : PartState) → In p ps → (k : ℕ) × (slice_get ps k ≡ Some p)
+place-In [] p i = absurd i
+place-In (x ∷ ps) p (inl e) = (0, ap Some (sym e))
+place-In (x ∷ ps) p (inr i) = (let h = place-In ps p i in (suc h.0, h.1))
+
+-- and its member's part of its number is found
+pub place_found : (ps : List PartState) (p : PartState) → In p ps → (n : ℕ) × (q : PartState) × (place_of_part ps p.member p.number ≡ Some n) × (slice_get ps n ≡ Some q)
+place_found [] p i = absurd i
+place_found (x ∷ ps) p i =
+    let more = place_found ps p in
+    elim (cases_Bool (is_part p.member p.number x)) [
+      | inl t ↦ (0, x, ap (λ (b : Bool). cond b (Some 0) (world.up (place_of_part ps p.member p.number))) t, refl)
+      | inr f ↦ elim i [
+        | inl e ↦ absurd (both_ways _ f (and_from _ _ (subst (λ (z : Member). same_member p.member z ≡ true) (ap (λ (z : PartState). z.member) e) (same_member-self p.member)) (eq-eqb _ _ (ap (λ (z : PartState). z.number) e))))
+        | inr j ↦ (let h = more j in (suc h.0, h.1, ap (λ (b : Bool). cond b (Some 0) (world.up (place_of_part ps p.member p.number))) f ∙ ap world.up h.2, h.3))
+      ]
+    ]
 
 -- the part at the place of a member's part is that part
 pub same_place : (ps : List PartState) (m : Member) (i n : ℕ) (p : PartState) → place_of_part ps m i ≡ Some n → slice_get ps n ≡ Some p → (p.member ≡ m) × (p.number ≡ i)

@@ -32,7 +32,7 @@ use Rattle.cluster_model.specs.Messages.{Request, Register, Beat, Ack, Leave, An
 use Rattle.cluster_model.specs.World as world
 use Rattle.cluster_model.specs.World.{ClusterState, new_parts}
 use Rattle.cluster_model.specs.Spaces.{SpaceState, is_of, parts_of, messages_of, seen_in, KeepsToSpace}
-use Rattle.cluster_model.specs.Invariant.{version_of, AllStopped, IsHeard, IsSafeAt, IsSafe, IsSafeSpace, IsActiveOnce}
+use Rattle.cluster_model.specs.Invariant.{version_of, AllStopped, IsBooted, IsHeard, IsSafeAt, IsSafe, IsSafeSpace, IsActiveOnce}
 use Rattle.cluster_model.proofs.Basics.{In-slice_get}
 use Rattle.cluster_model.proofs.Joins.{one_entry}
 use Rattle.cluster_model.proofs.PartKeeps.{part_safe}
@@ -44,6 +44,8 @@ use Rattle.cluster_model.proofs.Messages.{IsPlain, push_plain, push_told, stage_
 use Rattle.cluster_model.proofs.Boots.{boot_safe}
 use Rattle.cluster_model.specs.Invariant.{IsSafeWorld}
 use Rattle.cluster_model.proofs.Lines.{MayAsk, IsHonest, AreKept, run_kept}
+use Rattle.cluster_model.proofs.Forgets.{restart_forgets}
+use Rattle.cluster_model.proofs.Acks.{acks_below, asked_used}
 
 tells_asks : (m : Member) (a : Answer) (r : Request) → Tells m a ≡ Asks r → ⊥
 tells_asks m a r e = cc
@@ -100,7 +102,7 @@ module _ (owner : PlacementTable → ActorKey → Option HostInfo) (part_of : Ac
   asked_backed : (w : ClusterState) (space : List ℕ) (r : Request) → MayAsk owner part_of w r → IsBacked (parts_of space w.parts) w.boots r
   asked_backed w space (Register h) may = absurd may
   asked_backed w space (Beat m) may = tt
-  asked_backed w space (Ack m st v) may = (reached_own owner w.parts m st v space may.0, may.1)
+  asked_backed w space (Ack m st v) may = (reached_own owner w.parts m st v space (λ p i e. inr (may.0 p i e)), may.1)
   asked_backed w space (Leave m) may = (stopped_own w.parts m space may.0, may.1)
 
   -- a reply that gives no version
@@ -193,6 +195,10 @@ module _ (owner : PlacementTable → ActorKey → Option HostInfo) (part_of : Ac
         tables = same_tables w.messages _
             (λ m u e. answer_space (asker_of r).space (room_of t.state (asker_of r).space).table t.reply u (tells_same m (asker_of r) (UpdateTo u) _ e) ∙ ap (λ (z : Member). z.space) (sym (tells_member m (asker_of r) (UpdateTo u) _ e)))
             s.tables;
+        acks = λ m st v k. elim (In-push w.messages _ (Asks (Ack m st v)) k) [
+          | inl j ↦ acks_below owner part_of w (change_of r) s m st v j
+          | inr e ↦ absurd (asks_tells _ _ (Ack m st v) e)
+        ];
       }
 
   -- the room of a space, changed
@@ -219,6 +225,7 @@ module _ (owner : PlacementTable → ActorKey → Option HostInfo) (part_of : Ac
           | inr away ↦ subst (λ (x : RoomState). IsSafeSpace owner (with_space_room (seen_in w space) x)) (sym (other_room w.placement (changes.Lost m) w.now m.space space refl away)) (s.spaces space)
         ];
         tables = s.tables;
+        acks = acks_below owner part_of w (changes.Lost m) s;
       }
   change_safe w changes.Tick s h =
       record {
@@ -231,6 +238,7 @@ module _ (owner : PlacementTable → ActorKey → Option HostInfo) (part_of : Ac
               safe = tick_safe owner v.parts v.messages v.boots v.room w.now r.kept.used (λ m i. stopped_own w.parts m space (h m (late_room w.placement w.now space m i))) (s.spaces space).safe;
             });
         tables = s.tables;
+        acks = acks_below owner part_of w changes.Tick s;
       }
   change_safe w (changes.Register host) s h = absurd h
   change_safe w e s h = absurd h
@@ -253,10 +261,11 @@ module _ (owner : PlacementTable → ActorKey → Option HostInfo) (part_of : Ac
                   subst (λ (ps : List PartState). IsSafeSpace owner (record v { parts = ps })) (sym same) (s.spaces space))
             ];
         tables = s.tables;
+        acks = s.acks;
       }
 
-  ask_safe : (w : ClusterState) (r : Request) → IsSafeWorld owner w → MayAsk owner part_of w r → IsSafeWorld owner (world.with_message w (Asks r))
-  ask_safe w r s may =
+  ask_safe : (w : ClusterState) (r : Request) → IsSafeWorld owner w → MayAsk owner part_of w r → IsBooted w.parts (asker_of r) → IsSafeWorld owner (world.with_message w (Asks r))
+  ask_safe w r s may booted =
       record {
         spaces = λ space.
             let v = seen_in w space in
@@ -266,6 +275,7 @@ module _ (owner : PlacementTable → ActorKey → Option HostInfo) (part_of : Ac
               | inr away ↦ subst (λ (ms : List Message). IsSafeSpace owner (record v { messages = ms })) (sym (pushed_other w.messages (Asks r) space away)) (s.spaces space)
             ];
         tables = same_tables w.messages (Asks r) (λ m t e. absurd (tells_asks m (UpdateTo t) r e)) s.tables;
+        acks = λ m st v i. elim (In-push w.messages (Asks r) (Asks (Ack m st v)) i) [ inl j ↦ s.acks m st v j | inr e ↦ asked_used owner part_of w r s may booted m st v e ];
       }
 
   boot_own : (w : ClusterState) (m : Member) (kinds : List (List ℕ)) (space : List ℕ) → m.boot ≡ suc w.boots → IsSafeWorld owner w → is_of space m ≡ true → IsSafeSpace owner (seen_in (world.booted w m kinds).world space)
@@ -302,9 +312,9 @@ module _ (owner : PlacementTable → ActorKey → Option HostInfo) (part_of : Ac
   safe_kept =
       record {
         safe = λ w s. s;
-        other = λ w now calls events s. record { spaces = s.spaces; tables = s.tables };
+        other = λ w now calls events s. record { spaces = s.spaces; tables = s.tables; acks = s.acks };
         step = λ w n p e s at heard asked. step_safe w n p e s at heard;
-        ask = λ w r s may booted. ask_safe w r s may;
+        ask = λ w r s may booted. ask_safe w r s may booted;
         answer = answer_safe;
         change = change_safe;
         restart = λ w s. record {
@@ -314,10 +324,12 @@ module _ (owner : PlacementTable → ActorKey → Option HostInfo) (part_of : Ac
               subst (λ (x : RoomState). IsSafeSpace owner (with_space_room v x)) (sym (restart_room w.placement w.now space))
               (record { reached = event_reached v.room (Restarts w.now) r; safe = restart_safe owner v.parts v.messages v.boots v.room w.now r.kept (s.spaces space).safe });
           tables = s.tables;
+          acks = λ m st v i. (let old = s.acks m st v i in let more = (restart_forgets w.placement w.now (λ space. (s.spaces space).reached) m.space).versions in omega arith);
         };
         boot = λ w m kinds fresh s. record {
           spaces = λ space. elim (cases_Bool (is_of space m)) [ inl own ↦ boot_own w m kinds space fresh s own | inr away ↦ boot_other w m kinds space fresh s away ];
           tables = same_tables w.messages (Asks (Register (world.host_of m kinds))) (λ x t e. absurd (tells_asks x (UpdateTo t) (Register (world.host_of m kinds)) e)) s.tables;
+          acks = λ x st v i. elim (In-push w.messages _ (Asks (Ack x st v)) i) [ inl j ↦ s.acks x st v j | inr e ↦ absurd (cc) ];
         };
       }
 
@@ -342,6 +354,7 @@ module _ (owner : PlacementTable → ActorKey → Option HostInfo) (part_of : Ac
               };
             });
         tables = λ m t i. absurd i;
+        acks = λ m st v i. absurd i;
       }
 
   pub run_safe : (settings : WorldSettings) (es : List WorldEvent) → IsSafeWorld owner (world.cluster_run owner part_of (world.opening_cluster settings) es)

@@ -10,13 +10,15 @@ use Rattle.turn_core.specs.declared.cell.Turn.{Turn}
 use Rattle.turn_core.specs.CellMarks.{most_turns}
 use Rattle.turn_core.specs.CellSound.{In}
 use Rattle.part_model.specs.declared.actor_cell.ActorCell.{ActorCell}
-use Rattle.part_model.specs.Activity.{no_activity}
+use Rattle.part_model.specs.Activity.{no_activity, activity_in, activity_of}
+use Rattle.part_model.specs.Cells.{cell_at}
 use Rattle.part_model.specs.Marks.{TurnBegan, TurnEnded, BecameActive, BecameInactive}
 use Rattle.part_model.specs.declared.stage.Stage.TheVariants.{Stopped}
 use Rattle.part_model.specs.Part.{PartState}
 use Rattle.part_model.specs.Sound.{NoIdleWaiter}
 use Rattle.round_core.specs.declared.phase.RoundPhase.TheVariants.{Running}
 use Rattle.round_core.specs.Room.{new_room, last_version}
+use Rattle.round_core.specs.Reached.{Distinct}
 use Rattle.round_core.specs.Runs.{HasMember, ForgetsNothing}
 use Rattle.placement_core.specs.Placement.{PlacementState, room_of}
 use Rattle.member_roster.specs.Members.{Joined, greatest_boot, hosts_of}
@@ -36,12 +38,13 @@ IsMember s m = HasMember (hosts_of s.room.members) m
 abbrev pub last_of : SpaceState → ℕ
 last_of s = last_version s.room
 
--- Every version is below the next one, and each version that a part has now came by a message. The running round's
--- version is the next one less one, and not 0. Pending members are targets, and so is each member that was told the
+-- Every version is below the next one, also that of an acknowledgement, and each version that a part has now came by a
+-- message. The running round's version is the next one less one, and not 0. Pending members are targets, and so is each member that was told the
 -- round's version. So each message of that version went to one of its targets, except for members that have gone since,
 -- whose parts have all stopped.
 pub record VersionsBelowNext (s : SpaceState) : Type 0 where
   pub messages : (m : Member) (v : ℕ) → WasTold s.messages m v → v < s.room.next_version
+  pub acks : (m : Member) (stage : AckStage) (v : ℕ) → In (Asks (Ack m stage v)) s.messages → v < s.room.next_version
   pub seen : (p : PartState) → In p s.parts → p.seen < s.room.next_version
   pub opened : (p : PartState) → In p s.parts → p.opened < s.room.next_version
   pub installed : (p : PartState) → In p s.parts → p.table.version < s.room.next_version
@@ -67,14 +70,15 @@ pub record OneTablePerVersion (s : SpaceState) : Type 0 where
   pub unlocking_table : s.room.phase ≡ Running stages.Unlock → (m : Member) (t : PlacementTable) → In (Tells m (UpdateTo t)) s.messages → t.version ≡ last_of s → t ≡ table_of s.space (last_of s) s.room.table
 
 -- A member that was told a version is still a member, or its parts have all stopped; those of one that asks to leave
--- have all stopped. Boots are known and drawn, a node has one member, and before the first round the placement is the
--- opening one.
+-- have all stopped. Boots are known and drawn, a node has one member, which stands once in its room, and before the
+-- first round the placement is the opening one.
 pub record MembersOrStopped (s : SpaceState) : Type 0 where
   pub told : (m : Member) (v : ℕ) → WasTold s.messages m v → IsMember s m ⊎ AllStopped s.parts m
   pub leaves : (m : Member) → In (Asks (Leave m)) s.messages → AllStopped s.parts m
   pub member_boot : (m : Member) → IsMember s m → m.boot ≤ greatest_boot s.room.boots m.node
   pub told_boot : (m : Member) (v : ℕ) → WasTold s.messages m v → m.boot ≤ greatest_boot s.room.boots m.node
   pub nodes : (m n : Member) → IsMember s m → IsMember s n → m.node ≡ n.node → m ≡ n
+  pub distinct : Distinct (hosts_of s.room.members)
   pub opening : s.room.next_version ≡ 1 → s.room ≡ new_room
   pub member_booted : (m : Member) → IsMember s m → m.boot ≤ s.boots
   pub told_booted : (m : Member) (v : ℕ) → WasTold s.messages m v → m.boot ≤ s.boots
@@ -157,6 +161,13 @@ module _ (owner : PlacementTable → ActorKey → Option HostInfo) (part_of : Ac
     pub within : (p : PartState) (c : ActorCell) → In p w.parts → In c p.cells → length c.inner.turns ≤ most_turns (depth_in w.settings c.key.kind)
     pub no_idle_waiter : (p : PartState) → In p w.parts → NoIdleWaiter owner p
 
+  -- The marks tell the cells: what a member's marks say of an actor, whether it is active and which turns are open, is
+  -- what the actor's cell in the member's part of it shows; they say nothing if there is no such cell or part.
+  pub record MarksTellCells (w : ClusterState) : Type 0 where
+    pub here : (p : PartState) (k : ActorKey) → In p w.parts → part_of k w.settings.parts ≡ p.number → history w.marks p.member k no_activity ≡ activity_of (cell_at p.cells k)
+    pub cells : (p : PartState) (c : ActorCell) → In p w.parts → In c p.cells → (part_of c.key w.settings.parts ≡ p.number) × (history w.marks p.member c.key no_activity ≡ activity_in c)
+    pub nowhere : (m : Member) (k : ActorKey) → ((p : PartState) → In p w.parts → p.member ≡ m → part_of k w.settings.parts ≡ p.number → ⊥) → history w.marks m k no_activity ≡ no_activity
+
   -- the cluster invariant, with the first part of the headline: what holds in each space, and over all of them together
   pub record ClusterInvariant (w : ClusterState) : Type 0 where
     pub versions : (space : List ℕ) → VersionsBelowNext (seen_in w space)
@@ -167,5 +178,6 @@ module _ (owner : PlacementTable → ActorKey → Option HostInfo) (part_of : Ac
     pub owned : ActiveMeansOwned w
     pub unlocked : (space : List ℕ) → NobodyBehindUnlock (seen_in w space)
     pub turns : TurnsUnderOneChain w
+    pub told : MarksTellCells w
     pub single : SingleActivation w
     pub isolated : TurnsIsolated w

@@ -20,6 +20,7 @@ use Rattle.round_core.specs.declared.phase.RoundPhase.TheVariants.{Quiet, Runnin
 use Rattle.round_core.specs.Room.{RoomState, last_version}
 use Rattle.round_core.specs.Reached.{IsReached}
 use Rattle.round_core.specs.Runs.{HasMember}
+use Rattle.placement_core.specs.Placement.{room_of}
 use Rattle.member_roster.specs.declared.book.Known.{Known}
 use Rattle.member_roster.specs.Members.{Joined, greatest_boot, hosts_of}
 use Rattle.part_model.specs.Progress.{MemberReached}
@@ -155,10 +156,12 @@ module _ (owner : PlacementTable → ActorKey → Option HostInfo) where
     pub reached : IsReached v.room
     pub safe : IsSafe v.room v.parts v.messages v.boots
 
-  -- a cluster is safe: each space is, and a table goes only to members of its space
+  -- A cluster is safe: each space is, a table goes only to members of its space, and a version that was acknowledged is
+  -- one that the room of the member's space has used.
   pub record IsSafeWorld (w : ClusterState) : Type 0 where
     pub spaces : (space : List ℕ) → IsSafeSpace (seen_in w space)
     pub tables : (m : Member) (t : PlacementTable) → In (Tells m (UpdateTo t)) w.messages → t.space ≡ m.space
+    pub acks : (m : Member) (stage : AckStage) (v : ℕ) → In (Asks (Ack m stage v)) w.messages → v < (room_of w.placement m.space).next_version
 
 -- no actor is active on two members
 abbrev pub IsActiveOnce : List PartState → Type 0

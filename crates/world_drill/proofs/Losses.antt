@@ -1,14 +1,13 @@
 -- If a member has two parts, it has stopped once both are told to: its parts are numbered below 2, and no two have the
 -- same number.
-use Rattle.std.proofs.Common.{◌≡◌, ◌⊎◌, ℕ, Bool, true, false, not, ◌||◌, cond, ◌+◌, ◌<◌, List, [], ◌∷◌, set, Option, None, Some, refl, sym, ap, ◌∙◌, subst, inl, inr, arith}
+use Rattle.std.proofs.Common.{◌≡◌, ◌⊎◌, ℕ, Bool, true, false, not, ◌||◌, ◌<◌, List, [], ◌∷◌, set, Option, None, Some, refl, sym, ap, ◌∙◌, subst, inl, inr, arith}
 use Rattle.std.specs.Prelude.{zero, suc, nat_le, slice_get}
-use Rattle.std.proofs.lemmas.Bool.{cond_both, cases_Bool, and_from, eq-eqb, both_ways}
+use Rattle.std.proofs.lemmas.Bool.{cond_both, and_from, both_ways}
 use Rattle.actor_names.specs.declared.member.Member.{Member}
 use Rattle.actor_names.specs.declared.actor_key.ActorKey.{ActorKey}
 use Rattle.place_table.specs.declared.host.HostInfo.{HostInfo}
 use Rattle.place_table.specs.Hosts.{PlacementTable}
 use Rattle.turn_core.specs.CellSound.{In}
-use Rattle.part_model.specs.declared.settings.TypeSettings.{TypeSettings}
 use Rattle.part_model.specs.declared.event.PartEvent.TheVariants as events
 use Rattle.part_model.specs.declared.stage.Stage.{Stage}
 use Rattle.part_model.specs.declared.stage.Stage.TheVariants.{Locked, Updated, Open, Stopped}
@@ -18,40 +17,18 @@ use Rattle.part_model.proofs.PartTables.{part_stepped}
 use Rattle.world_events.specs.declared.settings.WorldSettings.{WorldSettings}
 use Rattle.world_events.specs.declared.event.WorldEvent.TheVariants as lines
 use Rattle.cluster_model.specs.World as world
-use Rattle.cluster_model.specs.World.{ClusterState, is_part, place_of_part, all_stopped, most_events, new_parts}
-use Rattle.cluster_model.proofs.Basics.{same_member-true, same_member-self, In-append, In-set, In-slice_get}
+use Rattle.cluster_model.specs.World.{ClusterState, place_of_part, all_stopped, most_events, new_parts}
+use Rattle.cluster_model.proofs.Basics.{same_member-true, In-append, In-set, In-slice_get}
 use Rattle.cluster_model.proofs.Histories.{get-set, some_same}
 use Rattle.cluster_model.proofs.Lines.{AreKept}
 use Rattle.cluster_model.specs.Spaces.{KeepsToSpace}
 use Rattle.cluster_model.proofs.SpaceParts.{backed}
-use Rattle.cluster_model.proofs.Named.{same_place}
+use Rattle.cluster_model.proofs.Boots.{number-new_parts}
+use Rattle.cluster_model.proofs.Named.{same_place, place-In, place_found}
 use Rattle.cluster_model.proofs.Runs.{IsToldWorld, told_kept, new_world_told}
 use Rattle.cluster_model.proofs.Worlds.{new_world_safe}
 
 -- ---- lists of parts
-
-number-new_parts : (m : Member) (kinds : List TypeSettings) (i n : ℕ) (x : PartState) → In x (new_parts m kinds i n) → x.number < i + n
-number-new_parts m kinds i zero x h = absurd h
-number-new_parts m kinds i (suc n) x (inl e) = let a : x.number ≡ i = ap (λ (y : PartState). y.number) e in omega arith
-number-new_parts m kinds i (suc n) x (inr h) = let a = number-new_parts m kinds (suc i) n x h in omega arith
-
-place-In : (ps : List PartState) (p : PartState) → In p ps → (k : ℕ) × (slice_get ps k ≡ Some p)
-place-In [] p i = absurd i
-place-In (x ∷ ps) p (inl e) = (0, ap Some (sym e))
-place-In (x ∷ ps) p (inr i) = (let h = place-In ps p i in (suc h.0, h.1))
-
--- a part of the list has a place
-place_found : (ps : List PartState) (p : PartState) → In p ps → (n : ℕ) × (q : PartState) × (place_of_part ps p.member p.number ≡ Some n) × (slice_get ps n ≡ Some q)
-place_found [] p i = absurd i
-place_found (x ∷ ps) p i =
-    let more = place_found ps p in
-    elim (cases_Bool (is_part p.member p.number x)) [
-      | inl t ↦ (0, x, ap (λ (b : Bool). cond b (Some 0) (world.up (place_of_part ps p.member p.number))) t, refl)
-      | inr f ↦ elim i [
-        | inl e ↦ absurd (both_ways _ f (and_from _ _ (subst (λ (z : Member). same_member p.member z ≡ true) (ap (λ (z : PartState). z.member) e) (same_member-self p.member)) (eq-eqb _ _ (ap (λ (z : PartState). z.number) e))))
-        | inr j ↦ (let h = more j in (suc h.0, h.1, ap (λ (b : Bool). cond b (Some 0) (world.up (place_of_part ps p.member p.number))) f ∙ ap world.up h.2, h.3))
-      ]
-    ]
 
 stopped-true : (s : Stage) → s ≡ Stopped → is_stopped s ≡ true
 stopped-true s e = rw e refl

@@ -1,21 +1,18 @@
 -- On the way through a drill: the events so far, and those that remain.
-use Rattle.std.proofs.Common.{◌≡◌, ℕ, ◌*◌, ◌≤◌, List, [], ◌∷◌, ◌++◌, refl, sym, ap, ◌∙◌, subst, append_assoc, arith}
+use Rattle.std.proofs.Common.{◌≡◌, ℕ, ◌*◌, ◌≤◌, List, [], ◌++◌, refl, sym, ap, ◌∙◌, subst, append_assoc, arith}
 use Rattle.std.specs.Prelude.{suc}
 use Rattle.part_model.specs.Part.{ring_owner}
 use Rattle.world_events.specs.declared.event.WorldEvent.{WorldEvent}
 use Rattle.cluster_model.specs.Counts.{begun_turns, over_turns}
-use Rattle.cluster_model.specs.World.{ClusterState, opening_cluster, key_part, cluster_step, cluster_run}
+use Rattle.cluster_model.specs.World.{ClusterState, opening_cluster, key_part, cluster_run}
 use Rattle.cluster_model.proofs.AskedLines.{append_nil}
 use Rattle.cluster_model.proofs.Balances.{run_counted}
+use Rattle.cluster_model.proofs.Lines.{cluster_run-append}
 use Rattle.world_run.specs.Worlds.{WorldView, view_of}
 use Rattle.world_drill.specs.Choices.{Plays}
 use Rattle.world_drill.specs.Drill.{drill_settings, third_of, step_events, events_from, drill_events, drill_world}
 use Rattle.world_drill.proofs.Begins.{run_begun}
 use Rattle.world_drill.proofs.Sizes.{length-events_from}
-
-run-append : (w : ClusterState) (es fs : List WorldEvent) → cluster_run ring_owner key_part w (es ++ fs) ≡ cluster_run ring_owner key_part (cluster_run ring_owner key_part w es) fs
-run-append w [] fs = refl
-run-append w (e ∷ es) fs = run-append (cluster_step ring_owner key_part w e).world es fs
 
 -- the cluster of a drill after these events
 abbrev pub after : List WorldEvent → ClusterState
@@ -35,7 +32,7 @@ pub way_goes : (old new : WorldView) (x y left less seed steps : ℕ) → IsOnWa
 way_goes old new x y left less seed steps t plays next one =
     let w : ClusterState = after t.before in
     let es : List WorldEvent = step_events w x in
-    let joined : after (t.before ++ es) ≡ cluster_run ring_owner key_part w es = run-append (opening_cluster drill_settings) t.before es in
+    let joined : after (t.before ++ es) ≡ cluster_run ring_owner key_part w es = cluster_run-append ring_owner key_part (opening_cluster drill_settings) t.before es in
     let rest : t.before ++ (es ++ events_from less (third_of x) (cluster_run ring_owner key_part w es)) ≡ drill_events seed steps = subst (λ n. t.before ++ events_from n x w ≡ drill_events seed steps) one t.rest in
     record {
       before = t.before ++ es;

@@ -116,10 +116,10 @@ fits v lines.Restart safe = tt
 -- the world after an event is safe, however many events are counted
 pub stays_safe : (v u : WorldView) (e : WorldEvent) (r : Result Outcome WorldError) (n : ℕ) → IsSafeWorld ring_owner (cluster_of v) → Happens r v u e → IsSafeWorld ring_owner (cluster_of (record u { events = n }))
 stays_safe v u e r n safe h = elim h [
-  | inl k ↦ subst (λ (z : WorldView). IsSafeWorld ring_owner (cluster_of (record z { events = n }))) (sym k.1) (record { spaces = safe.spaces; tables = safe.tables })
+  | inl k ↦ subst (λ (z : WorldView). IsSafeWorld ring_owner (cluster_of (record z { events = n }))) (sym k.1) (record { spaces = safe.spaces; tables = safe.tables; acks = safe.acks })
   | inr k ↦
       let s = line_kept ring_owner key_part (IsSafeWorld ring_owner) (safe_kept ring_owner key_part) (cluster_of v) e safe in
-      subst (λ (z : WorldView). IsSafeWorld ring_owner (cluster_of (record z { events = n }))) (sym k.1) (record { spaces = s.spaces; tables = s.tables })
+      subst (λ (z : WorldView). IsSafeWorld ring_owner (cluster_of (record z { events = n }))) (sym k.1) (record { spaces = s.spaces; tables = s.tables; acks = s.acks })
 ]
 
 -- ---- the count of events, and the present moment

@@ -9,11 +9,11 @@ use Rattle.world_run.proofs.world.World.step_at.Goals as goal
 
 pub invariant_of-self : goal.invariant_of-self
 invariant_of-self c =
-    subst (λ (v : WorldView). IsSafeWorld ring_owner (cluster_of v)) (sym c.set_moment.ensures) (record { spaces = c.self.invariant.spaces; tables = c.self.invariant.tables })
+    subst (λ (v : WorldView). IsSafeWorld ring_owner (cluster_of v)) (sym c.set_moment.ensures) (record { spaces = c.self.invariant.spaces; tables = c.self.invariant.tables; acks = c.self.invariant.acks })
 
 pub invariant_of-self-2 : goal.invariant_of-self-2
 invariant_of-self-2 c =
-    subst (λ (v : WorldView). IsSafeWorld ring_owner (cluster_of v)) (sym c.set_moment-2.ensures) (record { spaces = c.self-2.invariant.spaces; tables = c.self-2.invariant.tables })
+    subst (λ (v : WorldView). IsSafeWorld ring_owner (cluster_of v)) (sym c.set_moment-2.ensures) (record { spaces = c.self-2.invariant.spaces; tables = c.self-2.invariant.tables; acks = c.self-2.invariant.acks })
 
 pub returns : goal.returns
 returns c =
