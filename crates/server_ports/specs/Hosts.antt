@@ -1,10 +1,11 @@
 -- What a host is asked for, gives out and takes back. Own.
-use Rattle.std.specs.Prelude.{◌≡◌, ℕ, ◌+◌, ◌-◌, nat_lt, if◌then◌else◌, List, [], ◌∷◌, ◌++◌, drop, Option, Some, None, Result, Ok, Err}
+use Rattle.std.specs.Prelude.{◌≡◌, ℕ, ◌+◌, ◌-◌, Bool, nat_lt, if◌then◌else◌, List, [], ◌∷◌, ◌++◌, map, drop, Option, Some, None, option_map, Result, Ok, Err}
 use Rattle.actor_ports.specs.declared.port.PortError.{PortError}
 use Rattle.actor_ports.specs.declared.port.PortError.TheVariants.{Failed, OutOfMemory}
 use Rattle.actor_ports.specs.Real.{Counted}
 use Rattle.actor_ports.specs.Traffic.{Place}
 use Rattle.actor_names.specs.declared.address.Address.{Address}
+use Rattle.disk_model.specs.Disk.{DiskState}
 
 -- what a host was asked for so far, in order: the paths of disks, and the places of ports, even if the call failed
 pub record Asked : Type 0 where
@@ -40,6 +41,37 @@ abbrev pub AsksPlace : {T : Type 0} → Option Asked → Option Asked → Place 
 AsksPlace None after at result = Unit {0}
 AsksPlace (Some a) after at result = after ≡ Some (asked_after a (with_place a at) result)
 
+-- a disk that was given out: for which path, whether it was to be made if there was none, and what it told then
+pub record Opened : Type 0 where
+  pub path : List ℕ
+  pub create : Bool
+  pub state : Option DiskState
+
+-- the disks that were given out, and what those told that were given back, each in order
+pub record Handed : Type 0 where
+  pub opened : List Opened
+  pub returned : List (Option DiskState)
+
+abbrev pub nothing_handed : Handed
+nothing_handed = record { opened = []; returned = [] }
+
+-- the one, and then the other
+abbrev pub handed_on : Handed → Handed → Handed
+handed_on h more = record { opened = h.opened ++ more.opened; returned = h.returned ++ more.returned }
+
+-- what an opening gives out
+abbrev pub given_by : {T : Type 0} → (T → Option DiskState) → List ℕ → Bool → Result T PortError → Handed
+given_by told path create (Ok disk) = record { opened = record { path = path; create = create; state = told disk } ∷ []; returned = [] }
+given_by told path create (Err e) = nothing_handed
+
+-- one disk is given back, which tells this
+abbrev pub back_with : Option DiskState → Handed
+back_with state = record { opened = []; returned = state ∷ [] }
+
+-- a host that tells of its disks tells that this was given out and given back, and no more
+abbrev pub Hands : Option Handed → Handed → Option Handed → Type 0
+Hands before more after = after ≡ option_map (λ h. handed_on h more) before
+
 -- how many are out after a call that gives one out, or fails
 abbrev pub out_after : {T : Type 0} → ℕ → Result T PortError → ℕ
 out_after out (Ok x) = out + 1
@@ -64,10 +96,11 @@ pub record HostCounts : Type 0 where
   pub disks : Out
   pub ports : Out
 
--- a host in memory: what it was asked for, the disks and ports that it has left to give, those that it was given back,
--- how many are out, its calls and faults so far, and the numbers of the calls that are to fail
+-- a host in memory: what it was asked for, the disks that it gave out, the disks and ports that it has left to give,
+-- those that it was given back, how many are out, its calls and faults so far, and the numbers of the calls that are to fail
 pub record HostMemory (D L : Type 0) : Type 0 where
   pub asked : Asked
+  pub opened : List Opened
   pub disks : List D
   pub ports : List L
   pub back_disks : List (Counted D)
@@ -79,6 +112,7 @@ pub record HostMemory (D L : Type 0) : Type 0 where
 abbrev pub new_host : {D L : Type 0} → List D → List L → List ℕ → HostMemory D L
 new_host disks ports failing = record {
   asked = nothing_asked;
+  opened = [];
   disks = disks;
   ports = ports;
   back_disks = [];
@@ -89,19 +123,20 @@ new_host disks ports failing = record {
 }
 
 -- after a disk was asked for: the first one left is given out; the call and a failure are counted
-abbrev pub opened_after : {D L T : Type 0} → HostMemory D L → List ℕ → Result T PortError → HostMemory D L
-opened_after h path (Ok x) = record h {
+abbrev pub opened_after : {D L T : Type 0} → (T → Option DiskState) → HostMemory D L → List ℕ → Bool → Result T PortError → HostMemory D L
+opened_after told h path create (Ok x) = record h {
   asked = with_path h.asked path;
+  opened = h.opened ++ record { path = path; create = create; state = told x } ∷ [];
   disks = drop 1 h.disks;
   counts = record h.counts { disks = record h.counts.disks { out = h.counts.disks.out + 1 } };
   calls = h.calls + 1;
 }
-opened_after h path (Err Failed) = record h {
+opened_after told h path create (Err Failed) = record h {
   asked = with_path h.asked path;
   counts = record h.counts { disks = record h.counts.disks { faults = h.counts.disks.faults + 1 } };
   calls = h.calls + 1;
 }
-opened_after h path (Err OutOfMemory) = h
+opened_after told h path create (Err OutOfMemory) = h
 
 -- the same of a port
 abbrev pub bound_after : {D L T : Type 0} → HostMemory D L → Place → Result T PortError → HostMemory D L
@@ -134,3 +169,7 @@ disk_back h disk = record h { back_disks = h.back_disks ++ disk ∷ []; counts =
 -- the same of a port
 abbrev pub port_back : {D L : Type 0} → HostMemory D L → Counted L → HostMemory D L
 port_back h port = record h { back_ports = h.back_ports ++ port ∷ []; counts = record h.counts { ports = taken_back h.counts.ports port } }
+
+-- what a host in memory tells of its disks
+abbrev pub handed_by : {D L : Type 0} → (D → Option DiskState) → HostMemory D L → Handed
+handed_by {D} told h = record { opened = h.opened; returned = map (λ (disk : Counted D). told disk.inner) h.back_disks }

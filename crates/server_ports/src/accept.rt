@@ -1,7 +1,7 @@
 // The connections of a port, each in a thread of its own.
-ghost use Rattle.std.specs.Prelude.{◌≡◌, ◌<◌, ◌≤◌};
-ghost use Rattle.server_ports.specs.declared.accept.ServerEnd.TheVariants.{PortFault};
+ghost use Rattle.std.specs.Prelude.{◌≡◌, ◌≢◌, ◌<◌, ◌≤◌, IsSome, IsTrue};
 ghost use Rattle.actor_ports.specs.declared.port.PortError.{PortError};
+ghost use Rattle.server_ports.specs.declared.accept.ServerEnd.TheVariants.{PortFault, Served};
 ghost use Rattle.server_ports.specs.declared.duty.Duty.{Duty};
 
 use crate::duty::Duty;
@@ -16,8 +16,10 @@ use std::thread::{SpawnError, Threads};
 /// How a loop over the connections of a port ended.
 #[derive(Clone, Copy, PartialEq, Eq)]
 pub enum ServerEnd {
-    /// As many connections were served as were asked for, or the service was over.
+    /// As many connections were accepted as were asked for.
     Served,
+    /// The service was over before.
+    Over,
     /// The listener failed.
     PortFault,
     /// The listener had no memory for the next connection.
@@ -26,11 +28,22 @@ pub enum ServerEnd {
 
 // How a loop ends whose listener gave this error.
 fn end_of(error: PortError) -> ServerEnd
-    ensures { result ≡ PortFault → error ≡ PortError.Failed }
+    ensures port { result ≡ PortFault → error ≡ PortError.Failed }
+    ensures other { result ≢ Served }
 {
     match error {
         PortError::Failed => ServerEnd::PortFault,
         PortError::OutOfMemory => ServerEnd::OutOfMemory,
+    }
+}
+
+// Whether as many connections were accepted as were asked for; without a limit never.
+fn is_enough(most: Option<u64>, accepted: u64) -> bool
+    ensures { IsTrue result → IsSome most }
+{
+    match most {
+        Some(most) => most <= accepted,
+        None => false,
     }
 }
 
@@ -63,6 +76,7 @@ fn accept_all<
     requires keeps { (d : Duty) (p : P) (q : P) → V.admits service.now p → W.post duty.now d p q → V.admits service.now q }
     ensures never_falls { L.listen_faults port ≤ L.listen_faults result.0 }
     ensures cause { result.1 ≡ PortFault → L.listen_faults port < L.listen_faults result.0 }
+    ensures limit { result.1 ≡ Served → IsSome most }
     ensures admits { V.admits service.now result.2 }
 {
     let open = AtomicU64::new(0);
@@ -71,14 +85,17 @@ fn accept_all<
         rt,
         |scope| -> (L, ServerEnd, P)
             requires { V.admits service.now pass × ((p : P) (c : C) → V.admits service.now p → F.pre serve.now p c) × ((d : Duty) (p : P) → V.admits service.now p → W.pre duty.now d p) × ((d : Duty) (p : P) (q : P) → V.admits service.now p → W.post duty.now d p q → V.admits service.now q) }
-            ensures { (L.listen_faults port ≤ L.listen_faults result.0) × (result.1 ≡ PortFault → L.listen_faults port < L.listen_faults result.0) × V.admits service.entry.now result.2 }
+            ensures { (L.listen_faults port ≤ L.listen_faults result.0) × (result.1 ≡ PortFault → L.listen_faults port < L.listen_faults result.0) × (result.1 ≡ Served → IsSome most) × V.admits service.entry.now result.2 }
         {
             let mut pass = pass;
             let mut port = port;
             let mut served = 0u64;
-            let mut end = ServerEnd::Served;
+            let mut end = ServerEnd::Over;
             for _ in rt.forever() {
-                if service.is_over() || most == Some(served) {
+                if is_enough(most, served) {
+                    return (port, ServerEnd::Served, pass);
+                }
+                if service.is_over() {
                     break;
                 }
                 pass = turns_from(&*service, &*duty, idle, pass);
@@ -119,10 +136,8 @@ fn accept_all<
                     pass = duty(Duty::Pause, pass);
                 }
             }
-            if service.is_over() {
-                port.close();
-                pass = duty(Duty::Wake, pass);
-            }
+            port.close();
+            pass = duty(Duty::Wake, pass);
             (port, end, pass)
         },
     )
@@ -154,6 +169,7 @@ pub(crate) fn accept_to_end<
     requires keeps { (d : Duty) (p : P) (q : P) → V.admits service.now p → W.post duty.now d p q → V.admits service.now q }
     ensures never_falls { L.listen_faults port ≤ L.listen_faults result.0 }
     ensures cause { result.1 ≡ PortFault → L.listen_faults port < L.listen_faults result.0 }
+    ensures limit { result.1 ≡ Served → IsSome most }
 {
     let (port, end, pass) = accept_all(rt, service, serve, duty, pass, port, most, idle);
     service.end();

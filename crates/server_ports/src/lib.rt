@@ -2,8 +2,8 @@
 // each served in a thread of its own, with work beside them.
 //
 // Promise: each call of a host answers a fault only if its count of faults rose; a disk or port that is given back counts
-// as one more fault exactly if it has failed (`specs/Hosts`). The form in memory reports what it was asked for; the real
-// one opens files and binds TCP ports, and reports counts. Each thread has a pass of its own that the service admits; a
+// as one more fault exactly if it has failed (`specs/Hosts`). The form in memory reports what it was asked for, and its
+// disks as they were given out and given back; the real one opens files and binds TCP ports, and reports counts. Each thread has a pass of its own that the service admits; a
 // server ends for a fault of its port only if the port has one, and all threads have ended before the call returns.
 // Depends on `actor_ports`, `disk_model` and `actor_names`.
 #![tactic(auto)]

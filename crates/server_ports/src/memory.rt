@@ -1,8 +1,8 @@
 // A host over given disks and listeners.
-ghost use Rattle.std.specs.Prelude.{◌≡◌, ◌<◌, ◌≤◌, ◌+◌, ◌⊎◌, Some, IfOk, IfErr, IsErrOf, IsTrue, false, Contains, length, map, string_bytes};
+ghost use Rattle.std.specs.Prelude.{◌≡◌, ◌<◌, ◌≤◌, ◌+◌, ◌⊎◌, Some, IfOk, OnOk, IfErr, IsErrOf, IsTrue, false, Contains, length, map, string_bytes};
 ghost use Rattle.actor_ports.specs.Port.{HasCause};
 ghost use Rattle.actor_ports.specs.Traffic.{Counts};
-ghost use Rattle.server_ports.specs.Hosts.{AsksPath, AsksPlace, HandsOut, new_host, out_after, place_of, opened_after, bound_after, disk_back, port_back};
+ghost use Rattle.server_ports.specs.Hosts.{AsksPath, AsksPlace, HandsOut, Hands, back_with, given_by, handed_by, new_host, out_after, place_of, opened_after, bound_after, disk_back, port_back};
 
 use crate::disk::HostDisk;
 use crate::host::Host;
@@ -12,16 +12,26 @@ use actor_ports::{Listen, PortError};
 use disk_model::Disk;
 use std::alloc::Global;
 use std::marker::Model;
+use std::snapshot::Snapshot;
+
+// A disk that was given out: for which path, whether it was to be made, and as it was.
+#[derive(Drop)]
+struct Opening<D: Disk + Drop + Send> {
+    path: String,
+    create: bool,
+    disk: Snapshot<D>,
+}
 
 /// A host that gives out given disks and given listeners, of any kind, each kind in order, and keeps those that are given back. A
 /// call fails if its number was given, or if nothing is left to give.
 ///
-/// For tests: it reports what it was asked for. Calls of `open_disk` and `bind` are numbered together, from 1; one that
-/// answers `OutOfMemory` has no number. `create` makes no difference.
+/// For tests: it reports what it was asked for, and its disks. Calls of `open_disk` and `bind` are numbered together, from 1; one that
+/// answers `OutOfMemory` has no number. `create` is told, and makes no difference.
 #[derive(Drop)]
 pub struct MemHost<D: Disk + Drop + Send, L: Listen + Drop + Send> {
     paths: Vec<String>,
     places: Vec<Address>,
+    opened: Vec<Opening<D>>,
     disks: Vec<D>,
     ports: Vec<L>,
     back_disks: Vec<HostDisk<D>>,
@@ -42,6 +52,7 @@ impl<D: Disk + Drop + Send, L: Listen + Drop + Send> Model for MemHost<D, L> {
 
     ghost view = { λ s. record {
       asked = record { paths = map string_bytes s.paths.items; places = map place_of s.places.items };
+      opened = map (λ o. record { path = string_bytes o.path; create = o.create; state = D.told o.disk.value }) s.opened.items;
       disks = s.disks.items;
       ports = s.ports.items;
       back_disks = s.back_disks.items;
@@ -86,6 +97,7 @@ impl<D: Disk + Drop + Send, L: Listen + Drop + Send> MemHost<D, L> {
         Ok(MemHost {
             paths: Vec::new(alloc),
             places: Vec::new(alloc),
+            opened: Vec::new(alloc),
             disks,
             ports,
             back_disks: Vec::new(alloc),
@@ -136,16 +148,20 @@ impl<D: Disk + Drop + Send, L: Listen + Drop + Send> Host for MemHost<D, L> {
 
     ghost asked = { λ s. Some s.asked };
 
+    ghost handed = { λ s. Some (handed_by D.told s) };
+
     /// Gives out the next disk, and reserves the room to keep it. It fails exactly if the number of the call is listed or
     /// no disk is left.
-    fn open_disk(&mut self, path: &str, _create: bool) -> Result<HostDisk<D>, PortError>
+    fn open_disk(&mut self, path: &str, create: bool) -> Result<HostDisk<D>, PortError>
         ensures fresh { IfOk result (λ d. d.faults ≡ 0) }
         ensures asks { AsksPath (Some self.old.asked) (Some self.new.asked) path.now result }
+        ensures gives { Hands (Some (handed_by D.told self.old)) (given_by (λ d. D.told d.inner) path.now create result) (Some (handed_by D.told self.new)) }
         ensures out { self.new.counts.disks.out ≡ out_after self.old.counts.disks.out result }
         ensures cause { HasCause self.old.counts.disks.faults self.new.counts.disks.faults result }
+        ensures quiet { OnOk result (self.new.counts.disks.faults ≡ self.old.counts.disks.faults) }
         ensures ports { (self.new.counts.ports.out ≡ self.old.counts.ports.out) × (self.new.counts.ports.faults ≡ self.old.counts.ports.faults) }
 
-        ensures after { self.new ≡ opened_after self.old path.now result }
+        ensures after { self.new ≡ opened_after (λ d. D.told d.inner) self.old path.now create result }
         ensures hands_out { HandsOut self.old.disks result }
         ensures failed { IsErrOf result PortError.Failed → (Contains self.old.failing (self.old.calls + 1) ⊎ (length self.old.disks ≡ 0)) }
     {
@@ -155,10 +171,12 @@ impl<D: Disk + Drop + Send, L: Listen + Drop + Send> Host for MemHost<D, L> {
         if self.back_disks.reserve(self.disks_out + 1).is_err() {
             return Err(PortError::OutOfMemory);
         }
-        let Ok(path) = String::from_str(*self.failing.allocator(), path) else {
+        let alloc = *self.failing.allocator();
+        let (Ok(asked), Ok(path)) = (String::from_str(alloc, path), String::from_str(alloc, path))
+        else {
             return Err(PortError::OutOfMemory);
         };
-        if self.paths.push(path).is_err() {
+        if self.opened.reserve(1).is_err() || self.paths.push(asked).is_err() {
             return Err(PortError::OutOfMemory);
         }
         let fails = must_fail(
@@ -172,10 +190,14 @@ impl<D: Disk + Drop + Send, L: Listen + Drop + Send> Host for MemHost<D, L> {
             return Err(PortError::Failed);
         }
         self.disks_out += 1;
-        Ok(HostDisk {
-            disk: self.disks.remove(0),
-            faults: 0,
-        })
+        let disk = self.disks.remove(0);
+        let opening = Opening {
+            path,
+            create,
+            disk: Snapshot::of(&disk),
+        };
+        self.opened.push_reserved(opening);
+        Ok(HostDisk { disk, faults: 0 })
     }
 
     /// Gives out the next listener, and reserves the room to keep it. It fails exactly if the number of the call is listed
@@ -183,8 +205,10 @@ impl<D: Disk + Drop + Send, L: Listen + Drop + Send> Host for MemHost<D, L> {
     fn bind(&mut self, at: &Address) -> Result<HostPort<L>, PortError>
         ensures fresh { IfOk result (λ p. p.faults ≡ 0) }
         ensures asks { AsksPlace (Some self.old.asked) (Some self.new.asked) (place_of at.now) result }
+        ensures hands { Some (handed_by D.told self.new) ≡ Some (handed_by D.told self.old) }
         ensures out { self.new.counts.ports.out ≡ out_after self.old.counts.ports.out result }
         ensures cause { HasCause self.old.counts.ports.faults self.new.counts.ports.faults result }
+        ensures quiet { OnOk result (self.new.counts.ports.faults ≡ self.old.counts.ports.faults) }
         ensures disks { (self.new.counts.disks.out ≡ self.old.counts.disks.out) × (self.new.counts.disks.faults ≡ self.old.counts.disks.faults) }
 
         ensures after { self.new ≡ bound_after self.old (place_of at.now) result }
@@ -218,6 +242,7 @@ impl<D: Disk + Drop + Send, L: Listen + Drop + Send> Host for MemHost<D, L> {
     fn done_disk(&mut self, disk: HostDisk<D>)
         requires { 0 < self.old.counts.disks.out }
         ensures asks { Some self.new.asked ≡ Some self.old.asked }
+        ensures takes { Hands (Some (handed_by D.told self.old)) (back_with (D.told disk.inner)) (Some (handed_by D.told self.new)) }
         ensures out { self.old.counts.disks.out ≡ self.new.counts.disks.out + 1 }
         ensures cause { Counts self.old.counts.disks.faults self.new.counts.disks.faults disk.faults }
         ensures ports { (self.new.counts.ports.out ≡ self.old.counts.ports.out) × (self.new.counts.ports.faults ≡ self.old.counts.ports.faults) }
@@ -235,6 +260,7 @@ impl<D: Disk + Drop + Send, L: Listen + Drop + Send> Host for MemHost<D, L> {
     fn done_port(&mut self, port: HostPort<L>)
         requires { 0 < self.old.counts.ports.out }
         ensures asks { Some self.new.asked ≡ Some self.old.asked }
+        ensures hands { Some (handed_by D.told self.new) ≡ Some (handed_by D.told self.old) }
         ensures out { self.old.counts.ports.out ≡ self.new.counts.ports.out + 1 }
         ensures cause { Counts self.old.counts.ports.faults self.new.counts.ports.faults port.faults }
         ensures disks { (self.new.counts.disks.out ≡ self.old.counts.disks.out) × (self.new.counts.disks.faults ≡ self.old.counts.disks.faults) }

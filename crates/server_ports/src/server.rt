@@ -1,6 +1,6 @@
 // A server: the connections of a port, and the work beside them.
-ghost use Rattle.std.specs.Prelude.{◌≡◌, ◌<◌, ◌≤◌, ◌⊎◌};
-ghost use Rattle.server_ports.specs.declared.accept.ServerEnd.TheVariants.{PortFault};
+ghost use Rattle.std.specs.Prelude.{◌≡◌, ◌<◌, ◌≤◌, ◌⊎◌, IsSome};
+ghost use Rattle.server_ports.specs.declared.accept.ServerEnd.TheVariants.{PortFault, Served};
 ghost use Rattle.server_ports.specs.declared.duty.Duty.{Duty};
 
 use crate::accept::{ServerEnd, accept_to_end};
@@ -30,13 +30,14 @@ pub fn serve_port<
     requires keeps { (d : Duty) (p : P) (q : P) → V.admits service.now p → W.post duty.now d p q → V.admits service.now q }
     ensures never_falls { L.listen_faults port ≤ L.listen_faults result.0 }
     ensures cause { result.1 ≡ PortFault → L.listen_faults port < L.listen_faults result.0 }
+    ensures limit { result.1 ≡ Served → IsSome most }
 {
     thread::scope(
         thread::scope_env(),
         rt,
         |scope| -> (L, ServerEnd)
             requires { V.admits service.now pass × ((p : P) (c : C) → V.admits service.now p → F.pre serve.now p c) × ((d : Duty) (p : P) → V.admits service.now p → W.pre duty.now d p) × ((d : Duty) (p : P) (q : P) → V.admits service.now p → W.post duty.now d p q → V.admits service.now q) }
-            ensures { (L.listen_faults port ≤ L.listen_faults result.0) × (result.1 ≡ PortFault → L.listen_faults port < L.listen_faults result.0) }
+            ensures { (L.listen_faults port ≤ L.listen_faults result.0) × (result.1 ≡ PortFault → L.listen_faults port < L.listen_faults result.0) × (result.1 ≡ Served → IsSome most) }
         {
             let (pass, started) = start_works(scope, rt, service, duty, pass);
             accept_to_end(&*rt, &*service, &*serve, &*duty, pass, port, most, started)
@@ -44,13 +45,17 @@ pub fn serve_port<
     )
 }
 
-// The end of a server with two ports.
+// The end of a server with two ports: the first one that failed, or else that of the first port.
 fn joint_end(first: ServerEnd, second: ServerEnd) -> ServerEnd
-    ensures { result ≡ PortFault → (first ≡ PortFault) ⊎ (second ≡ PortFault) }
+    ensures port { result ≡ PortFault → (first ≡ PortFault) ⊎ (second ≡ PortFault) }
+    ensures served { result ≡ Served → first ≡ Served }
 {
-    match first {
-        ServerEnd::Served => second,
-        other => other,
+    match second {
+        ServerEnd::PortFault | ServerEnd::OutOfMemory => match first {
+            ServerEnd::Served | ServerEnd::Over => second,
+            other => other,
+        },
+        _ => first,
     }
 }
 
@@ -84,6 +89,7 @@ pub fn serve_ports<
     requires besides { (p : P) (c : C) → V.admits service.now p → G.pre beside.now p c }
     ensures never_falls { L.listen_faults port ≤ L.listen_faults result.0 }
     ensures second_never_falls { L.listen_faults second ≤ L.listen_faults result.1 }
+    ensures limit { result.2 ≡ Served → IsSome most }
     ensures cause { result.2 ≡ PortFault → (L.listen_faults port < L.listen_faults result.0) ⊎ (L.listen_faults second < L.listen_faults result.1) }
 {
     let (pass, own) = service.split(pass);
@@ -98,7 +104,7 @@ pub fn serve_ports<
         { accept_to_end(rt, service, beside, duty, own, second, None, u32::MAX) },
         move || -> (L, ServerEnd)
             requires { V.admits service.now pass × ((p : P) (c : C) → V.admits service.now p → F.pre serve.now p c) × ((d : Duty) (p : P) → V.admits service.now p → W.pre duty.now d p) × ((d : Duty) (p : P) (q : P) → V.admits service.now p → W.post duty.now d p q → V.admits service.now q) }
-            ensures { (L.listen_faults port ≤ L.listen_faults result.0) × (result.1 ≡ PortFault → L.listen_faults port < L.listen_faults result.0) }
+            ensures { (L.listen_faults port ≤ L.listen_faults result.0) × (result.1 ≡ PortFault → L.listen_faults port < L.listen_faults result.0) × (result.1 ≡ Served → IsSome most) }
         { serve_port(rt, service, serve, duty, pass, port, most) },
     );
     (port, second, joint_end(end, second_end))

@@ -1,5 +1,5 @@
 // The host over the system's files and TCP.
-ghost use Rattle.std.specs.Prelude.{◌≡◌, ◌<◌, ◌≤◌, ◌+◌, ◌-◌, ◌↔◌, None, IfOk, IsTrue};
+ghost use Rattle.std.specs.Prelude.{◌≡◌, ◌<◌, ◌≤◌, ◌+◌, ◌-◌, ◌↔◌, None, IfOk, IsTrue, OnOk};
 ghost use Rattle.actor_ports.specs.Port.{HasCause};
 ghost use Rattle.actor_ports.specs.Traffic.{Counts};
 ghost use Rattle.server_ports.specs.Hosts.{HostCounts, none_out, given_out, out_after};
@@ -127,12 +127,15 @@ impl<
 
     ghost asked = { λ _. None };
 
+    ghost handed = { λ _. None };
+
     /// Opens the file at the path, as the only one that has it open. When the faults and the disks that are out together reach 2^64 - 1, it answers
     /// `OutOfMemory` and opens nothing.
     fn open_disk(&mut self, path: &str, create: bool) -> Result<HostDisk<FileDisk<File>>, PortError>
         ensures fresh { IfOk result (λ d. d.faults ≡ 0) }
         ensures out { self.new.disks.out ≡ out_after self.old.disks.out result }
         ensures cause { HasCause self.old.disks.faults self.new.disks.faults result }
+        ensures quiet { OnOk result (self.new.disks.faults ≡ self.old.disks.faults) }
         ensures ports { (self.new.ports.out ≡ self.old.ports.out) × (self.new.ports.faults ≡ self.old.ports.faults) }
 
         ensures counts { self.new ≡ record self.old { disks = given_out self.old.disks result } }
@@ -155,6 +158,7 @@ impl<
         ensures fresh { IfOk result (λ p. p.faults ≡ 0) }
         ensures out { self.new.ports.out ≡ out_after self.old.ports.out result }
         ensures cause { HasCause self.old.ports.faults self.new.ports.faults result }
+        ensures quiet { OnOk result (self.new.ports.faults ≡ self.old.ports.faults) }
         ensures disks { (self.new.disks.out ≡ self.old.disks.out) × (self.new.disks.faults ≡ self.old.disks.faults) }
 
         ensures counts { self.new ≡ record self.old { ports = given_out self.old.ports result } }
