@@ -1,6 +1,6 @@
 // The server.
-ghost use Rattle.std.specs.Prelude.{◌≡◌, ◌<◌, ◌≤◌, List, IfOk};
-ghost use Rattle.server_ports.specs.declared.accept.ServerEnd.TheVariants.{PortFault};
+ghost use Rattle.std.specs.Prelude.{◌≡◌, ◌<◌, ◌≤◌, List, IfOk, IsSome};
+ghost use Rattle.server_ports.specs.declared.accept.ServerEnd.TheVariants.{PortFault, Served};
 ghost use Rattle.step_gate.specs.declared.view.HistoryEntry.{HistoryEntry};
 ghost use Rattle.step_gate.specs.Gates.{IsSeatOf};
 ghost use Rattle.step_gate.specs.History.{HistoryLeadsTo};
@@ -51,6 +51,7 @@ fn serve_at<
     requires { IsSeatOf Allows gate.now pass.seat }
     ensures never_falls { L.listen_faults port ≤ L.listen_faults result.0 }
     ensures cause { result.1 ≡ PortFault → L.listen_faults port < L.listen_faults result.0 }
+    ensures limit { result.1 ≡ Served → IsSome most }
 {
     store_crosses::<D>();
     let service = StoreService {
@@ -92,6 +93,7 @@ pub fn serve_store<
 ) -> (L, Result<StoreServed<D>, OutOfMemory>)
     ensures never_falls { L.listen_faults port ≤ L.listen_faults result.0 }
     ensures cause { IfOk result.1 (λ s. s.end ≡ PortFault → L.listen_faults port < L.listen_faults result.0) }
+    ensures limit { IfOk result.1 (λ s. s.end ≡ Served → IsSome most) }
     ensures history { IfOk result.1 (λ s. (h : List (HistoryEntry StoreEvent StoreOutcome)) × HistoryLeadsTo Allows store h s.store) }
 {
     let (gate, seat) = match Gate::new(alloc, store) {
