@@ -55,18 +55,18 @@ unstarted_end end = ends.Unstarted end
 -- `traffic` is what went over a link, `shown` the moment that a clock showed last
 module _ {L K : Type 0} (traffic : L → Option Traffic) (shown : K → ℕ) where
   -- How the command ends once it has started: after a stop, which has a sound cause, and if all sessions were served, all
-  -- parts of this node were stopped. No end then speaks of the start.
-  abbrev pub IsServed : Started → ℕ → SidecarEnd → Type 0
-  IsServed started parts ends.Done = NodeStopped started.host started.kinds parts
-  IsServed started parts ends.PortFault = Unit {0}
-  IsServed started parts (ends.Unstarted end) = ⊥
-  IsServed started parts (ends.Stopped cause) = IsCause traffic shown cause × NodeStopped started.host started.kinds parts
-  IsServed started parts ends.OutOfMemory = Unit {0}
+  -- parts of the node that had started were stopped. No end then speaks of the start.
+  abbrev pub IsServed : Seating → Started → SidecarEnd → Type 0
+  IsServed words started ends.Done = NodeStopped started.host started.kinds (parts_in words.parts)
+  IsServed words started ends.PortFault = Unit {0}
+  IsServed words started (ends.Unstarted end) = ⊥
+  IsServed words started (ends.Stopped cause) = IsCause traffic shown cause × NodeStopped started.host started.kinds (parts_in words.parts)
+  IsServed words started ends.OutOfMemory = Unit {0}
 
   -- how the command ends by what its start came to
-  abbrev pub IsEnd : ℕ → Result Started StartEnd → SidecarEnd → Type 0
-  IsEnd parts (Err e) end = end ≡ unstarted_end e
-  IsEnd parts (Ok started) end = IsServed started (parts_in parts) end
+  abbrev pub IsEnd : Seating → Result Started StartEnd → SidecarEnd → Type 0
+  IsEnd words (Err e) end = end ≡ unstarted_end e
+  IsEnd words (Ok started) end = IsServed words started end
 
   -- A run of the command. Its start came to `got` by exchanges with the store and the application of its words, which are
   -- all that its dialler was made to do; and it ended by that.
@@ -75,4 +75,4 @@ module _ {L K : Type 0} (traffic : L → Option Traffic) (shown : K → ℕ) whe
     pub got : Result Started StartEnd
     pub starts : IsStart (start_words words) exchanges got
     pub dialling : Dialling exchanges before after faults more
-    pub ends : IsEnd words.parts got end
+    pub ends : IsEnd words got end

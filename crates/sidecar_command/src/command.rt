@@ -68,7 +68,7 @@ fn serve_new<R: Threads + Wait + Sync, H: Host, N: Dial, K: Clock>(
     requires shallow { AreShallow started.kinds }
     ensures asks { AsksPorts (place_of words.now.listen) (place_of words.now.peer) (H.asked host.old) (H.asked host.new) }
     ensures port_cause { result ≡ SidecarEnd.PortFault → H.bind_faults host.old < H.bind_faults host.new }
-    ensures ends { IsServed N.Link.read_traffic K.shown started (parts_in words.now.parts) result }
+    ensures ends { IsServed N.Link.read_traffic K.shown (told_sidecar words.now) started result }
     ensures never_falls { H.bind_faults host.old ≤ H.bind_faults host.new }
     ensures ports_back { H.ports_out host.new ≡ H.ports_out host.old }
     ensures disks { (H.disks_out host.new ≡ H.disks_out host.old) × (H.open_faults host.new ≡ H.open_faults host.old) }
