@@ -1,7 +1,8 @@
 -- What the end says, if the server ran and if it didn't.
-use Rattle.std.proofs.Common.{◌≡◌, ℕ, Option, Some, Result, Ok, Err, [], refl, sym, subst}
+use Rattle.std.proofs.Common.{◌≡◌, ℕ, Option, Some, Result, Ok, Err, List, [], refl, sym, subst}
 use Rattle.actor_ports.specs.Traffic.{Traffic, Dialled}
 use Rattle.command_words.specs.Reading.{Seating}
+use Rattle.exchanges.specs.Exchanges.{Exchange, Dialling}
 use Rattle.exchanges.proofs.Diallings.{none_made}
 use Rattle.sidecar_node.specs.declared.node.SidecarNode.{SidecarNode}
 use Rattle.sidecar_node.specs.declared.node.Seats.{Seats}
@@ -9,12 +10,29 @@ use Rattle.sidecar_node.specs.Nodes.{IsNewNode, host_of, kinds_of}
 use Rattle.sidecar_start.specs.declared.end.StartEnd.{StartEnd}
 use Rattle.sidecar_start.specs.declared.end.StartEnd.TheVariants as start_ends
 use Rattle.sidecar_start.specs.declared.hosting.Started.{Started}
+use Rattle.sidecar_start.specs.declared.words.StartWords.{StartWords}
+use Rattle.sidecar_start.specs.Starting.{IsStart}
 use Rattle.sidecar_server.specs.declared.watch.StopCause.{StopCause}
 use Rattle.sidecar_server.specs.Causes.{IsSound}
 use Rattle.sidecar_server.specs.Stopped.{NodeStopped, StopsParts}
 use Rattle.sidecar_command.specs.declared.ends.SidecarEnd.{SidecarEnd}
 use Rattle.sidecar_command.specs.declared.ends.SidecarEnd.TheVariants as ends
-use Rattle.sidecar_command.specs.Commands.{IsServed, IsSidecarRun, parts_in}
+use Rattle.sidecar_command.specs.Commands.{IsServed, IsSidecarRun, parts_in, start_words}
+
+-- a start for which there was no memory, before anything was dialled
+pub no_start : (w : StartWords) (t : Option Dialled) (f : ℕ) → (xs : List Exchange) × IsStart w xs (Err start_ends.OutOfMemory) × Dialling xs t t f f
+no_start w t f = (
+  [],
+  record {
+    boots = [];
+    asks = [];
+    are = refl;
+    drawn = Err start_ends.OutOfMemory;
+    draws = record { vain = []; last = []; are = refl; in_vain = tt; ends = refl };
+    goes_on = (refl, refl);
+  },
+  none_made t f,
+)
 
 -- a new node, as one of its own host and types
 pub new_itself : (started : Started) (parts : ℕ) (node : SidecarNode) (first : Seats) → IsNewNode started.host started.kinds parts node first
@@ -55,17 +73,6 @@ module _ {L K : Type 0} (traffic : L → Option Traffic) (shown : K → ℕ) whe
 
   -- memory ran out before anything was dialled
   pub nothing_run : (words : Seating) (t : Option Dialled) (f : ℕ) → IsSidecarRun traffic shown words t t f f ends.OutOfMemory
-  nothing_run words t f = record {
-    exchanges = [];
-    got = Err start_ends.OutOfMemory;
-    starts = record {
-      boots = [];
-      asks = [];
-      are = refl;
-      drawn = Err start_ends.OutOfMemory;
-      draws = record { vain = []; last = []; are = refl; in_vain = tt; ends = refl };
-      goes_on = (refl, refl);
-    };
-    dialling = none_made t f;
-    ends = refl;
-  }
+  nothing_run words t f =
+      let s = no_start (start_words words) t f in
+      record { exchanges = s.0; got = Err start_ends.OutOfMemory; starts = s.1; dialling = s.2; ends = refl }

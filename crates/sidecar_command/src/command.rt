@@ -1,8 +1,11 @@
 // The command.
-ghost use Rattle.std.specs.Prelude.{◌≡◌, ◌<◌, ◌≤◌, ◌⊎◌, IfOk};
+ghost use Rattle.std.specs.Prelude.{◌≡◌, ◌<◌, ◌≤◌, ◌⊎◌, List, Err, IfOk};
 ghost use Rattle.server_ports.specs.Hosts.{place_of};
 ghost use Rattle.command_words.specs.Told.{told_sidecar};
+ghost use Rattle.exchanges.specs.Exchanges.{Exchange, Dialling};
 ghost use Rattle.exchanges.specs.Replies.{place_at};
+ghost use Rattle.sidecar_start.specs.declared.end.StartEnd.{StartEnd};
+ghost use Rattle.sidecar_start.specs.Starting.{IsStart};
 ghost use Rattle.frame_wire.specs.declared.frame.Frame.TheVariants as frames;
 ghost use Rattle.frame_wire.specs.Frames.{payload};
 ghost use Rattle.part_model.specs.Settings.{AreShallow};
@@ -16,7 +19,7 @@ use actor_ports::{Clock, Dial};
 use command_words::SidecarWords;
 use server_ports::Host;
 use sidecar_node::SidecarNode;
-use sidecar_start::{StartWords, Started, start};
+use sidecar_start::{StartEnd, StartWords, Started, start};
 use std::alloc::Global;
 use std::sync::Wait;
 use std::thread::Threads;
@@ -53,6 +56,27 @@ fn parts_of(words: &SidecarWords<'_>) -> u8
     words.parts.clamp(1, 16)
 }
 
+// The start, by what the words tell it.
+fn start_by<R: Wait, N: Dial, K: Clock>(
+    rt: &R,
+    alloc: Global,
+    words: &SidecarWords<'_>,
+    net: &mut N,
+    clock: &mut K,
+) -> Result<Started, StartEnd>
+    ensures starts { (xs : List Exchange)
+        × IsStart (start_words (told_sidecar words.now)) xs result
+        × Dialling xs (N.dialled net.old) (N.dialled net.new) (N.dial_faults net.old) (N.dial_faults net.new) }
+    ensures fits { IfOk result (λ s. payload.Fits (frames.Register s.host)) }
+    ensures shallow { IfOk result (λ s. AreShallow s.kinds) }
+    ensures fault { result ≡ Err StartEnd.DialFault → N.dial_faults net.old < N.dial_faults net.new }
+{
+    match start_words(alloc, words) {
+        Ok(told) => start(rt, alloc, net, clock, &told),
+        Err(_) => Err(StartEnd::OutOfMemory),
+    }
+}
+
 // Serves the sidecar that has started.
 fn serve_new<R: Threads + Wait + Sync, H: Host, N: Dial, K: Clock>(
     rt: &R,
@@ -75,7 +99,8 @@ fn serve_new<R: Threads + Wait + Sync, H: Host, N: Dial, K: Clock>(
 {
     let Started { host: own, kinds } = started;
     match SidecarNode::new(alloc, own, kinds, parts_of(words)) {
-        Ok((node, seats)) => {
+        Ok(made) => {
+            let (node, seats) = made;
             serve_started(rt, alloc, &node, seats, words, host, net, callees, clock)
         }
         Err(_) => SidecarEnd::OutOfMemory,
@@ -107,10 +132,7 @@ pub fn run_sidecar<R: Threads + Wait + Sync, H: Host, N: Dial, K: Clock>(
     ensures ports_back { H.ports_out host.new ≡ H.ports_out host.old }
     ensures disks { (H.disks_out host.new ≡ H.disks_out host.old) × (H.open_faults host.new ≡ H.open_faults host.old) }
 {
-    let Ok(told) = start_words(alloc, words) else {
-        return SidecarEnd::OutOfMemory;
-    };
-    match start(rt, alloc, net, clock, &told) {
+    match start_by(rt, alloc, words, net, clock) {
         Ok(started) => serve_new(rt, alloc, started, words, host, net, callees, clock),
         Err(end) => unstarted(end),
     }
