@@ -1,11 +1,12 @@
 -- A call that did nothing.
-use Rattle.std.proofs.Common.{inl, ℕ, List, Option, Some, None, refl}
+use Rattle.std.proofs.Common.{◌≡◌, inl, ℕ, List, [], ◌++◌, Option, Some, None, refl, sym, subst}
+use Rattle.std.proofs.lemmas.List.{append-nil}
 use Rattle.actor_names.specs.declared.address.Address.{Address}
-use Rattle.actor_ports.specs.Traffic.{Place}
+use Rattle.actor_ports.specs.Traffic.{Place, Dialled}
 use Rattle.server_ports.specs.Hosts.{Asked}
 use Rattle.placement_command.specs.Commands.{AsksOnly}
 use Rattle.store_command.specs.Commands.{AsksOnly as AsksStore}
-use Rattle.sidecar_command.specs.Commands.{AsksPorts}
+use Rattle.sidecar_command.specs.Commands.{AsksPorts, DialsOnly}
 use Rattle.plain_commands.specs.Schedule.{WritesNothing}
 
 pub nothing_written : (held : Option (List ℕ)) → WritesNothing held held
@@ -23,3 +24,10 @@ no_store_asked path at (Some a) = inl refl
 pub no_ports_asked : (callers peers : Place) (asked : Option Asked) → AsksPorts callers peers asked asked
 no_ports_asked callers peers None = tt
 no_ports_asked callers peers (Some a) = inl refl
+
+pub nothing_dialled : (store app : Place) (dialled : Option Dialled) → DialsOnly store app dialled dialled
+nothing_dialled store app None = tt
+nothing_dialled store app (Some d) = ([], [], tt, same d)
+  where
+    same : (d : Dialled) → Some d ≡ Some (record { places = d.places ++ []; links = d.links ++ [] })
+    same d = rw (append-nil d.places, append-nil d.links) refl

@@ -1,6 +1,8 @@
 // The top call.
 ghost use Rattle.std.specs.Prelude.{◌≡◌, ◌≢◌, ◌<◌, ◌≤◌, ◌⊎◌, ◌∷◌, [], true, None, Some, map, codes, string_bytes};
 ghost use Rattle.server_ports.specs.Hosts.{place_of};
+ghost use Rattle.exchanges.specs.Replies.{place_at};
+ghost use Rattle.command_words.specs.Told.{told_sidecar};
 ghost use Rattle.command_words.specs.Reading.{Asking, Schedule, Drilling, Drill, Hosting, Placing, Placement, Store, Seating, Sidecar, has_options, reading};
 ghost use Rattle.plain_commands.specs.Drilled.{DrillEnds, DrillsHonestly};
 ghost use Rattle.plain_commands.specs.Status.{code_of};
@@ -10,7 +12,7 @@ ghost use Rattle.plain_commands.specs.declared.status.Status.{Status};
 ghost use Rattle.placement_command.specs.Commands.{AsksOnly};
 ghost use Rattle.store_command.specs.Commands.{AsksOnly as AsksStore};
 ghost use Rattle.sidecar_command.specs.declared.ends.SidecarEnd.{SidecarEnd};
-ghost use Rattle.sidecar_command.specs.Commands.{AsksPorts, IsEnd};
+ghost use Rattle.sidecar_command.specs.Commands.{AsksPorts, DialsOnly, IsSidecarRun};
 ghost use Rattle.actors_top.specs.Server.{TellsServer, server_code};
 ghost use Rattle.actors_top.specs.Sidecar.{TellsEnd, sidecar_code};
 ghost use Rattle.actors_top.specs.declared.server.ServerStatus.{ServerStatus};
@@ -111,7 +113,10 @@ fn sidecar<R: Threads + Wait + Sync, I: Source, W: Sink, N: Dial, T: Clock, H: H
     out: &mut Outside<I, W, N, T, H>,
 ) -> SidecarStatus
     ensures asks { AsksPorts (place_of words.now.listen) (place_of words.now.peer) (H.asked out.old.host) (H.asked out.new.host) }
-    ensures tells { (end : SidecarEnd) × IsEnd N.Link.read_traffic T.shown end × TellsEnd end result (W.contents out.old.output) (W.contents out.new.output) }
+    ensures tells { (end : SidecarEnd)
+        × IsSidecarRun N.Link.read_traffic T.shown (told_sidecar words.now) (N.dialled out.old.net) (N.dialled out.new.net) (N.dial_faults out.old.net) (N.dial_faults out.new.net) end
+        × TellsEnd end result (W.contents out.old.output) (W.contents out.new.output) }
+    ensures dialled { DialsOnly (place_at words.now.store) (place_at words.now.app_at) (N.dialled out.old.net) (N.dialled out.new.net) }
     ensures unread { out.new.input ≡ out.old.input }
     ensures sink { result ≡ SidecarStatus.SinkFault → W.write_faults out.old.output < W.write_faults out.new.output }
     ensures port { result ≡ SidecarStatus.PortFault → (H.bind_faults out.old.host < H.bind_faults out.new.host) ⊎ (N.dial_faults out.old.net < N.dial_faults out.new.net) }
@@ -187,12 +192,19 @@ pub fn run<R: Threads + Wait + Sync, I: Source, W: Sink, N: Dial, T: Clock, H: H
         × AsksStore p.journal (place_of p.listen) (H.asked out.old.host) (H.asked out.new.host)
         × TellsServer ended (W.contents out.old.output) (W.contents out.new.output) × (out.new.input ≡ out.old.input) }
 
-    // A sidecar asks for nothing but the two addresses of its words, and leaves the source unread. It says that it had to
-    // stop only if the placement wasn't heard for 5,000 milliseconds, or refused it; after this, and after status 0, all its
-    // parts were stopped.
-    ensures seated { (s : Seating) → reading (map string_bytes words.now) ≡ Some (Sidecar s) → (end : SidecarEnd) × (ended : SidecarStatus) × IsEnd N.Link.read_traffic T.shown end × (result ≡ sidecar_code ended)
+    // A sidecar asks for nothing but the two addresses of its words, and leaves the source unread. It starts by exchanges with
+    // the store and the application of its words, and says that either refused it only by what those answered. It says that
+    // it had to stop only if the placement wasn't heard for 5,000 milliseconds, or refused it; after this, and after status 0,
+    // all parts of the node that it had started were stopped.
+    ensures seated { (s : Seating) → reading (map string_bytes words.now) ≡ Some (Sidecar s) → (end : SidecarEnd) × (ended : SidecarStatus)
+        × IsSidecarRun N.Link.read_traffic T.shown s (N.dialled out.old.net) (N.dialled out.new.net) (N.dial_faults out.old.net) (N.dial_faults out.new.net) end
+        × (result ≡ sidecar_code ended)
         × AsksPorts (place_of s.listen) (place_of s.peer) (H.asked out.old.host) (H.asked out.new.host)
         × TellsEnd end ended (W.contents out.old.output) (W.contents out.new.output) × (out.new.input ≡ out.old.input) }
+
+    // By the dialler that it holds itself a sidecar dials nothing but the store and the application of its words.
+    ensures dialled { (s : Seating) → reading (map string_bytes words.now) ≡ Some (Sidecar s)
+        → DialsOnly (place_at s.store) (place_at s.app_at) (N.dialled out.old.net) (N.dialled out.new.net) }
 
     // A fault of the source, the sink, a disk, a port or the dialler is reported only if its count of faults rose. Each port is given
     // back, and each disk; if memory runs out, a server's disk may be lost.

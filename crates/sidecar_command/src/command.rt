@@ -1,7 +1,15 @@
 // The command.
-ghost use Rattle.std.specs.Prelude.{◌≡◌, ◌<◌, ◌≤◌, ◌⊎◌, IfOk};
+ghost use Rattle.std.specs.Prelude.{◌≡◌, ◌<◌, ◌≤◌, ◌⊎◌, List, Err, IfOk};
 ghost use Rattle.server_ports.specs.Hosts.{place_of};
-ghost use Rattle.sidecar_command.specs.Commands.{AsksPorts, IsEnd};
+ghost use Rattle.command_words.specs.Told.{told_sidecar};
+ghost use Rattle.exchanges.specs.Exchanges.{Exchange, Dialling};
+ghost use Rattle.exchanges.specs.Replies.{place_at};
+ghost use Rattle.sidecar_start.specs.declared.end.StartEnd.{StartEnd};
+ghost use Rattle.sidecar_start.specs.Starting.{IsStart};
+ghost use Rattle.frame_wire.specs.declared.frame.Frame.TheVariants as frames;
+ghost use Rattle.frame_wire.specs.Frames.{payload};
+ghost use Rattle.part_model.specs.Settings.{AreShallow};
+ghost use Rattle.sidecar_command.specs.Commands.{AsksPorts, DialsOnly, IsServed, IsSidecarRun, parts_in, start_words};
 
 use crate::callees::Callees;
 use crate::ends::{SidecarEnd, unstarted};
@@ -11,13 +19,15 @@ use actor_ports::{Clock, Dial};
 use command_words::SidecarWords;
 use server_ports::Host;
 use sidecar_node::SidecarNode;
-use sidecar_start::{StartWords, Started, start};
+use sidecar_start::{StartEnd, StartWords, Started, start};
 use std::alloc::Global;
 use std::sync::Wait;
 use std::thread::Threads;
 
 // What the sidecar is told of itself. The texts have the forms of names, so that only memory can be wanting.
-fn start_words(alloc: Global, words: &SidecarWords<'_>) -> Result<StartWords, OutOfMemory> {
+fn start_words(alloc: Global, words: &SidecarWords<'_>) -> Result<StartWords, OutOfMemory>
+    ensures { IfOk result (λ told. told ≡ start_words (told_sidecar words.now)) }
+{
     let Ok(space) = read_space(words.space.as_bytes()) else {
         return Err(OutOfMemory);
     };
@@ -39,10 +49,65 @@ fn start_words(alloc: Global, words: &SidecarWords<'_>) -> Result<StartWords, Ou
 
 // The number of parts that a sidecar may have.
 fn parts_of(words: &SidecarWords<'_>) -> u8
+    ensures are { result ≡ parts_in words.now.parts }
     ensures some { 1 ≤ result }
     ensures few { result ≤ 16 }
 {
     words.parts.clamp(1, 16)
+}
+
+// The start, by what the words tell it.
+fn start_by<R: Wait, N: Dial, K: Clock>(
+    rt: &R,
+    alloc: Global,
+    words: &SidecarWords<'_>,
+    net: &mut N,
+    clock: &mut K,
+) -> Result<Started, StartEnd>
+    ensures starts { (xs : List Exchange)
+        × IsStart (start_words (told_sidecar words.now)) xs result
+        × Dialling xs (N.dialled net.old) (N.dialled net.new) (N.dial_faults net.old) (N.dial_faults net.new) }
+    ensures fits { IfOk result (λ s. payload.Fits (frames.Register s.host)) }
+    ensures shallow { IfOk result (λ s. AreShallow s.kinds) }
+    ensures fault { result ≡ Err StartEnd.DialFault → N.dial_faults net.old < N.dial_faults net.new }
+{
+    match start_words(alloc, words) {
+        Ok(told) => start(rt, alloc, net, clock, &told),
+        Err(_) => Err(StartEnd::OutOfMemory),
+    }
+}
+
+// Serves the sidecar that has started.
+fn serve_new<R: Threads + Wait + Sync, H: Host, N: Dial, K: Clock>(
+    rt: &R,
+    alloc: Global,
+    started: Started,
+    words: &SidecarWords<'_>,
+    host: &mut H,
+    net: &N,
+    callees: &Callees<'_, N>,
+    clock: &K,
+    steady: &K,
+) -> SidecarEnd
+    requires fits { payload.Fits (frames.Register started.host) }
+    requires shallow { AreShallow started.kinds }
+    ensures asks { AsksPorts (place_of words.now.listen) (place_of words.now.peer) (H.asked host.old) (H.asked host.new) }
+    ensures port_cause { result ≡ SidecarEnd.PortFault → H.bind_faults host.old < H.bind_faults host.new }
+    ensures ends { IsServed N.Link.read_traffic K.shown (told_sidecar words.now) started result }
+    ensures never_falls { H.bind_faults host.old ≤ H.bind_faults host.new }
+    ensures ports_back { H.ports_out host.new ≡ H.ports_out host.old }
+    ensures disks { (H.disks_out host.new ≡ H.disks_out host.old) × (H.open_faults host.new ≡ H.open_faults host.old) }
+{
+    let Started { host: own, kinds } = started;
+    match SidecarNode::new(alloc, own, kinds, parts_of(words)) {
+        Ok(made) => {
+            let (node, seats) = made;
+            serve_started(
+                rt, alloc, &node, seats, words, host, net, callees, clock, steady,
+            )
+        }
+        Err(_) => SidecarEnd::OutOfMemory,
+    }
 }
 
 /// Runs a sidecar. The store draws its boot, and its application says what it hosts; then it binds its two ports and serves
@@ -60,27 +125,19 @@ pub fn run_sidecar<R: Threads + Wait + Sync, H: Host, N: Dial, K: Clock>(
     steady: &K,
 ) -> SidecarEnd
     ensures asks { AsksPorts (place_of words.now.listen) (place_of words.now.peer) (H.asked host.old) (H.asked host.new) }
-    // A fault is answered only if a count of such faults rose, and a stop only for a sound cause, once all parts were stopped.
+    // By the dialler that it holds itself it dials nothing but the addresses of its words.
+    ensures dialled { DialsOnly (place_at words.now.store) (place_at words.now.app_at) (N.dialled net.old) (N.dialled net.new) }
+    // A fault is answered only if a count of such faults rose, a start that failed only by what the store and the application
+    // answered, and a stop only for a sound cause, once all parts were stopped.
     ensures port_cause { result ≡ SidecarEnd.PortFault → (H.bind_faults host.old < H.bind_faults host.new) ⊎ (N.dial_faults net.old < N.dial_faults net.new) }
-    ensures ends { IsEnd N.Link.read_traffic K.shown result }
+    ensures ends { IsSidecarRun N.Link.read_traffic K.shown (told_sidecar words.now) (N.dialled net.old) (N.dialled net.new) (N.dial_faults net.old) (N.dial_faults net.new) result }
     ensures never_falls { H.bind_faults host.old ≤ H.bind_faults host.new }
     // Each port is given back, and no disk is opened.
     ensures ports_back { H.ports_out host.new ≡ H.ports_out host.old }
     ensures disks { (H.disks_out host.new ≡ H.disks_out host.old) × (H.open_faults host.new ≡ H.open_faults host.old) }
 {
-    let told = match start_words(alloc, words) {
-        Ok(told) => told,
-        Err(_) => return SidecarEnd::OutOfMemory,
-    };
-    let Started { host: own, kinds } = match start(rt, alloc, net, clock, &told) {
-        Ok(started) => started,
-        Err(end) => return unstarted(end),
-    };
-    let (node, seats) = match SidecarNode::new(alloc, own, kinds, parts_of(words)) {
-        Ok(made) => made,
-        Err(_) => return SidecarEnd::OutOfMemory,
-    };
-    serve_started(
-        rt, alloc, &node, seats, words, host, net, callees, clock, steady,
-    )
+    match start_by(rt, alloc, words, net, clock) {
+        Ok(started) => serve_new(rt, alloc, started, words, host, net, callees, clock, steady),
+        Err(end) => unstarted(end),
+    }
 }

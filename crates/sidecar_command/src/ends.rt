@@ -1,6 +1,6 @@
 // How the command ends.
 ghost use Rattle.std.specs.Prelude.{◌≡◌, ◌≢◌, IsTrue, Some};
-ghost use Rattle.sidecar_command.specs.Commands.{sidecar_status, IsOwn};
+ghost use Rattle.sidecar_command.specs.Commands.{sidecar_status, unstarted_end};
 ghost use Rattle.sidecar_start.specs.declared.end.StartEnd.{StartEnd};
 ghost use Rattle.sidecar_server.specs.declared.watch.StopCause.{StopCause};
 
@@ -41,10 +41,8 @@ impl SidecarEnd {
 
 /// How the command ends if it doesn't start.
 pub(crate) fn unstarted(end: StartEnd) -> SidecarEnd
+    ensures is { result ≡ unstarted_end end }
     ensures port { result ≡ SidecarEnd.PortFault → end ≡ StartEnd.DialFault }
-    ensures own { (e : StartEnd) → result ≡ SidecarEnd.Unstarted e → (e ≡ end) × IsOwn e }
-    ensures done { result ≢ SidecarEnd.Done }
-    ensures stop { (c : StopCause) → result ≢ SidecarEnd.Stopped c }
 {
     match end {
         StartEnd::DialFault => SidecarEnd::PortFault,

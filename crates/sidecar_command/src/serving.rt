@@ -1,11 +1,11 @@
 // A sidecar that has started: its ports, and the server.
-ghost use Rattle.std.specs.Prelude.{◌≡◌, ◌<◌, ◌≤◌, ◌+◌};
+ghost use Rattle.std.specs.Prelude.{◌≡◌, ◌<◌, ◌≤◌, ◌+◌, IfSome};
 ghost use Rattle.frame_wire.specs.declared.frame.Frame.TheVariants as frames;
 ghost use Rattle.frame_wire.specs.Frames.{payload};
+ghost use Rattle.command_words.specs.Told.{told_sidecar};
 ghost use Rattle.server_ports.specs.Hosts.{place_of};
-ghost use Rattle.sidecar_node.specs.Nodes.{IsSeatsOf, host_of};
-ghost use Rattle.sidecar_server.specs.Stopped.{IsNew};
-ghost use Rattle.sidecar_command.specs.Commands.{AsksPorts, IsEnd};
+ghost use Rattle.sidecar_node.specs.Nodes.{IsSeatsOf, IsNewNode, host_of, kinds_of};
+ghost use Rattle.sidecar_command.specs.Commands.{AsksPorts, IsServed, parts_in};
 
 use crate::callees::Callees;
 use crate::ends::{SidecarEnd, ended, unbound};
@@ -24,7 +24,9 @@ fn own_links<N: Dial>(
     words: &SidecarWords<'_>,
     net: &N,
     callees: &Callees<'_, N>,
-) -> Option<Links<N>> {
+) -> Option<Links<N>>
+    ensures { IfSome result (λ l. (l.app_at ≡ words.now.app_at) × (l.store_at ≡ words.now.store)) }
+{
     let app = callees.app.another().ok()?;
     let peers = callees.peers.another().ok()?;
     let store = net.another().ok()?;
@@ -47,12 +49,13 @@ fn serve_bound<R: Threads + Wait + Sync, H: Host, N: Dial, K: Clock>(
     steady: K,
 ) -> SidecarEnd
     requires seats { IsSeatsOf node.now seats }
-    requires new { IsNew node.now seats }
+    requires new { IsNewNode (host_of node.now) (kinds_of node.now) (parts_in words.now.parts) node.now seats }
     requires own { payload.Fits (frames.Register (host_of node.now)) }
     requires ports { 1 < H.ports_out host.old }
+    requires places { (links.app_at ≡ words.now.app_at) × (links.store_at ≡ words.now.store) }
     ensures asks { H.asked host.new ≡ H.asked host.old }
     ensures port_cause { result ≡ SidecarEnd.PortFault → H.bind_faults host.old < H.bind_faults host.new }
-    ensures ends { IsEnd N.Link.read_traffic K.shown result }
+    ensures ends { IsServed N.Link.read_traffic K.shown (told_sidecar words.now) (record { host = host_of node.now; kinds = kinds_of node.now }) result }
     ensures never_falls { H.bind_faults host.old ≤ H.bind_faults host.new }
     ensures ports_back { H.ports_out host.old ≡ H.ports_out host.new + 2 }
     ensures disks { (H.disks_out host.new ≡ H.disks_out host.old) × (H.open_faults host.new ≡ H.open_faults host.old) }
@@ -100,11 +103,11 @@ pub(crate) fn serve_started<R: Threads + Wait + Sync, H: Host, N: Dial, K: Clock
     steady: &K,
 ) -> SidecarEnd
     requires seats { IsSeatsOf node.now seats }
-    requires new { IsNew node.now seats }
+    requires new { IsNewNode (host_of node.now) (kinds_of node.now) (parts_in words.now.parts) node.now seats }
     requires own { payload.Fits (frames.Register (host_of node.now)) }
     ensures asks { AsksPorts (place_of words.now.listen) (place_of words.now.peer) (H.asked host.old) (H.asked host.new) }
     ensures port_cause { result ≡ SidecarEnd.PortFault → H.bind_faults host.old < H.bind_faults host.new }
-    ensures ends { IsEnd N.Link.read_traffic K.shown result }
+    ensures ends { IsServed N.Link.read_traffic K.shown (told_sidecar words.now) (record { host = host_of node.now; kinds = kinds_of node.now }) result }
     ensures never_falls { H.bind_faults host.old ≤ H.bind_faults host.new }
     ensures ports_back { H.ports_out host.new ≡ H.ports_out host.old }
     ensures disks { (H.disks_out host.new ≡ H.disks_out host.old) × (H.open_faults host.new ≡ H.open_faults host.old) }

@@ -16,18 +16,11 @@ pub record StopsParts (node : SidecarNode) (first last : Seats) : Type 0 where
   pub saids : List Said
   pub stops : StopsAll (length (part_gates node)) saids own last
 
--- the node is new, with these seats as its first
-pub record IsNew (node : SidecarNode) (first : Seats) : Type 0 where
-  pub host : HostInfo
-  pub kinds : List TypeSettings
-  pub parts : ℕ
-  pub made : IsNewNode host kinds parts node first
-
--- A node was made, and at the end each of its parts was given StopPart. So each part's history leads by the part's steps
--- from a new part to one that is stopped.
-pub record AllStopped : Type 0 where
+-- A node of this host was made, with so many new parts for these types, and at the end each of its parts was given StopPart.
+-- So each part's history leads by the part's steps from a new part to one that is stopped.
+pub record NodeStopped (host : HostInfo) (kinds : List TypeSettings) (parts : ℕ) : Type 0 where
   pub node : SidecarNode
   pub first : Seats
   pub last : Seats
-  pub new : IsNew node first
+  pub new : IsNewNode host kinds parts node first
   pub stops : StopsParts node first last

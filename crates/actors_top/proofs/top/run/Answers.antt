@@ -3,9 +3,11 @@ use Rattle.plain_commands.specs.declared.status.Status.TheVariants as status
 use Rattle.actors_top.specs.declared.server.ServerStatus.TheVariants as server
 use Rattle.actors_top.specs.declared.sidecar.SidecarStatus.TheVariants as seat
 use Rattle.sidecar_command.specs.declared.ends.SidecarEnd.TheVariants as ends
+use Rattle.sidecar_command.proofs.Served.{nothing_run}
+use Rattle.exchanges.specs.Replies.{place_at}
 use Rattle.server_ports.specs.Hosts.{place_of}
 use Rattle.world_drill.proofs.Honest.{drill_honest}
-use Rattle.actors_top.proofs.Same.{nothing_written, nothing_asked_for, no_store_asked, no_ports_asked}
+use Rattle.actors_top.proofs.Same.{nothing_written, nothing_asked_for, no_store_asked, no_ports_asked, nothing_dialled}
 use Rattle.actors_top.proofs.top.run.Goals as goal
 
 pub returns-in-Err-OutOfMemory-clause-scheduled : goal.returns-in-Err-OutOfMemory-clause-scheduled
@@ -21,4 +23,7 @@ pub returns-in-Err-OutOfMemory-clause-stored : goal.returns-in-Err-OutOfMemory-c
 returns-in-Err-OutOfMemory-clause-stored g c = λ p is. (server.OutOfMemory, refl, no_store_asked p.journal (place_of p.listen) (g.H.Host.asked c.args.out.now.host), nothing_written (g.W.Sink.contents c.args.out.now.output), refl)
 
 pub returns-in-Err-OutOfMemory-clause-seated : goal.returns-in-Err-OutOfMemory-clause-seated
-returns-in-Err-OutOfMemory-clause-seated g c = λ s is. (ends.OutOfMemory, seat.OutOfMemory, tt, refl, no_ports_asked (place_of s.listen) (place_of s.peer) (g.H.Host.asked c.args.out.now.host), nothing_written (g.W.Sink.contents c.args.out.now.output), refl)
+returns-in-Err-OutOfMemory-clause-seated g c = λ s is. (ends.OutOfMemory, seat.OutOfMemory, nothing_run g.N.Link.Source.read_traffic g.T.Clock.shown s (g.N.Dial.dialled c.args.out.now.net) (g.N.Dial.dial_faults c.args.out.now.net), refl, no_ports_asked (place_of s.listen) (place_of s.peer) (g.H.Host.asked c.args.out.now.host), nothing_written (g.W.Sink.contents c.args.out.now.output), refl)
+
+pub returns-in-Err-OutOfMemory-clause-dialled : goal.returns-in-Err-OutOfMemory-clause-dialled
+returns-in-Err-OutOfMemory-clause-dialled g c = λ s is. nothing_dialled (place_at s.store) (place_at s.app_at) (g.N.Dial.dialled c.args.out.now.net)

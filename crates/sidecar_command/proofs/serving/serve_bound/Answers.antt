@@ -1,4 +1,5 @@
 use Rattle.std.proofs.Common.{IfOk, subst}
+use Rattle.command_words.specs.Told.{told_sidecar}
 use Rattle.sidecar_server.specs.declared.server.SidecarServed.{SidecarServed}
 use Rattle.sidecar_server.specs.Causes.{IsSound}
 use Rattle.sidecar_server.specs.Stopped.{StopsParts}
@@ -13,4 +14,4 @@ returns-after-callers_failed-clause-ends g c =
     let run = c.serve_sidecar-callers.ensures in
     let sound = subst (λ r. IfOk r (λ (s : SidecarServed). IsSound traffic shown s.stop)) c.in-Ok.is run.stop in
     let stopped = subst (λ r. IfOk r (λ (s : SidecarServed). StopsParts c.args.node.now c.args.seats s.seats)) c.in-Ok.is run.stopped in
-    after_served traffic shown c.args.node.now c.args.seats served.seats served.stop c.ended.result c.requires.new stopped sound c.ended.ensures.own c.ended.ensures.stop
+    after_served traffic shown (told_sidecar c.args.words.now) c.args.node.now c.args.seats served.seats served.stop c.ended.result c.requires.new stopped sound c.ended.ensures.own c.ended.ensures.stop
