@@ -1,5 +1,7 @@
 -- Which entries a served call makes, and what its refusal goes back to, by the cases of the relation.
-use Rattle.std.proofs.Common.{◌≡◌, ◌⊎◌, ◌<◌, ◌≤◌, ◌+◌, refl, sym, ap, subst, ◌∙◌, inl, inr, ℕ, Bool, true, false, List, [], ◌∷◌, ◌++◌, length, arith, length-append, Option, Some, None, Result, Ok, Err}
+use Rattle.std.proofs.Common.{◌≡◌, ◌⊎◌, ◌<◌, ◌+◌, refl, sym, ap, subst, inl, inr, ℕ, Bool, true, false, List, [], ◌∷◌, ◌++◌, length, append_assoc, arith, length-append, Option, Some, None, Ok, Err}
+use Rattle.std.specs.Prelude.{nat_lt, ◌==◌}
+use Rattle.std.proofs.lemmas.Bool.{cond_both, eqb-true, ltb-true, ltb-false}
 use Rattle.step_gate.specs.declared.gate.Spent.{Spent}
 use Rattle.actor_names.specs.declared.member.Member.{Member}
 use Rattle.actor_names.specs.declared.address.Address.{Address}
@@ -7,10 +9,12 @@ use Rattle.place_table.specs.declared.host.HostInfo.{HostInfo}
 use Rattle.part_model.specs.declared.event.PartEvent.{PartEvent}
 use Rattle.part_model.specs.Receipts.{PartReply}
 use Rattle.part_model.specs.declared.event.Reply.TheVariants as replies
-use Rattle.member_core.specs.declared.route.Hop.{Hop}
-use Rattle.member_core.specs.declared.route.Hop.TheVariants as kinds
-use Rattle.member_core.specs.Routes.{route_hop}
+use Rattle.member_core.specs.Routes.{HopStep, last_or, rising_hop, route_hop, IsRisingFrom, IsRising}
+use Rattle.member_core.proofs.Hops.{IsBounded, hops_bounded, none_bounded}
+use Rattle.actor_ports.specs.Traffic.{Place, Traffic}
 use Rattle.http_edge.specs.Carry.{Carried}
+use Rattle.http_edge.specs.Replies.{HasNoReading}
+use Rattle.http_edge.specs.Settled.{IsNamed}
 use Rattle.http_edge.specs.declared.message.HttpRequest.{HttpRequest}
 use Rattle.http_edge.specs.declared.message.HttpResponse.{HttpResponse}
 use Rattle.http_edge.specs.declared.error.EdgeError.{EdgeError}
@@ -23,20 +27,23 @@ use Rattle.actors_api.specs.declared.refusal.ApiRefusal.{ApiRefusal}
 use Rattle.actors_api.specs.declared.refusal.ApiRefusal.TheVariants as refusals
 use Rattle.app_texts.specs.declared.peer_reply.PeerReply.{PeerReply}
 use Rattle.app_texts.specs.declared.peer_reply.PeerReply.TheVariants as peers
+use Rattle.app_texts.specs.PeerReplies.{reply_reading, GivesReply}
+use Rattle.sidecar_node.specs.declared.node.Seats.{Seats}
 use Rattle.sidecar_node.specs.Entries.{PartEntry}
-use Rattle.sidecar_node.specs.Turns.{Said, IsSpent, Either, asks_again, Polls, ask_of, AfterAsk, Begins, Ends as EndsTurn}
-use Rattle.exchanges.specs.Exchanges.{Exchange, total_rise}
-use Rattle.exchanges.specs.Replies.{Got, place_at, IsHttpExchange}
-use Rattle.actor_ports.specs.Traffic.{Place}
+use Rattle.sidecar_node.specs.Nodes.{SpentAt}
+use Rattle.sidecar_node.specs.Turns.{Said, Either, asks_again, Polls, ask_of, AfterAsk, Begins, Ends as EndsTurn}
+use Rattle.exchanges.specs.Exchanges.{Exchange, total_rise, Comes}
+use Rattle.exchanges.specs.Replies.{Got, place_at, HttpCarries, IsHttpExchange}
 use Rattle.actor_calls.specs.declared.invoke.Invoke.{Invoke}
 use Rattle.actor_calls.specs.declared.next.Next.{Next}
 use Rattle.actor_calls.specs.declared.next.Next.TheVariants.{Answered, Moves}
 use Rattle.actor_calls.specs.Texts.{call_text, forward_text}
-use Rattle.actor_calls.specs.Outcomes.{refused, refusal_of, next_of, app_answer, ended_answer, turn_answer, hop_refusal, peer_fault, peer_next, ReadsPeer}
-use Rattle.actor_calls.specs.Turns.{IsIdle, IsTurn, Follows, IsAsked}
+use Rattle.actor_calls.specs.Outcomes.{refusal_of, next_of, app_answer, ended_answer, turn_answer, hop_refusal, peer_fault, peer_next, ReadsPeer}
+use Rattle.actor_calls.specs.Turns.{IsIdle, Follows, IsAsked}
 use Rattle.actor_calls.specs.Hops.{IsPeerAsked, IsHop, IsRouted, Stops, Ends, HopsOn}
 use Rattle.actor_calls.specs.Serving.{GoesOn, IsInvoked}
-use Rattle.actor_calls.specs.Causes.{IsCallEvent, AreCallEntries, IsRefusedSo, HasCause, AnswerHasCause}
+use Rattle.actor_calls.specs.Causes.{IsCallEvent, AreCallEntries, HasReply, IsRefusedSo, LinkRead, HasRead, IsReply, IsUnread, IsPassedOn, PassesOn, NamesOwner, IsUnreadPeer, IsMoved, AreTold, HasCause, AnswerHasCause}
+use Rattle.actor_calls.proofs.Routings.{goes}
 
 -- ---- entries
 
@@ -76,10 +83,6 @@ idle_entries : (q : Invoke) (first last : ℕ) (es : List PartEntry) (xs : List 
 idle_entries q first last es xs i = subst (λ (l : List PartEntry). AreCallEntries q l) (sym i.entries) tt
 
 -- ---- replies that were told
-
-abbrev HasReply : PartReply → List PartEntry → Type 0
-HasReply reply [] = ⊥
-HasReply reply (e ∷ es) = (e.reply ≡ reply) ⊎ HasReply reply es
 
 abbrev told : PartReply → Said
 told reply = Ok reply
@@ -139,28 +142,59 @@ ended call now es (Err spent) h = tt
 -- ---- what an exchange that came to this says
 
 abbrev Shows : List Exchange → Got → Type 0
-Shows xs (Ok reply) = 0 < length xs
+Shows xs (Ok reply) = HasRead (IsReply reply) xs
 Shows xs (Err edge.ConnFault) = 0 < total_rise xs
 Shows xs (Err edge.OutOfMemory) = Unit {0}
-Shows xs (Err error) = 0 < length xs
+Shows xs (Err error) = HasRead IsUnread xs
 
-fault_rises : (text : List ℕ) (at there : Place) (link : Option Carried) (rise : ℕ) → IsHttpExchange text at (record { at = there; link = link; rise = rise } ∷ []) (Err edge.ConnFault) → 0 < rise
-fault_rises text at there None rise h = h.1.0
-fault_rises text at there (Some c) rise h = h.1.1 refl
+-- what went over a link that came to this; nothing is known of the traffic behind it
+abbrev CarriesTo : List ℕ → Option Carried → ℕ → Got → Type 0
+CarriesTo text link rise got = Comes (Err edge.ConnFault) (Err edge.OutOfMemory) (HttpCarries text) link rise got
 
-one_made : (x : Exchange) → 0 < length (x ∷ [])
-one_made x = omega arith
+error_alone : (bytes : List ℕ) (t : Option Traffic) (error : EdgeError) → HasNoReading bytes None t error → HasNoReading bytes None None error
+error_alone bytes t (edge.CutShort n) h = (h.0, tt, h.2)
+error_alone bytes t error h = h
+
+unread_by : (text : List ℕ) (c : Carried) (error : EdgeError) → IsNamed error → HttpCarries text c (Err error) → IsUnread c.read
+unread_by text c edge.ConnFault named h = absurd named
+unread_by text c edge.OutOfMemory named h = absurd named
+unread_by text c error named h = record { error = error; named = named; cause = error_alone c.read h.after error h.gives.1; none = h.settles }
+
+named_fault : (error : EdgeError) → IsNamed error → (let got : Got = Err error in got) ≡ Err edge.ConnFault → ⊥
+named_fault error named e = let same : error ≡ edge.ConnFault = cc in subst (λ (x : EdgeError). IsNamed x) same named
+
+link_unread : (text : List ℕ) (link : Option Carried) (rise : ℕ) (error : EdgeError) → IsNamed error → CarriesTo text link rise (Err error) → LinkRead IsUnread link
+link_unread text None rise error named h = absurd (named_fault error named h.1)
+link_unread text (Some c) rise error named h = unread_by text c error named h.0
+
+link_reply : (text : List ℕ) (link : Option Carried) (rise : ℕ) (reply : HttpResponse) → CarriesTo text link rise (Ok reply) → LinkRead (IsReply reply) link
+link_reply text None rise reply h = let e = h.1 in absurd (let k : ⊥ = cc in k)
+link_reply text (Some c) rise reply h = ((h.0.after, h.0.gives.1), h.0.settles)
+
+fault_rises : (text : List ℕ) (link : Option Carried) (rise : ℕ) → CarriesTo text link rise (Err edge.ConnFault) → 0 < rise
+fault_rises text None rise h = h.0
+fault_rises text (Some c) rise h = h.1 refl
 
 one_rise : (x : Exchange) → 0 < x.rise → 0 < total_rise (x ∷ [])
 one_rise x h = let g : 0 < x.rise + 0 = omega arith in g
 
 exchange_shows : (text : List ℕ) (at : Place) (xs : List Exchange) (got : Got) → IsHttpExchange text at xs got → Shows xs got
 exchange_shows text at [] got h = subst (λ (g : Got). Shows [] g) (sym h) tt
-exchange_shows text at (x ∷ []) (Ok reply) h = one_made x
-exchange_shows text at (x ∷ []) (Err edge.ConnFault) h = one_rise x (fault_rises text at x.at x.link x.rise h)
+exchange_shows text at (x ∷ []) (Ok reply) h = inl (link_reply text x.link x.rise reply h.1)
+exchange_shows text at (x ∷ []) (Err edge.ConnFault) h = one_rise x (fault_rises text x.link x.rise h.1)
 exchange_shows text at (x ∷ []) (Err edge.OutOfMemory) h = tt
-exchange_shows text at (x ∷ []) (Err error) h = one_made x
+exchange_shows text at (x ∷ []) (Err error) h = inl (link_unread text x.link x.rise error tt h.1)
 exchange_shows text at (x ∷ y ∷ xs) got h = absurd h
+
+-- other bytes that are read where these are
+link_map : (P Q : List ℕ → Type 0) (link : Option Carried) → ((bytes : List ℕ) → P bytes → Q bytes) → LinkRead P link → LinkRead Q link
+link_map P Q None f h = absurd h
+link_map P Q (Some c) f h = f c.read h
+
+read_map : (P Q : List ℕ → Type 0) (xs : List Exchange) → ((bytes : List ℕ) → P bytes → Q bytes) → HasRead P xs → HasRead Q xs
+read_map P Q [] f h = absurd h
+read_map P Q (x ∷ xs) f (inl h) = inl (link_map P Q x.link f h)
+read_map P Q (x ∷ xs) f (inr h) = inr (read_map P Q xs f h)
 
 -- ---- causes stay where more is done
 
@@ -174,11 +208,23 @@ rises_left xs ys h = let e = rise_then xs ys in omega arith
 rises_right : (xs ys : List Exchange) → 0 < total_rise ys → 0 < total_rise (xs ++ ys)
 rises_right xs ys h = let e = rise_then xs ys in omega arith
 
-some_left : (xs ys : List Exchange) → 0 < length xs → 0 < length (xs ++ ys)
-some_left xs ys h = let e = length-append xs ys in omega arith
+read_left : (P : List ℕ → Type 0) (xs ys : List Exchange) → HasRead P xs → HasRead P (xs ++ ys)
+read_left P [] ys h = absurd h
+read_left P (x ∷ xs) ys (inl h) = inl h
+read_left P (x ∷ xs) ys (inr h) = inr (read_left P xs ys h)
 
-some_right : (xs ys : List Exchange) → 0 < length ys → 0 < length (xs ++ ys)
-some_right xs ys h = let e = length-append xs ys in omega arith
+read_right : (P : List ℕ → Type 0) (xs ys : List Exchange) → HasRead P ys → HasRead P (xs ++ ys)
+read_right P [] ys h = h
+read_right P (x ∷ xs) ys h = inr (read_right P xs ys h)
+
+reply_left : (reply : PartReply) (es fs : List PartEntry) → HasReply reply es → HasReply reply (es ++ fs)
+reply_left reply [] fs h = absurd h
+reply_left reply (e ∷ es) fs (inl h) = inl h
+reply_left reply (e ∷ es) fs (inr h) = inr (reply_left reply es fs h)
+
+reply_right : (reply : PartReply) (es fs : List PartEntry) → HasReply reply fs → HasReply reply (es ++ fs)
+reply_right reply [] fs h = h
+reply_right reply (e ∷ es) fs h = inr (reply_right reply es fs h)
 
 refused_left : (refusal : ApiRefusal) (es fs : List PartEntry) → IsRefusedSo refusal es → IsRefusedSo refusal (es ++ fs)
 refused_left refusal [] fs h = absurd h
@@ -189,49 +235,76 @@ refused_right : (refusal : ApiRefusal) (es fs : List PartEntry) → IsRefusedSo 
 refused_right refusal [] fs h = h
 refused_right refusal (e ∷ es) fs h = inr (refused_right refusal es fs h)
 
-abbrev NextHasCause : List PartEntry → List Exchange → List Exchange → Next → Type 0
-NextHasCause es xs ys (Answered answer) = AnswerHasCause es xs ys answer
-NextHasCause es xs ys (Moves version owner) = Unit {0}
+module _ (part : ℕ) (after : Seats) where
+  abbrev NextHasCause : List PartEntry → List Exchange → List Exchange → Next → Type 0
+  NextHasCause es xs ys (Answered answer) = AnswerHasCause part after es xs ys answer
+  NextHasCause es xs ys (Moves version owner) = IsMoved es ys version owner
 
-module _ (es fs : List PartEntry) (xs vs ys ws : List Exchange) where
-  cause_left : (refusal : ApiRefusal) → HasCause es xs ys refusal → HasCause (es ++ fs) (xs ++ vs) (ys ++ ws) refusal
+module _ (es fs : List PartEntry) (ys ws : List Exchange) where
+  moved_left : (version : ℕ) (owner : HostInfo) → IsMoved es ys version owner → IsMoved (es ++ fs) (ys ++ ws) version owner
+  moved_left version owner (inl h) = inl (reply_left (replies.Elsewhere version owner) es fs h)
+  moved_left version owner (inr h) = inr (read_left (NamesOwner version owner) ys ws h)
+
+  moved_right : (version : ℕ) (owner : HostInfo) → IsMoved fs ws version owner → IsMoved (es ++ fs) (ys ++ ws) version owner
+  moved_right version owner (inl h) = inl (reply_right (replies.Elsewhere version owner) es fs h)
+  moved_right version owner (inr h) = inr (read_right (NamesOwner version owner) ys ws h)
+
+  told_left : (vs : List ℕ) → AreTold es ys vs → AreTold (es ++ fs) (ys ++ ws) vs
+  told_left [] h = tt
+  told_left (v ∷ vs) h = ((h.0.0, moved_left v h.0.0 h.0.1), told_left vs h.1)
+
+  told_right : (vs : List ℕ) → AreTold fs ws vs → AreTold (es ++ fs) (ys ++ ws) vs
+  told_right [] h = tt
+  told_right (v ∷ vs) h = ((h.0.0, moved_right v h.0.0 h.0.1), told_right vs h.1)
+
+module _ (part : ℕ) (after : Seats) (es fs : List PartEntry) (xs vs ys ws : List Exchange) where
+  cause_left : (refusal : ApiRefusal) → HasCause part after es xs ys refusal → HasCause part after (es ++ fs) (xs ++ vs) (ys ++ ws) refusal
   cause_left refusals.AppFault h = rises_left xs vs h
   cause_left refusals.PeerFault h = rises_left ys ws h
-  cause_left refusals.AppReply h = some_left xs vs h
-  cause_left refusals.PeerReply h = some_left ys ws h
+  cause_left refusals.AppReply h = read_left IsUnread xs vs h
+  cause_left refusals.PeerReply h = read_left IsUnreadPeer ys ws h
   cause_left refusals.OutOfMemory h = tt
-  cause_left refusals.Spent h = tt
-  cause_left (refusals.NotRising last version) h = tt
-  cause_left (refusals.Moved versions) h = tt
+  cause_left refusals.Spent (inl full) = inl full
+  cause_left refusals.Spent (inr h) = inr (refused_left refusals.Spent es fs h)
+  cause_left (refusals.NotRising last version) h = (h.0, told_left es fs ys ws (last ∷ version ∷ []) h.1)
+  cause_left (refusals.Moved versions) h = (h.0, h.1, told_left es fs ys ws versions h.2)
   cause_left refusal h = refused_left refusal es fs h
 
-  cause_right : (refusal : ApiRefusal) → HasCause fs vs ws refusal → HasCause (es ++ fs) (xs ++ vs) (ys ++ ws) refusal
+  cause_right : (refusal : ApiRefusal) → HasCause part after fs vs ws refusal → HasCause part after (es ++ fs) (xs ++ vs) (ys ++ ws) refusal
   cause_right refusals.AppFault h = rises_right xs vs h
   cause_right refusals.PeerFault h = rises_right ys ws h
-  cause_right refusals.AppReply h = some_right xs vs h
-  cause_right refusals.PeerReply h = some_right ys ws h
+  cause_right refusals.AppReply h = read_right IsUnread xs vs h
+  cause_right refusals.PeerReply h = read_right IsUnreadPeer ys ws h
   cause_right refusals.OutOfMemory h = tt
-  cause_right refusals.Spent h = tt
-  cause_right (refusals.NotRising last version) h = tt
-  cause_right (refusals.Moved versions) h = tt
+  cause_right refusals.Spent (inl full) = inl full
+  cause_right refusals.Spent (inr h) = inr (refused_right refusals.Spent es fs h)
+  cause_right (refusals.NotRising last version) h = (h.0, told_right es fs ys ws (last ∷ version ∷ []) h.1)
+  cause_right (refusals.Moved versions) h = (h.0, h.1, told_right es fs ys ws versions h.2)
   cause_right refusal h = refused_right refusal es fs h
 
-  answer_left : (answer : ApiReply) → AnswerHasCause es xs ys answer → AnswerHasCause (es ++ fs) (xs ++ vs) (ys ++ ws) answer
+  answer_left : (answer : ApiReply) → AnswerHasCause part after es xs ys answer → AnswerHasCause part after (es ++ fs) (xs ++ vs) (ys ++ ws) answer
   answer_left (api.Refused refusal) h = cause_left refusal h
-  answer_left answer h = tt
+  answer_left (api.Invoked reply) (inl h) = inl (read_left (IsReply reply) xs vs h)
+  answer_left (api.Invoked reply) (inr h) = inr (read_left (PassesOn reply) ys ws h)
+  answer_left (api.Elsewhere version owner) h = reply_left (replies.Elsewhere version owner) es fs h
+  answer_left answer h = absurd h
 
-  answer_right : (answer : ApiReply) → AnswerHasCause fs vs ws answer → AnswerHasCause (es ++ fs) (xs ++ vs) (ys ++ ws) answer
+  answer_right : (answer : ApiReply) → AnswerHasCause part after fs vs ws answer → AnswerHasCause part after (es ++ fs) (xs ++ vs) (ys ++ ws) answer
   answer_right (api.Refused refusal) h = cause_right refusal h
-  answer_right answer h = tt
+  answer_right (api.Invoked reply) (inl h) = inl (read_right (IsReply reply) xs vs h)
+  answer_right (api.Invoked reply) (inr h) = inr (read_right (PassesOn reply) ys ws h)
+  answer_right (api.Elsewhere version owner) h = reply_right (replies.Elsewhere version owner) es fs h
+  answer_right answer h = absurd h
 
-  next_left : (next : Next) → NextHasCause es xs ys next → NextHasCause (es ++ fs) (xs ++ vs) (ys ++ ws) next
+  next_left : (next : Next) → NextHasCause part after es xs ys next → NextHasCause part after (es ++ fs) (xs ++ vs) (ys ++ ws) next
   next_left (Answered answer) h = answer_left answer h
-  next_left (Moves version owner) h = tt
+  next_left (Moves version owner) h = moved_left es fs ys ws version owner h
 
 -- ---- what replies and exchanges come to
 
-module _ (es : List PartEntry) (xs ys : List Exchange) where
-  row_caused : (reply : PartReply) → HasReply reply es → HasCause es xs ys (refusal_of reply)
+module _ (part : ℕ) (after : Seats) (es : List PartEntry) (xs ys : List Exchange) where
+  row_caused : (reply : PartReply) → HasReply reply es → HasCause part after es xs ys (refusal_of reply)
+  row_caused (replies.Spent count) h = inr (refused_so (replies.Spent count) es h)
   row_caused (replies.Behind seen) h = refused_so (replies.Behind seen) es h
   row_caused (replies.Depth turns) h = refused_so (replies.Depth turns) es h
   row_caused (replies.NoHost version) h = refused_so (replies.NoHost version) es h
@@ -241,131 +314,184 @@ module _ (es : List PartEntry) (xs ys : List Exchange) where
   row_caused replies.Stopped h = refused_so replies.Stopped es h
   row_caused reply h = tt
 
-  said_caused : (reply : PartReply) → (reply ≡ replies.OutOfMemory) ⊎ HasReply reply es → HasCause es xs ys (refusal_of reply)
-  said_caused reply (inl e) = subst (λ (r : PartReply). HasCause es xs ys (refusal_of r)) (sym e) tt
+  said_caused : (reply : PartReply) → (reply ≡ replies.OutOfMemory) ⊎ HasReply reply es → HasCause part after es xs ys (refusal_of reply)
+  said_caused reply (inl e) = subst (λ (r : PartReply). HasCause part after es xs ys (refusal_of r)) (sym e) tt
   said_caused reply (inr h) = row_caused reply h
 
-  next_caused : (reply : PartReply) → (reply ≡ replies.OutOfMemory) ⊎ HasReply reply es → NextHasCause es xs ys (next_of reply)
-  next_caused (replies.Elsewhere version owner) h = tt
+  next_caused : (reply : PartReply) → (reply ≡ replies.OutOfMemory) ⊎ HasReply reply es → NextHasCause part after es xs ys (next_of reply)
+  next_caused (replies.Elsewhere version owner) (inl e) = absurd (let k : ⊥ = cc in k)
+  next_caused (replies.Elsewhere version owner) (inr h) = inl h
   next_caused reply h = said_caused reply h
 
-  app_caused : (got : Got) → Shows xs got → AnswerHasCause es xs ys (app_answer got)
-  app_caused (Ok reply) s = tt
+  app_caused : (got : Got) → Shows xs got → AnswerHasCause part after es xs ys (app_answer got)
+  app_caused (Ok reply) s = inl s
   app_caused (Err edge.ConnFault) s = s
   app_caused (Err edge.OutOfMemory) s = tt
   app_caused (Err error) s = s
 
-  ended_caused : (reply : PartReply) (got : Got) → HasReply reply es → Shows xs got → AnswerHasCause es xs ys (ended_answer reply got)
+  ended_caused : (reply : PartReply) (got : Got) → HasReply reply es → Shows xs got → AnswerHasCause part after es xs ys (ended_answer reply got)
   ended_caused (replies.Ended next) got h s = app_caused got s
   ended_caused replies.Stopped got h s = refused_so replies.Stopped es h
   ended_caused replies.AlreadyEnded got h s = refused_so replies.AlreadyEnded es h
   ended_caused reply got h s = tt
 
-  turn_caused : (said : Said) (got : Got) → Ended said es → Shows xs got → AnswerHasCause es xs ys (turn_answer said got)
-  turn_caused (Err spent) got h s = tt
-  turn_caused (Ok reply) (Ok response) h s = ended_caused reply (Ok response) h s
-  turn_caused (Ok reply) (Err edge.OutOfMemory) h s = tt
-  turn_caused (Ok reply) (Err error) h s = ended_caused reply (Err error) h s
+  turn_caused : (said : Said) (got : Got) → SpentAt part said after → Ended said es → Shows xs got → AnswerHasCause part after es xs ys (turn_answer said got)
+  turn_caused (Err spent) got full h s = inl full.1
+  turn_caused (Ok reply) (Ok response) full h s = ended_caused reply (Ok response) h s
+  turn_caused (Ok reply) (Err edge.OutOfMemory) full h s = tt
+  turn_caused (Ok reply) (Err error) full h s = ended_caused reply (Err error) h s
 
--- the hop that a route refuses
-stopped : (hop : Hop) (refusal : ApiRefusal) → hop_refusal hop ≡ Some refusal → HasCause [] [] [] refusal
-stopped (kinds.Go owner least) refusal e = cc
-stopped (kinds.NotRising last version) refusal e = let same : refusals.NotRising last version ≡ refusal = cc in subst (λ (r : ApiRefusal). HasCause [] [] [] r) same tt
-stopped (kinds.Moved versions) refusal e = let same : refusals.Moved versions ≡ refusal = cc in subst (λ (r : ApiRefusal). HasCause [] [] [] r) same tt
+-- ---- hops that are refused
 
-module _ (ys : List Exchange) where
-  reply_next : (reply : HttpResponse) (said : PeerReply) → 0 < length ys → NextHasCause [] [] ys (peer_next reply said)
-  reply_next reply peers.Application s = tt
-  reply_next reply (peers.Refusal word) s = tt
-  reply_next reply (peers.Elsewhere version owner) s = tt
-  reply_next reply peers.Unreadable s = s
-  reply_next reply peers.OutOfMemory s = tt
+rising_from : (w v : ℕ) (ws : List ℕ) → IsRisingFrom w ws → last_or w ws < v → IsRisingFrom w (ws ++ v ∷ [])
+rising_from w v [] r up = (up, tt)
+rising_from w v (x ∷ ws) r up = (r.0, rising_from x v ws r.1 up)
 
-  fault_next : (error : EdgeError) → Shows ys (Err error) → AnswerHasCause [] [] ys (peer_fault error)
+told_more : (es : List PartEntry) (ys : List Exchange) (vs : List ℕ) (v : ℕ) → AreTold es ys vs → AreTold es ys (v ∷ []) → AreTold es ys (vs ++ v ∷ [])
+told_more es ys [] v all one = one
+told_more es ys (w ∷ vs) v all one = (all.0, told_more es ys vs v all.1 one)
+
+told_last : (es : List PartEntry) (ys : List Exchange) (v : ℕ) (vs : List ℕ) → AreTold es ys (v ∷ vs) → AreTold es ys (last_or v vs ∷ [])
+told_last es ys v [] all = all
+told_last es ys v (w ∷ vs) all = told_last es ys w vs all.1
+
+module _ (part : ℕ) (after : Seats) (es : List PartEntry) (xs ys : List Exchange) (version : ℕ) (owner : HostInfo) (refusal : ApiRefusal) where
+  abbrev StopCause : HopStep → Type 0
+  StopCause s = hop_refusal s.answer ≡ Some refusal → HasCause part after es xs ys refusal
+
+  eighth : (hops : List ℕ) → IsRising (hops ++ version ∷ []) → AreTold es ys (hops ++ version ∷ []) → StopCause (rising_hop hops version owner)
+  eighth hops rising all =
+      cond_both (length hops == 7) _ _ StopCause
+      (λ full e.
+      let same : refusals.Moved (hops ++ version ∷ []) ≡ refusal = cc in
+      let l = length-append hops (version ∷ []) in
+      let k : length hops ≡ 7 = eqb-true (length hops) 7 full in
+      subst (λ (r : ApiRefusal). HasCause part after es xs ys r) same ((let m : length (hops ++ version ∷ []) ≡ 8 = omega arith in m), rising, all))
+      (λ few e. absurd (let h : ⊥ = cc in h))
+
+  stopped : (hops : List ℕ) → IsBounded hops → AreTold es ys hops → AreTold es ys (version ∷ []) → StopCause (route_hop hops version owner)
+  stopped [] b all one = eighth [] tt one
+  stopped (v ∷ vs) b all one =
+      cond_both (nat_lt (last_or v vs) version) _ _ StopCause
+      (λ up. eighth (v ∷ vs) (rising_from v version vs b.rising (ltb-true (last_or v vs) version up)) (told_more es ys (v ∷ vs) version all one))
+      (λ down e.
+      let same : refusals.NotRising (last_or v vs) version ≡ refusal = cc in
+      let last = told_last es ys v vs all in
+      subst (λ (r : ApiRefusal). HasCause part after es xs ys r) same (ltb-false (last_or v vs) version down, (last.0, (one.0, tt))))
+
+module _ (part : ℕ) (after : Seats) (ys : List Exchange) where
+  passes_on : (reply : HttpResponse) (said : PeerReply) → reply_reading reply ≡ said → IsPassedOn said → HasRead (IsReply reply) ys → AnswerHasCause part after [] [] ys (api.Invoked reply)
+  passes_on reply said is passed s = inr (read_map (IsReply reply) (PassesOn reply) ys (λ bytes h. (h, subst (λ (m : PeerReply). IsPassedOn m) (sym is) passed)) s)
+
+  reply_next : (reply : HttpResponse) (said : PeerReply) → GivesReply (reply_reading reply) said → HasRead (IsReply reply) ys → NextHasCause part after [] [] ys (peer_next reply said)
+  reply_next reply peers.Application is s = passes_on reply peers.Application is tt s
+  reply_next reply (peers.Refusal word) is s = passes_on reply (peers.Refusal word) is tt s
+  reply_next reply (peers.Elsewhere version owner) is s = inr (read_map (IsReply reply) (NamesOwner version owner) ys (λ bytes h. (reply, h, is)) s)
+  reply_next reply peers.Unreadable is s = read_map (IsReply reply) IsUnreadPeer ys (λ bytes h. inr (reply, h, is)) s
+  reply_next reply peers.OutOfMemory is s = tt
+
+  fault_next : (error : EdgeError) → Shows ys (Err error) → AnswerHasCause part after [] [] ys (peer_fault error)
   fault_next edge.ConnFault s = s
   fault_next edge.OutOfMemory s = tt
-  fault_next error s = s
+  fault_next error s = read_map IsUnread IsUnreadPeer ys (λ bytes h. inl h) s
 
-  reads_next : (got : Got) (next : Next) → ReadsPeer got next → Shows ys got → NextHasCause [] [] ys next
-  reads_next (Ok reply) next r s = subst (λ (m : Next). NextHasCause [] [] ys m) (sym r.2) (reply_next reply r.0 s)
-  reads_next (Err error) next r s = subst (λ (m : Next). NextHasCause [] [] ys m) (sym r) (fault_next error s)
+  reads_next : (got : Got) (next : Next) → ReadsPeer got next → Shows ys got → NextHasCause part after [] [] ys next
+  reads_next (Ok reply) next r s = subst (λ (m : Next). NextHasCause part after [] [] ys m) (sym r.2) (reply_next reply r.0 r.1 s)
+  reads_next (Err error) next r s = subst (λ (m : Next). NextHasCause part after [] [] ys m) (sym r) (fault_next error s)
 
 -- ---- the relation
 
-module _ (app : Address) (q : Invoke) (request : HttpRequest) where
-  follows_entries : (said : Said) (first last : ℕ) (es : List PartEntry) (xs : List Exchange) (next : Next) → Follows app q request said first last es xs next → AreCallEntries q es
+module _ (part : ℕ) (after : Seats) (app : Address) (q : Invoke) (request : HttpRequest) where
+  follows_entries : (said : Said) (first last : ℕ) (es : List PartEntry) (xs : List Exchange) (next : Next) → Follows part after app q request said first last es xs next → AreCallEntries q es
   follows_entries (Ok (replies.Begun call chain)) first last es xs next f = ends_entries q call last es f.1.said f.1.ends
   follows_entries (Ok reply) first last es xs next f = idle_entries q first last es xs f.0
   follows_entries (Err spent) first last es xs next f = idle_entries q first last es xs f.0
 
-  follows_caused : (said : Said) (first last : ℕ) (front back : List PartEntry) (xs : List Exchange) (next : Next) → Began said front → Follows app q request said first last back xs next → NextHasCause (front ++ back) xs [] next
-  follows_caused (Ok (replies.Begun call chain)) first last front back xs next b f =
+  follows_caused : (said : Said) (first last : ℕ) (front back : List PartEntry) (xs : List Exchange) (next : Next) → SpentAt part said after → Began said front → Follows part after app q request said first last back xs next → NextHasCause part after (front ++ back) xs [] next
+  follows_caused (Ok (replies.Begun call chain)) first last front back xs next full b f =
       let t = f.1 in
       let shows = exchange_shows (call_text app q.actor q.method chain request) (place_at app) xs t.got t.exchange in
-      let c = answer_right front back [] xs [] [] (turn_answer t.said t.got) (turn_caused back xs [] t.said t.got (ended call last back t.said t.ends) shows) in
-      subst (λ (m : Next). NextHasCause (front ++ back) xs [] m) (sym f.2)
-      (subst (λ (a : ApiReply). AnswerHasCause (front ++ back) xs [] a) (sym t.answered) c)
-  follows_caused (Ok reply) first last front back xs next b f =
-      subst (λ (m : Next). NextHasCause (front ++ back) xs [] m) (sym f.1) (next_left front back [] xs [] [] (next_of reply) (next_caused front [] [] reply b))
-  follows_caused (Err spent) first last front back xs next b f = subst (λ (m : Next). NextHasCause (front ++ back) xs [] m) (sym f.1) tt
+      let c = answer_right part after front back [] xs [] [] (turn_answer t.said t.got) (turn_caused part after back xs [] t.said t.got t.full (ended call last back t.said t.ends) shows) in
+      subst (λ (m : Next). NextHasCause part after (front ++ back) xs [] m) (sym f.2)
+      (subst (λ (a : ApiReply). AnswerHasCause part after (front ++ back) xs [] a) (sym t.answered) c)
+  follows_caused (Ok reply) first last front back xs next full b f =
+      subst (λ (m : Next). NextHasCause part after (front ++ back) xs [] m) (sym f.1) (next_left part after front back [] xs [] [] (next_of reply) (next_caused part after front [] [] reply b))
+  follows_caused (Err spent) first last front back xs next full b f = subst (λ (m : Next). NextHasCause part after (front ++ back) xs [] m) (sym f.1) (inl full.1)
 
-  asked_entries : (least : Option ℕ) (first last : ℕ) (es : List PartEntry) (xs : List Exchange) (next : Next) → IsAsked app q request least first last es xs next → AreCallEntries q es
+  asked_entries : (least : Option ℕ) (first last : ℕ) (es : List PartEntry) (xs : List Exchange) (next : Next) → IsAsked part after app q request least first last es xs next → AreCallEntries q es
   asked_entries least first last es xs next a =
       subst (λ (l : List PartEntry). AreCallEntries q l) (sym a.entries)
       (entries_then q a.front a.back (begins_entries q least a.middle a.front a.said a.begins) (follows_entries a.said a.middle last a.back xs next a.follows))
 
-  asked_caused : (least : Option ℕ) (first last : ℕ) (es : List PartEntry) (xs : List Exchange) (next : Next) → IsAsked app q request least first last es xs next → NextHasCause es xs [] next
+  asked_caused : (least : Option ℕ) (first last : ℕ) (es : List PartEntry) (xs : List Exchange) (next : Next) → IsAsked part after app q request least first last es xs next → NextHasCause part after es xs [] next
   asked_caused least first last es xs next a =
-      subst (λ (l : List PartEntry). NextHasCause l xs [] next) (sym a.entries)
-      (follows_caused a.said a.middle last a.front a.back xs next (began q least a.middle a.front a.said a.begins) a.follows)
+      subst (λ (l : List PartEntry). NextHasCause part after l xs [] next) (sym a.entries)
+      (follows_caused a.said a.middle last a.front a.back xs next a.full (began q least a.middle a.front a.said a.begins) a.follows)
 
-module _ (me : Member) (app : Address) (q : Invoke) (request : HttpRequest) where
-  peer_caused : (least : ℕ) (owner : HostInfo) (ys : List Exchange) (next : Next) → IsPeerAsked request least owner ys next → NextHasCause [] [] ys next
-  peer_caused least owner ys next p = reads_next ys p.got next p.reads (exchange_shows (forward_text owner.address request least) (place_at owner.address) ys p.got p.exchange)
+module _ (part : ℕ) (after : Seats) (me : Member) (app : Address) (q : Invoke) (request : HttpRequest) where
+  peer_caused : (least : ℕ) (owner : HostInfo) (ys : List Exchange) (next : Next) → IsPeerAsked request least owner ys next → NextHasCause part after [] [] ys next
+  peer_caused least owner ys next p = reads_next part after ys p.got next p.reads (exchange_shows (forward_text owner.address request least) (place_at owner.address) ys p.got p.exchange)
 
-  hop_caused : (least : ℕ) (owner : HostInfo) (first last : ℕ) (es : List PartEntry) (xs ys : List Exchange) (next : Next) → IsHop me app q request least owner first last es xs ys next → NextHasCause es xs ys next
-  hop_caused least owner first last es xs ys next (inl h) = subst (λ (l : List Exchange). NextHasCause es xs l next) (sym h.1) (asked_caused app q request (Some least) first last es xs next h.2)
+  hop_caused : (least : ℕ) (owner : HostInfo) (first last : ℕ) (es : List PartEntry) (xs ys : List Exchange) (next : Next) → IsHop part after me app q request least owner first last es xs ys next → NextHasCause part after es xs ys next
+  hop_caused least owner first last es xs ys next (inl h) = subst (λ (l : List Exchange). NextHasCause part after es xs l next) (sym h.1) (asked_caused part after app q request (Some least) first last es xs next h.2)
   hop_caused least owner first last es xs ys next (inr h) =
-      subst (λ (l : List PartEntry). NextHasCause l xs ys next) (sym h.1.entries)
-      (subst (λ (l : List Exchange). NextHasCause [] l ys next) (sym h.1.exchanges) (peer_caused least owner ys next h.2))
+      subst (λ (l : List PartEntry). NextHasCause part after l xs ys next) (sym h.1.entries)
+      (subst (λ (l : List Exchange). NextHasCause part after [] l ys next) (sym h.1.exchanges) (peer_caused least owner ys next h.2))
 
-  hop_entries : (least : ℕ) (owner : HostInfo) (first last : ℕ) (es : List PartEntry) (xs ys : List Exchange) (next : Next) → IsHop me app q request least owner first last es xs ys next → AreCallEntries q es
-  hop_entries least owner first last es xs ys next (inl h) = asked_entries app q request (Some least) first last es xs next h.2
+  hop_entries : (least : ℕ) (owner : HostInfo) (first last : ℕ) (es : List PartEntry) (xs ys : List Exchange) (next : Next) → IsHop part after me app q request least owner first last es xs ys next → AreCallEntries q es
+  hop_entries least owner first last es xs ys next (inl h) = asked_entries part after app q request (Some least) first last es xs next h.2
   hop_entries least owner first last es xs ys next (inr h) = idle_entries q first last es xs h.1
 
+  -- what was done before the route went on counts too: each version was told then
   route_caused : {hops : List ℕ} {version : ℕ} {owner : HostInfo} {first last : ℕ} {es : List PartEntry} {xs ys : List Exchange} {answer : ApiReply}
-      → IsRouted me app q request hops version owner first last es xs ys answer → AnswerHasCause es xs ys answer
-  route_caused (Stops hops version owner now refusal e) = stopped (route_hop hops version owner).answer refusal e
-  route_caused (Ends hops version owner least to first last es xs ys answer e h) = hop_caused least to first last es xs ys (Answered answer) h
-  route_caused (HopsOn hops version owner least to first middle last es fs xs vs ys ws version2 owner2 answer e h r) = answer_right es fs xs vs ys ws answer (route_caused r)
+      → (ds : List PartEntry) (us zs : List Exchange) → IsBounded hops → AreTold ds zs hops → AreTold ds zs (version ∷ [])
+      → IsRouted part after me app q request hops version owner first last es xs ys answer → AnswerHasCause part after (ds ++ es) (us ++ xs) (zs ++ ys) answer
+  route_caused ds us zs b all one (Stops hops version owner now refusal e) =
+      cause_left part after ds [] us [] zs [] refusal (stopped part after ds us zs version owner refusal hops b all one e)
+  route_caused ds us zs b all one (Ends hops version owner least to first last es xs ys answer e h) =
+      answer_right part after ds es us xs zs ys answer (hop_caused least to first last es xs ys (Answered answer) h)
+  route_caused ds us zs b all one (HopsOn hops version owner least to first middle last es fs xs vs ys ws version2 owner2 answer e h r) =
+      let moved = hop_caused least to first middle es xs ys (Moves version2 owner2) h in
+      let g = goes hops version owner to least e in
+      let noted = subst (λ (l : List ℕ). AreTold ds zs l) (sym g.1) (told_more ds zs hops version all one) in
+      let more = (route_hop hops version owner).hops in
+      let c = route_caused (ds ++ es) (us ++ xs) (zs ++ ys) (hops_bounded hops ((version, owner) ∷ []) b) (told_left ds es zs ys more noted) ((owner2, moved_right ds es zs ys version2 owner2 moved), tt) r in
+      subst (λ (l : List PartEntry). AnswerHasCause part after l (us ++ (xs ++ vs)) (zs ++ (ys ++ ws)) answer) (append_assoc ds es fs)
+      (subst (λ (l : List Exchange). AnswerHasCause part after ((ds ++ es) ++ fs) l (zs ++ (ys ++ ws)) answer) (append_assoc us xs vs)
+      (subst (λ (l : List Exchange). AnswerHasCause part after ((ds ++ es) ++ fs) ((us ++ xs) ++ vs) l answer) (append_assoc zs ys ws) c))
 
   route_entries : {hops : List ℕ} {version : ℕ} {owner : HostInfo} {first last : ℕ} {es : List PartEntry} {xs ys : List Exchange} {answer : ApiReply}
-      → IsRouted me app q request hops version owner first last es xs ys answer → AreCallEntries q es
+      → IsRouted part after me app q request hops version owner first last es xs ys answer → AreCallEntries q es
   route_entries (Stops hops version owner now refusal e) = tt
   route_entries (Ends hops version owner least to first last es xs ys answer e h) = hop_entries least to first last es xs ys (Answered answer) h
   route_entries (HopsOn hops version owner least to first middle last es fs xs vs ys ws version2 owner2 answer e h r) =
       entries_then q es fs (hop_entries least to first middle es xs ys (Moves version2 owner2) h) (route_entries r)
 
   goes_caused : (side : Side) (next : Next) (first last : ℕ) (es fs : List PartEntry) (xs vs ys : List Exchange) (answer : ApiReply)
-      → NextHasCause es xs [] next → GoesOn me app q request side next first last fs vs ys answer → AnswerHasCause (es ++ fs) (xs ++ vs) ys answer
+      → NextHasCause part after es xs [] next → GoesOn part after me app q request side next first last fs vs ys answer → AnswerHasCause part after (es ++ fs) (xs ++ vs) ys answer
   goes_caused side (Answered reply) first last es fs xs vs ys answer n g =
-      subst (λ (a : ApiReply). AnswerHasCause (es ++ fs) (xs ++ vs) ys a) (sym g.2) (answer_left es fs xs vs [] ys reply n)
-  goes_caused Peer (Moves version owner) first last es fs xs vs ys answer n g = subst (λ (a : ApiReply). AnswerHasCause (es ++ fs) (xs ++ vs) ys a) (sym g.2) tt
-  goes_caused Caller (Moves version owner) first last es fs xs vs ys answer n g = answer_right es fs xs vs [] ys answer (route_caused g)
+      subst (λ (a : ApiReply). AnswerHasCause part after (es ++ fs) (xs ++ vs) ys a) (sym g.2) (answer_left part after es fs xs vs [] ys reply n)
+  goes_caused Peer (Moves version owner) first last es fs xs vs ys answer n g =
+      subst (λ (a : ApiReply). AnswerHasCause part after (es ++ fs) (xs ++ vs) ys a) (sym g.2)
+      (elim n [
+        | inl h ↦ reply_left (replies.Elsewhere version owner) es fs h
+        | inr h ↦ absurd h
+      ])
+  goes_caused Caller (Moves version owner) first last es fs xs vs ys answer n g = route_caused es xs [] none_bounded tt ((owner, n), tt) g
 
   goes_entries : (side : Side) (next : Next) (first last : ℕ) (fs : List PartEntry) (vs ys : List Exchange) (answer : ApiReply)
-      → GoesOn me app q request side next first last fs vs ys answer → AreCallEntries q fs
+      → GoesOn part after me app q request side next first last fs vs ys answer → AreCallEntries q fs
   goes_entries side (Answered reply) first last fs vs ys answer g = idle_entries q first last fs vs g.0
   goes_entries Peer (Moves version owner) first last fs vs ys answer g = idle_entries q first last fs vs g.0
   goes_entries Caller (Moves version owner) first last fs vs ys answer g = route_entries g
 
-  pub invoked_entries : (side : Side) (first last : ℕ) (es : List PartEntry) (xs ys : List Exchange) (answer : ApiReply) → IsInvoked me app q request side first last es xs ys answer → AreCallEntries q es
+  pub invoked_entries : (side : Side) (first last : ℕ) (es : List PartEntry) (xs ys : List Exchange) (answer : ApiReply) → IsInvoked part after me app q request side first last es xs ys answer → AreCallEntries q es
   invoked_entries side first last es xs ys answer i =
       subst (λ (l : List PartEntry). AreCallEntries q l) (sym i.entries)
-      (entries_then q i.front i.back (asked_entries app q request q.least first i.middle i.front i.early i.next i.asked) (goes_entries side i.next i.middle last i.back i.late ys answer i.goes_on))
+      (entries_then q i.front i.back (asked_entries part after app q request q.least first i.middle i.front i.early i.next i.asked) (goes_entries side i.next i.middle last i.back i.late ys answer i.goes_on))
 
-  pub invoked_caused : (side : Side) (first last : ℕ) (es : List PartEntry) (xs ys : List Exchange) (answer : ApiReply) → IsInvoked me app q request side first last es xs ys answer → AnswerHasCause es xs ys answer
+  pub invoked_caused : (side : Side) (first last : ℕ) (es : List PartEntry) (xs ys : List Exchange) (answer : ApiReply) → IsInvoked part after me app q request side first last es xs ys answer → AnswerHasCause part after es xs ys answer
   invoked_caused side first last es xs ys answer i =
-      subst (λ (l : List PartEntry). AnswerHasCause l xs ys answer) (sym i.entries)
-      (subst (λ (l : List Exchange). AnswerHasCause (i.front ++ i.back) l ys answer) (sym i.exchanges)
-      (goes_caused side i.next i.middle last i.front i.back i.early i.late ys answer (asked_caused app q request q.least first i.middle i.front i.early i.next i.asked) i.goes_on))
+      subst (λ (l : List PartEntry). AnswerHasCause part after l xs ys answer) (sym i.entries)
+      (subst (λ (l : List Exchange). AnswerHasCause part after (i.front ++ i.back) l ys answer) (sym i.exchanges)
+      (goes_caused side i.next i.middle last i.front i.back i.early i.late ys answer (asked_caused part after app q request q.least first i.middle i.front i.early i.next i.asked) i.goes_on))

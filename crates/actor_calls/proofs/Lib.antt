@@ -4,4 +4,5 @@ pub mod Routings
 mod OwnerTexts
 mod PeerReads
 mod Causes
+mod Completed
 pub mod Acting

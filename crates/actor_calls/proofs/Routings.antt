@@ -11,12 +11,14 @@ use Rattle.member_core.specs.Routes.{HopStep, last_or, rising_hop, route_hop}
 use Rattle.http_edge.specs.declared.message.HttpRequest.{HttpRequest}
 use Rattle.actors_api.specs.declared.reply.ApiReply.{ApiReply}
 use Rattle.actors_api.specs.declared.refusal.ApiRefusal.{ApiRefusal}
+use Rattle.sidecar_node.specs.declared.node.Seats.{Seats}
 use Rattle.sidecar_node.specs.Entries.{PartEntry}
 use Rattle.exchanges.specs.Exchanges.{Exchange}
 use Rattle.actor_calls.specs.declared.invoke.Invoke.{Invoke}
 use Rattle.actor_calls.specs.declared.next.Next.TheVariants.{Answered, Moves}
 use Rattle.actor_calls.specs.Outcomes.{refused, hop_refusal}
 use Rattle.actor_calls.specs.Hops.{IsHop, IsRouted, Stops, Ends, HopsOn}
+use Rattle.actor_calls.proofs.Servings.{hop_moves}
 
 -- ---- how many hops are left
 
@@ -27,7 +29,7 @@ rising_goes hops version owner to least =
     (λ full e. absurd (let h : ⊥ = cc in h))
     (λ few e. (eqb-false (length hops) 7 few, refl))
 
-goes : (hops : List ℕ) (version : ℕ) (owner to : HostInfo) (least : ℕ) → (route_hop hops version owner).answer ≡ Go to least → (length hops ≢ 7) × ((route_hop hops version owner).hops ≡ hops ++ version ∷ [])
+pub goes : (hops : List ℕ) (version : ℕ) (owner to : HostInfo) (least : ℕ) → (route_hop hops version owner).answer ≡ Go to least → (length hops ≢ 7) × ((route_hop hops version owner).hops ≡ hops ++ version ∷ [])
 goes [] version owner to least = λ e. rising_goes [] version owner to least e
 goes (v ∷ vs) version owner to least =
     cond_both (nat_lt (last_or v vs) version) _ _ (λ (s : HopStep). s.answer ≡ Go to least → (length (v ∷ vs) ≢ 7) × (s.hops ≡ v ∷ vs ++ version ∷ []))
@@ -48,24 +50,24 @@ hops_left hops more version owner to least few e is =
 
 -- ---- the cases of a route
 
-module _ (me : Member) (app : Address) (q : Invoke) (request : HttpRequest) (hops : List ℕ) (version : ℕ) (owner : HostInfo) (hop : Hop) where
+module _ (part : ℕ) (after : Seats) (me : Member) (app : Address) (q : Invoke) (request : HttpRequest) (hops : List ℕ) (version : ℕ) (owner : HostInfo) (hop : Hop) where
   pub route_stops : (now : ℕ) (refusal : ApiRefusal) → hop ≡ (route_hop hops version owner).answer → hop_refusal hop ≡ Some refusal
-      → IsRouted me app q request hops version owner now now [] [] [] (refused refusal)
+      → IsRouted part after me app q request hops version owner now now [] [] [] (refused refusal)
   route_stops now refusal e r = Stops hops version owner now refusal (ap hop_refusal (sym e) ∙ r)
 
   module _ (to : HostInfo) (least : ℕ) (is : hop ≡ Go to least) (e : hop ≡ (route_hop hops version owner).answer) where
     pub route_ends : (first last : ℕ) (es : List PartEntry) (xs ys : List Exchange) (answer : ApiReply)
-        → IsHop me app q request least to first last es xs ys (Answered answer)
-        → IsRouted me app q request hops version owner first last es xs ys answer
+        → IsHop part after me app q request least to first last es xs ys (Answered answer)
+        → IsRouted part after me app q request hops version owner first last es xs ys answer
     route_ends first last es xs ys answer h = Ends hops version owner least to first last es xs ys answer (sym e ∙ is) h
 
     pub route_goes_on :
-        (at : Address) (more : List ℕ) (first middle last : ℕ) (es fs : List PartEntry) (xs vs ys ws : List Exchange) (version2 : ℕ) (owner2 : HostInfo) (answer : ApiReply)
+        (before : Seats) (at : Address) (more : List ℕ) (first middle last : ℕ) (es fs : List PartEntry) (xs vs ys ws : List Exchange) (version2 : ℕ) (owner2 : HostInfo) (answer : ApiReply)
         → at ≡ app → more ≡ (route_hop hops version owner).hops
-        → IsHop me app q request least to first middle es xs ys (Moves version2 owner2)
-        → IsRouted me at q request more version2 owner2 middle last fs vs ws answer
-        → IsRouted me app q request hops version owner first last (es ++ fs) (xs ++ vs) (ys ++ ws) answer
-    route_goes_on at more first middle last es fs xs vs ys ws version2 owner2 answer same hs h r =
-        HopsOn hops version owner least to first middle last es fs xs vs ys ws version2 owner2 answer (sym e ∙ is) h
-        (subst (λ (l : List ℕ). IsRouted me app q request l version2 owner2 middle last fs vs ws answer) hs
-        (subst (λ (a : Address). IsRouted me a q request more version2 owner2 middle last fs vs ws answer) same r))
+        → IsHop part before me app q request least to first middle es xs ys (Moves version2 owner2)
+        → IsRouted part after me at q request more version2 owner2 middle last fs vs ws answer
+        → IsRouted part after me app q request hops version owner first last (es ++ fs) (xs ++ vs) (ys ++ ws) answer
+    route_goes_on before at more first middle last es fs xs vs ys ws version2 owner2 answer same hs h r =
+        HopsOn hops version owner least to first middle last es fs xs vs ys ws version2 owner2 answer (sym e ∙ is) (hop_moves part before after app q request version2 owner2 me least to first middle es xs ys h)
+        (subst (λ (l : List ℕ). IsRouted part after me app q request l version2 owner2 middle last fs vs ws answer) hs
+        (subst (λ (a : Address). IsRouted part after me a q request more version2 owner2 middle last fs vs ws answer) same r))

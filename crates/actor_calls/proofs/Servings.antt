@@ -1,10 +1,11 @@
 -- Calls that were served, in each case.
-use Rattle.std.proofs.Common.{◌≡◌, ◌≢◌, ◌≤◌, refl, sym, subst, ℕ, List, [], ◌++◌, Option, Result, Ok, Err}
+use Rattle.std.proofs.Common.{◌≡◌, ◌≢◌, ◌≤◌, refl, sym, subst, inl, inr, ℕ, List, [], ◌++◌, Option, Some, Result, Ok, Err}
 use Rattle.std.proofs.lemmas.List.{append-nil}
 use Rattle.step_gate.specs.declared.gate.Spent.{Spent}
 use Rattle.actor_names.specs.declared.actor_key.ActorKey.{ActorKey}
 use Rattle.actor_names.specs.declared.member.Member.{Member}
 use Rattle.actor_names.specs.declared.address.Address.{Address}
+use Rattle.place_table.specs.declared.host.HostInfo.{HostInfo}
 use Rattle.part_model.specs.Receipts.{PartReply}
 use Rattle.part_model.specs.declared.event.Reply.TheVariants as replies
 use Rattle.http_edge.specs.declared.message.HttpRequest.{HttpRequest}
@@ -14,48 +15,50 @@ use Rattle.actors_api.specs.declared.refusal.ApiRefusal.TheVariants as refusals
 use Rattle.actors_api.specs.declared.command.ApiCommand.{ApiCommand}
 use Rattle.actors_api.specs.declared.command.ApiCommand.TheVariants as commands
 use Rattle.sidecar_node.specs.declared.node.SidecarNode.{SidecarNode}
+use Rattle.sidecar_node.specs.declared.node.Seats.{Seats}
 use Rattle.actors_api.specs.declared.refusal.ApiRefusal.{ApiRefusal}
 use Rattle.actors_api.specs.Commands.{command_of, ReadsCommand}
-use Rattle.sidecar_node.specs.Nodes.{host_of}
+use Rattle.sidecar_node.specs.Nodes.{host_of, SpentAt}
 use Rattle.sidecar_node.specs.Entries.{PartEntry, NodeEntry}
 use Rattle.sidecar_node.specs.Turns.{Said, Begins}
 use Rattle.exchanges.specs.Exchanges.{Exchange}
 use Rattle.actor_calls.specs.declared.invoke.Invoke.{Invoke}
 use Rattle.actor_calls.specs.declared.next.Next.{Next}
-use Rattle.actor_calls.specs.declared.next.Next.TheVariants.{Answered}
+use Rattle.actor_calls.specs.declared.next.Next.TheVariants.{Answered, Moves}
 use Rattle.actor_calls.specs.declared.served.Served.{Served}
 use Rattle.actor_calls.specs.declared.served.Served.TheVariants as served
 use Rattle.http_edge.specs.declared.error.EdgeError.{EdgeError}
 use Rattle.http_edge.specs.declared.error.EdgeError.TheVariants as edge
 use Rattle.actor_calls.specs.Outcomes.{refused, next_of, ended_answer, turn_answer}
 use Rattle.actor_calls.specs.Turns.{IsIdle, Follows, IsAsked}
+use Rattle.actor_calls.specs.Hops.{IsHop}
 use Rattle.actor_calls.specs.Serving.{GoesOn, IsInvoked, IsDone, FollowsRead, IsServed}
 
 pub idle : (now : ℕ) → IsIdle now now [] []
 idle now = record { now = refl; entries = refl; exchanges = refl }
 
-module _ (app : Address) (q : Invoke) (request : HttpRequest) where
+module _ (part : ℕ) (after : Seats) (app : Address) (q : Invoke) (request : HttpRequest) where
   -- a last reply that begins no turn
-  pub follows_other : (reply : PartReply) (now : ℕ) → ((call : ℕ) (chain : Option (List ℕ)) → reply ≢ replies.Begun call chain) → Follows app q request (Ok reply) now now [] [] (next_of reply)
+  pub follows_other : (reply : PartReply) (now : ℕ) → ((call : ℕ) (chain : Option (List ℕ)) → reply ≢ replies.Begun call chain) → Follows part after app q request (Ok reply) now now [] [] (next_of reply)
   follows_other (replies.Begun call chain) now h = absurd (h call chain refl)
   follows_other reply now h = (idle now, refl)
 
   -- the same, if the outcome goes by another name
-  pub follows_next : (reply : PartReply) (next : Next) (now : ℕ) → next ≡ next_of reply → ((call : ℕ) (chain : Option (List ℕ)) → reply ≢ replies.Begun call chain) → Follows app q request (Ok reply) now now [] [] next
-  follows_next reply next now e h = subst (λ (m : Next). Follows app q request (Ok reply) now now [] [] m) (sym e) (follows_other reply now h)
+  pub follows_next : (reply : PartReply) (next : Next) (now : ℕ) → next ≡ next_of reply → ((call : ℕ) (chain : Option (List ℕ)) → reply ≢ replies.Begun call chain) → Follows part after app q request (Ok reply) now now [] [] next
+  follows_next reply next now e h = subst (λ (m : Next). Follows part after app q request (Ok reply) now now [] [] m) (sym e) (follows_other reply now h)
 
   -- a beginning and what follows it
   pub asked_follows :
       (least : Option ℕ) (chain : Option (List ℕ)) (first middle last : ℕ) (said : Said) (es fs : List PartEntry) (xs : List Exchange) (next : Next)
-      → chain ≡ q.chain → first ≤ middle → Begins q.actor chain least middle es said → Follows app q request said middle last fs xs next → IsAsked app q request least first last (es ++ fs) xs next
-  asked_follows least chain first middle last said es fs xs next e later b f =
-      record { middle = middle; front = es; back = fs; said = said; entries = refl; later = later; begins = subst (λ (m : Option (List ℕ)). Begins q.actor m least middle es said) e b; follows = f }
+      → chain ≡ q.chain → first ≤ middle → Begins q.actor chain least middle es said → SpentAt part said after → Follows part after app q request said middle last fs xs next → IsAsked part after app q request least first last (es ++ fs) xs next
+  asked_follows least chain first middle last said es fs xs next e later b full f =
+      record { middle = middle; front = es; back = fs; said = said; entries = refl; later = later; begins = subst (λ (m : Option (List ℕ)). Begins q.actor m least middle es said) e b; full = full; follows = f }
 
   -- the gate took no further entry
   pub asked_spent :
       (least : Option ℕ) (chain : Option (List ℕ)) (first middle : ℕ) (spent : Spent) (es : List PartEntry)
-      → chain ≡ q.chain → first ≤ middle → Begins q.actor chain least middle es (Err spent) → IsAsked app q request least first middle es [] (Answered (refused refusals.Spent))
-  asked_spent least chain first middle spent es e later b =
+      → chain ≡ q.chain → first ≤ middle → Begins q.actor chain least middle es (Err spent) → SpentAt part (Err spent) after → IsAsked part after app q request least first middle es [] (Answered (refused refusals.Spent))
+  asked_spent least chain first middle spent es e later b full =
       record {
         middle = middle;
         front = es;
@@ -64,53 +67,90 @@ module _ (app : Address) (q : Invoke) (request : HttpRequest) where
         entries = sym (append-nil es);
         later = later;
         begins = subst (λ (m : Option (List ℕ)). Begins q.actor m least middle es (Err spent)) e b;
+        full = full;
         follows = (idle middle, refl);
       }
 
--- the first Ask and what follows it
-pub invoked :
-    (me host : Member) (at app : Address) (q : Invoke) (request : HttpRequest) (side : Side) (first middle last : ℕ) (es fs : List PartEntry) (xs vs ys : List Exchange) (next : Next) (answer : ApiReply)
-    → me ≡ host → at ≡ app → IsAsked app q request q.least first middle es xs next → GoesOn me at q request side next middle last fs vs ys answer
-    → IsInvoked host app q request side first last (es ++ fs) (xs ++ vs) ys answer
-invoked me host at app q request side first middle last es fs xs vs ys next answer same there a o =
-    record {
-      middle = middle;
-      front = es;
-      back = fs;
-      early = xs;
-      late = vs;
-      next = next;
-      entries = refl;
-      exchanges = refl;
-      asked = a;
-      goes_on = subst (λ (m : Member). GoesOn m app q request side next middle last fs vs ys answer) same (subst (λ (l : Address). GoesOn me l q request side next middle last fs vs ys answer) there o);
-    }
+-- a call that moves on: its part answered, so that nothing is said of the seats, and others may stand for them
+module _ (part : ℕ) (before after : Seats) (app : Address) (q : Invoke) (request : HttpRequest) (version : ℕ) (owner : HostInfo) where
+  moves_follows : (said : Said) (first last : ℕ) (es : List PartEntry) (xs : List Exchange) → Follows part before app q request said first last es xs (Moves version owner)
+      → SpentAt part said after × Follows part after app q request said first last es xs (Moves version owner)
+  moves_follows (Ok (replies.Begun call chain)) first last es xs f = let e = f.2 in absurd (let h : ⊥ = cc in h)
+  moves_follows (Ok reply) first last es xs f = (tt, f)
+  moves_follows (Err spent) first last es xs f = let e = f.1 in absurd (let h : ⊥ = cc in h)
+
+  pub asked_moves : (least : Option ℕ) (first last : ℕ) (es : List PartEntry) (xs : List Exchange) → IsAsked part before app q request least first last es xs (Moves version owner) → IsAsked part after app q request least first last es xs (Moves version owner)
+  asked_moves least first last es xs a =
+      let f = moves_follows a.said a.middle last a.back xs a.follows in
+      record { middle = a.middle; front = a.front; back = a.back; said = a.said; entries = a.entries; later = a.later; begins = a.begins; full = f.0; follows = f.1 }
+
+  pub hop_moves : (me : Member) (least : ℕ) (to : HostInfo) (first last : ℕ) (es : List PartEntry) (xs ys : List Exchange)
+      → IsHop part before me app q request least to first last es xs ys (Moves version owner) → IsHop part after me app q request least to first last es xs ys (Moves version owner)
+  hop_moves me least to first last es xs ys (inl h) = inl (h.0, h.1, asked_moves (Some least) first last es xs h.2)
+  hop_moves me least to first last es xs ys (inr h) = inr h
+
+module _ (part : ℕ) (after : Seats) (host : Member) (app : Address) (q : Invoke) (request : HttpRequest) (side : Side) where
+  -- the first Ask answered the call
+  pub invoked_answered : (first last : ℕ) (es : List PartEntry) (xs : List Exchange) (answer : ApiReply)
+      → IsAsked part after app q request q.least first last es xs (Answered answer) → IsInvoked part after host app q request side first last es xs [] answer
+  invoked_answered first last es xs answer a =
+      record {
+        middle = last;
+        front = es;
+        back = [];
+        early = xs;
+        late = [];
+        next = Answered answer;
+        entries = sym (append-nil es);
+        exchanges = sym (append-nil xs);
+        asked = a;
+        goes_on = (idle last, refl, refl);
+      }
+
+  -- the first Ask named another owner, and what followed
+  pub invoked_moves :
+      (before : Seats) (me : Member) (at : Address) (first middle last : ℕ) (es fs : List PartEntry) (xs vs ys : List Exchange) (version : ℕ) (owner : HostInfo) (answer : ApiReply)
+      → me ≡ host → at ≡ app → IsAsked part before app q request q.least first middle es xs (Moves version owner) → GoesOn part after me at q request side (Moves version owner) middle last fs vs ys answer
+      → IsInvoked part after host app q request side first last (es ++ fs) (xs ++ vs) ys answer
+  invoked_moves before me at first middle last es fs xs vs ys version owner answer same there a o =
+      record {
+        middle = middle;
+        front = es;
+        back = fs;
+        early = xs;
+        late = vs;
+        next = Moves version owner;
+        entries = refl;
+        exchanges = refl;
+        asked = asked_moves part before after app q request version owner q.least first middle es xs a;
+        goes_on = subst (λ (m : Member). GoesOn part after m app q request side (Moves version owner) middle last fs vs ys answer) same (subst (λ (l : Address). GoesOn part after me l q request side (Moves version owner) middle last fs vs ys answer) there o);
+      }
 
 -- ---- requests that were read
 
-module _ (node : SidecarNode) (app : Address) (side : Side) (request : HttpRequest) where
+module _ (node : SidecarNode) (after : Seats) (app : Address) (side : Side) (request : HttpRequest) where
   pub done : (now : ℕ) (what : Served) → IsDone now now [] [] [] what what
   done now what = record { now = refl; entries = refl; app = refl; peers = refl; is = refl }
 
   -- any other command than a call is handed back
   pub follows_command : (command : ApiCommand) (now : ℕ)
       → ((actor : ActorKey) (method : List ℕ) (chain : Option (List ℕ)) (least : Option ℕ) → command ≢ commands.Invoke actor method chain least)
-      → FollowsRead node app side request (Ok command) now now [] [] [] (served.Other command)
+      → FollowsRead node after app side request (Ok command) now now [] [] [] (served.Other command)
   follows_command (commands.Invoke actor method chain least) now h = absurd (h actor method chain least refl)
   follows_command command now h = done now (served.Other command)
 
   -- a request was read, and what followed
   pub served_by :
       (space : List ℕ) (first shown now last : ℕ) (read : Result ApiCommand ApiRefusal) (ns : List NodeEntry) (xs ys : List Exchange) (outcome : Served)
-      → space ≡ (host_of node).member.space → first ≤ now → shown ≡ now → ReadsCommand (command_of space side request now) read → FollowsRead node app side request read shown last ns xs ys outcome
-      → IsServed node app side request first last ns xs ys outcome
+      → space ≡ (host_of node).member.space → first ≤ now → shown ≡ now → ReadsCommand (command_of space side request now) read → FollowsRead node after app side request read shown last ns xs ys outcome
+      → IsServed node after app side request first last ns xs ys outcome
   served_by space first shown now last read ns xs ys outcome same later is reads follows =
       record {
         now = now;
         read = read;
         later = later;
         reads = subst (λ (s : List ℕ). ReadsCommand (command_of s side request now) read) same reads;
-        follows = subst (λ (n : ℕ). FollowsRead node app side request read n last ns xs ys outcome) is follows;
+        follows = subst (λ (n : ℕ). FollowsRead node after app side request read n last ns xs ys outcome) is follows;
       }
 
 -- the application gave no reply, and memory didn't run out

@@ -9,6 +9,7 @@ use Rattle.member_core.specs.Routes.{route_hop}
 use Rattle.http_edge.specs.declared.message.HttpRequest.{HttpRequest}
 use Rattle.actors_api.specs.declared.reply.ApiReply.{ApiReply}
 use Rattle.actors_api.specs.declared.refusal.ApiRefusal.{ApiRefusal}
+use Rattle.sidecar_node.specs.declared.node.Seats.{Seats}
 use Rattle.sidecar_node.specs.Entries.{PartEntry}
 use Rattle.exchanges.specs.Exchanges.{Exchange}
 use Rattle.exchanges.specs.Replies.{Got, place_at, IsHttpExchange}
@@ -25,27 +26,28 @@ pub record IsPeerAsked (request : HttpRequest) (least : ℕ) (owner : HostInfo) 
   pub exchange : IsHttpExchange (forward_text owner.address request least) (place_at owner.address) ys got
   pub reads : ReadsPeer got next
 
-module _ (me : Member) (app : Address) (q : Invoke) (request : HttpRequest) where
+-- `part` is the number of the actor's part, and `after` are the seats that the call left
+module _ (part : ℕ) (after : Seats) (me : Member) (app : Address) (q : Invoke) (request : HttpRequest) where
   -- one hop: an AskAt here if the owner is this member, or else one exchange with the owner's sidecar
   abbrev pub IsHop : ℕ → HostInfo → ℕ → ℕ → List PartEntry → List Exchange → List Exchange → Next → Type 0
   IsHop least owner first last es xs ys next =
-      ((same_member owner.member me ≡ true) × (ys ≡ []) × IsAsked app q request (Some least) first last es xs next)
+      ((same_member owner.member me ≡ true) × (ys ≡ []) × IsAsked part after app q request (Some least) first last es xs next)
       ⊎ ((same_member owner.member me ≡ false) × IsIdle first last es xs × IsPeerAsked request least owner ys next)
 
 -- The hops of a request from a route on that has made these: the route refuses the next one, or it is made; then the
 -- request is answered, or hops again.
-pub data IsRouted (me : Member) (app : Address) (q : Invoke) (request : HttpRequest) :
+pub data IsRouted (part : ℕ) (after : Seats) (me : Member) (app : Address) (q : Invoke) (request : HttpRequest) :
     List ℕ → ℕ → HostInfo → ℕ → ℕ → List PartEntry → List Exchange → List Exchange → ApiReply → Type 0 where
   Stops : (hops : List ℕ) (version : ℕ) (owner : HostInfo) (now : ℕ) (refusal : ApiRefusal)
       → hop_refusal (route_hop hops version owner).answer ≡ Some refusal
-      → IsRouted me app q request hops version owner now now [] [] [] (refused refusal)
+      → IsRouted part after me app q request hops version owner now now [] [] [] (refused refusal)
   Ends : (hops : List ℕ) (version : ℕ) (owner : HostInfo) (least : ℕ) (to : HostInfo) (first last : ℕ) (es : List PartEntry) (xs ys : List Exchange) (answer : ApiReply)
       → (route_hop hops version owner).answer ≡ Go to least
-      → IsHop me app q request least to first last es xs ys (Answered answer)
-      → IsRouted me app q request hops version owner first last es xs ys answer
+      → IsHop part after me app q request least to first last es xs ys (Answered answer)
+      → IsRouted part after me app q request hops version owner first last es xs ys answer
   HopsOn : (hops : List ℕ) (version : ℕ) (owner : HostInfo) (least : ℕ) (to : HostInfo) (first middle last : ℕ) (es fs : List PartEntry) (xs vs ys ws : List Exchange)
       (version2 : ℕ) (owner2 : HostInfo) (answer : ApiReply)
       → (route_hop hops version owner).answer ≡ Go to least
-      → IsHop me app q request least to first middle es xs ys (Moves version2 owner2)
-      → IsRouted me app q request (route_hop hops version owner).hops version2 owner2 middle last fs vs ws answer
-      → IsRouted me app q request hops version owner first last (es ++ fs) (xs ++ vs) (ys ++ ws) answer
+      → IsHop part after me app q request least to first middle es xs ys (Moves version2 owner2)
+      → IsRouted part after me app q request (route_hop hops version owner).hops version2 owner2 middle last fs vs ws answer
+      → IsRouted part after me app q request hops version owner first last (es ++ fs) (xs ++ vs) (ys ++ ws) answer

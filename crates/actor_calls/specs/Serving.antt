@@ -13,6 +13,7 @@ use Rattle.actors_api.specs.declared.command.ApiCommand.{ApiCommand}
 use Rattle.actors_api.specs.declared.command.ApiCommand.TheVariants as commands
 use Rattle.actors_api.specs.Commands.{command_of, ReadsCommand}
 use Rattle.sidecar_node.specs.declared.node.SidecarNode.{SidecarNode}
+use Rattle.sidecar_node.specs.declared.node.Seats.{Seats}
 use Rattle.sidecar_node.specs.Entries.{PartEntry, NodeEntry, at_part}
 use Rattle.sidecar_node.specs.Nodes.{host_of, part_at}
 use Rattle.exchanges.specs.Exchanges.{Exchange}
@@ -24,12 +25,13 @@ use Rattle.actor_calls.specs.declared.served.Served.TheVariants as served
 use Rattle.actor_calls.specs.Turns.{IsIdle, IsAsked}
 use Rattle.actor_calls.specs.Hops.{IsRouted}
 
-module _ (me : Member) (app : Address) (q : Invoke) (request : HttpRequest) where
+-- In what follows `after` are the seats that the call left, and `part` is the number of the actor's part.
+module _ (part : ℕ) (after : Seats) (me : Member) (app : Address) (q : Invoke) (request : HttpRequest) where
   -- What follows the first Ask. If the actor belongs to another member, a peer is told so, and a caller's request hops.
   abbrev pub GoesOn : Side → Next → ℕ → ℕ → List PartEntry → List Exchange → List Exchange → ApiReply → Type 0
   GoesOn side (Answered reply) first last es xs ys answer = IsIdle first last es xs × (ys ≡ []) × (answer ≡ reply)
   GoesOn Peer (Moves version owner) first last es xs ys answer = IsIdle first last es xs × (ys ≡ []) × (answer ≡ replies.Elsewhere version owner)
-  GoesOn Caller (Moves version owner) first last es xs ys answer = IsRouted me app q request [] version owner first last es xs ys answer
+  GoesOn Caller (Moves version owner) first last es xs ys answer = IsRouted part after me app q request [] version owner first last es xs ys answer
 
   -- a served call
   pub record IsInvoked (side : Side) (first last : ℕ) (es : List PartEntry) (xs ys : List Exchange) (answer : ApiReply) : Type 0 where
@@ -41,7 +43,7 @@ module _ (me : Member) (app : Address) (q : Invoke) (request : HttpRequest) wher
     pub next : Next
     pub entries : es ≡ front ++ back
     pub exchanges : xs ≡ early ++ late
-    pub asked : IsAsked app q request q.least first middle front early next
+    pub asked : IsAsked part after app q request q.least first middle front early next
     pub goes_on : GoesOn side next middle last back late ys answer
 
 -- ---- requests that are read first; `ns` are the entries on all gates of the node
@@ -54,13 +56,13 @@ pub record IsDone (first last : ℕ) (ns : List NodeEntry) (xs ys : List Exchang
   pub peers : ys ≡ []
   pub is : outcome ≡ what
 
-module _ (node : SidecarNode) (app : Address) (side : Side) (request : HttpRequest) where
+module _ (node : SidecarNode) (after : Seats) (app : Address) (side : Side) (request : HttpRequest) where
   -- a call was served, with entries on the part of its actor alone
   pub record IsCallServed (q : Invoke) (first last : ℕ) (ns : List NodeEntry) (xs ys : List Exchange) (outcome : Served) : Type 0 where
     pub es : List PartEntry
     pub answer : ApiReply
     pub entries : ns ≡ at_part (part_at node q.actor) es
-    pub invoked : IsInvoked (host_of node).member app q request side first last es xs ys answer
+    pub invoked : IsInvoked (part_at node q.actor) after (host_of node).member app q request side first last es xs ys answer
     pub is : outcome ≡ served.Answered answer
 
   -- what follows the reading of a request: a refusal is its answer, and any other command than a call is handed back

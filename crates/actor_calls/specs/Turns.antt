@@ -6,8 +6,10 @@ use Rattle.part_model.specs.declared.event.Reply.TheVariants as replies
 use Rattle.http_edge.specs.declared.message.HttpRequest.{HttpRequest}
 use Rattle.actors_api.specs.declared.reply.ApiReply.{ApiReply}
 use Rattle.actors_api.specs.declared.refusal.ApiRefusal.TheVariants as refusals
+use Rattle.sidecar_node.specs.declared.node.Seats.{Seats}
 use Rattle.sidecar_node.specs.Entries.{PartEntry}
 use Rattle.sidecar_node.specs.Turns.{Said, Begins, Ends}
+use Rattle.sidecar_node.specs.Nodes.{SpentAt}
 use Rattle.exchanges.specs.Exchanges.{Exchange}
 use Rattle.exchanges.specs.Replies.{Got, place_at, IsHttpExchange}
 use Rattle.actor_calls.specs.declared.invoke.Invoke.{Invoke}
@@ -23,8 +25,9 @@ pub record IsIdle (first last : ℕ) (es : List PartEntry) (xs : List Exchange) 
   pub exchanges : xs ≡ []
 
 -- In what follows `first` and `last` are the moments that the clock showed before and after, `es` are the entries on the
--- part of the actor and `xs` the exchanges with the application.
-module _ (app : Address) (q : Invoke) (request : HttpRequest) where
+-- part of the actor, whose number is `part`, and `xs` the exchanges with the application; `after` are the seats that the
+-- call left. If the part's gate took no entry, nothing follows, and these seats have seen its full history (`SpentAt`).
+module _ (part : ℕ) (after : Seats) (app : Address) (q : Invoke) (request : HttpRequest) where
   -- a turn that began: one exchange with the application, under the chain that the turn was told, and one End
   pub record IsTurn (call : ℕ) (chain : Option (List ℕ)) (first last : ℕ) (es : List PartEntry) (xs : List Exchange) (answer : ApiReply) : Type 0 where
     pub got : Got
@@ -32,6 +35,7 @@ module _ (app : Address) (q : Invoke) (request : HttpRequest) where
     pub exchange : IsHttpExchange (call_text app q.actor q.method chain request) (place_at app) xs got
     pub later : first ≤ last
     pub ends : Ends call last es said
+    pub full : SpentAt part said after
     pub answered : answer ≡ turn_answer said got
 
   -- what follows the last reply of the beginning: a turn, or nothing
@@ -49,4 +53,5 @@ module _ (app : Address) (q : Invoke) (request : HttpRequest) where
     pub entries : es ≡ front ++ back
     pub later : first ≤ middle
     pub begins : Begins q.actor q.chain least middle front said
+    pub full : SpentAt part said after
     pub follows : Follows said middle last back xs next

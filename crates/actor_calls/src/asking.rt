@@ -36,7 +36,7 @@ fn run_turn<R: Wait, L: Dial, K: Clock>(
     ensures seats { IsSeatsOf node.now result.0 }
     ensures turn { (es : List PartEntry) × (xs : List Exchange) × ActsAt (part_at node.now invoke.now.actor) es seats result.0
         × Dialling xs (L.dialled links.old.app) (L.dialled links.new.app) (L.dial_faults links.old.app) (L.dial_faults links.new.app)
-        × IsTurn links.old.app_at invoke.now request.now call chain (K.shown clock.old) (K.shown clock.new) es xs result.1 }
+        × IsTurn (part_at node.now invoke.now.actor) result.0 links.old.app_at invoke.now request.now call chain (K.shown clock.old) (K.shown clock.new) es xs result.1 }
     ensures places { (links.new.app_at ≡ links.old.app_at) × (links.new.store_at ≡ links.old.store_at) }
     ensures others { (links.new.peers ≡ links.old.peers) × (links.new.store ≡ links.old.store) }
 {
@@ -61,7 +61,7 @@ fn follow<R: Wait, L: Dial, K: Clock>(
     ensures seats { IsSeatsOf node.now result.0 }
     ensures follows { (es : List PartEntry) × (xs : List Exchange) × ActsAt (part_at node.now invoke.now.actor) es seats result.0
         × Dialling xs (L.dialled links.old.app) (L.dialled links.new.app) (L.dial_faults links.old.app) (L.dial_faults links.new.app)
-        × Follows links.old.app_at invoke.now request.now (Ok reply) (K.shown clock.old) (K.shown clock.new) es xs result.1 }
+        × Follows (part_at node.now invoke.now.actor) result.0 links.old.app_at invoke.now request.now (Ok reply) (K.shown clock.old) (K.shown clock.new) es xs result.1 }
     ensures places { (links.new.app_at ≡ links.old.app_at) × (links.new.store_at ≡ links.old.store_at) }
     ensures others { (links.new.peers ≡ links.old.peers) × (links.new.store ≡ links.old.store) }
 {
@@ -92,7 +92,7 @@ pub(crate) fn ask_here<R: Wait, L: Dial, K: Clock>(
     ensures seats { IsSeatsOf node.now result.0 }
     ensures asked { (es : List PartEntry) × (xs : List Exchange) × ActsAt (part_at node.now invoke.now.actor) es seats result.0
         × Dialling xs (L.dialled links.old.app) (L.dialled links.new.app) (L.dial_faults links.old.app) (L.dial_faults links.new.app)
-        × IsAsked links.old.app_at invoke.now request.now least (K.shown clock.old) (K.shown clock.new) es xs result.1 }
+        × IsAsked (part_at node.now invoke.now.actor) result.0 links.old.app_at invoke.now request.now least (K.shown clock.old) (K.shown clock.new) es xs result.1 }
     ensures places { (links.new.app_at ≡ links.old.app_at) × (links.new.store_at ≡ links.old.store_at) }
     ensures others { (links.new.peers ≡ links.old.peers) × (links.new.store ≡ links.old.store) }
 {

@@ -39,7 +39,7 @@ fn hop_once<R: Wait, L: Dial, K: Clock>(
     ensures hop { (es : List PartEntry) × (xs : List Exchange) × (ys : List Exchange) × ActsAt (part_at node.now invoke.now.actor) es seats result.0
         × Dialling xs (L.dialled links.old.app) (L.dialled links.new.app) (L.dial_faults links.old.app) (L.dial_faults links.new.app)
         × Dialling ys (L.dialled links.old.peers) (L.dialled links.new.peers) (L.dial_faults links.old.peers) (L.dial_faults links.new.peers)
-        × IsHop me.now links.old.app_at invoke.now request.now least owner.now (K.shown clock.old) (K.shown clock.new) es xs ys result.1 }
+        × IsHop (part_at node.now invoke.now.actor) result.0 me.now links.old.app_at invoke.now request.now least owner.now (K.shown clock.old) (K.shown clock.new) es xs ys result.1 }
     ensures places { (links.new.app_at ≡ links.old.app_at) × (links.new.store_at ≡ links.old.store_at) }
     ensures store { links.new.store ≡ links.old.store }
 {
@@ -83,7 +83,7 @@ pub(crate) fn hop_on<R: Wait, L: Dial, K: Clock>(
     ensures routed { (es : List PartEntry) × (xs : List Exchange) × (ys : List Exchange) × ActsAt (part_at node.now invoke.now.actor) es seats result.0
         × Dialling xs (L.dialled links.old.app) (L.dialled links.new.app) (L.dial_faults links.old.app) (L.dial_faults links.new.app)
         × Dialling ys (L.dialled links.old.peers) (L.dialled links.new.peers) (L.dial_faults links.old.peers) (L.dial_faults links.new.peers)
-        × IsRouted me.now links.old.app_at invoke.now request.now route version owner (K.shown clock.old) (K.shown clock.new) es xs ys result.1 }
+        × IsRouted (part_at node.now invoke.now.actor) result.0 me.now links.old.app_at invoke.now request.now route version owner (K.shown clock.old) (K.shown clock.new) es xs ys result.1 }
     ensures places { (links.new.app_at ≡ links.old.app_at) × (links.new.store_at ≡ links.old.store_at) }
     ensures store { links.new.store ≡ links.old.store }
 {

@@ -3,6 +3,7 @@ ghost use Rattle.std.specs.Prelude.{◌≡◌, List};
 ghost use Rattle.sidecar_node.specs.Entries.{PartEntry};
 ghost use Rattle.sidecar_node.specs.Nodes.{part_at, host_of, IsSeatsOf, ActsAt};
 ghost use Rattle.exchanges.specs.Exchanges.{Exchange, Dialling};
+ghost use Rattle.actor_calls.specs.declared.next.Next.TheVariants.{Moves};
 ghost use Rattle.actor_calls.specs.Serving.{GoesOn, IsInvoked};
 
 use crate::asking::ask_here;
@@ -15,12 +16,13 @@ use actors_api::{ApiReply, Side};
 use exchanges::Links;
 use http_edge::HttpRequest;
 use member_core::Route;
+use place_table::HostInfo;
 use sidecar_node::{Seats, SidecarNode};
 use std::alloc::Global;
 use std::sync::Wait;
 
-// What follows the first Ask.
-fn go_on<R: Wait, L: Dial, K: Clock>(
+// What follows if the actor belongs to another member.
+fn move_on<R: Wait, L: Dial, K: Clock>(
     rt: &R,
     alloc: Global,
     node: &SidecarNode,
@@ -29,7 +31,8 @@ fn go_on<R: Wait, L: Dial, K: Clock>(
     side: Side,
     invoke: &Invoke,
     request: &HttpRequest,
-    next: Next,
+    version: u64,
+    owner: HostInfo,
     links: &mut Links<L>,
     clock: &mut K,
 ) -> (Seats, ApiReply)
@@ -38,29 +41,26 @@ fn go_on<R: Wait, L: Dial, K: Clock>(
     ensures goes_on { (es : List PartEntry) × (xs : List Exchange) × (ys : List Exchange) × ActsAt (part_at node.now invoke.now.actor) es seats result.0
         × Dialling xs (L.dialled links.old.app) (L.dialled links.new.app) (L.dial_faults links.old.app) (L.dial_faults links.new.app)
         × Dialling ys (L.dialled links.old.peers) (L.dialled links.new.peers) (L.dial_faults links.old.peers) (L.dial_faults links.new.peers)
-        × GoesOn me.now links.old.app_at invoke.now request.now side next (K.shown clock.old) (K.shown clock.new) es xs ys result.1 }
+        × GoesOn (part_at node.now invoke.now.actor) result.0 me.now links.old.app_at invoke.now request.now side (Moves version owner) (K.shown clock.old) (K.shown clock.new) es xs ys result.1 }
     ensures places { (links.new.app_at ≡ links.old.app_at) × (links.new.store_at ≡ links.old.store_at) }
     ensures store { links.new.store ≡ links.old.store }
 {
-    match next {
-        Next::Answered { reply } => (seats, reply),
-        Next::Moves { version, owner } => match side {
-            Side::Peer => (seats, ApiReply::Elsewhere { version, owner }),
-            Side::Caller => hop_on(
-                rt,
-                alloc,
-                node,
-                seats,
-                me,
-                invoke,
-                request,
-                Route::start(),
-                version,
-                owner,
-                links,
-                clock,
-            ),
-        },
+    match side {
+        Side::Peer => (seats, ApiReply::Elsewhere { version, owner }),
+        Side::Caller => hop_on(
+            rt,
+            alloc,
+            node,
+            seats,
+            me,
+            invoke,
+            request,
+            Route::start(),
+            version,
+            owner,
+            links,
+            clock,
+        ),
     }
 }
 
@@ -82,24 +82,28 @@ pub fn serve_invoke<R: Wait, L: Dial, K: Clock>(
     ensures invoked { (es : List PartEntry) × (xs : List Exchange) × (ys : List Exchange) × ActsAt (part_at node.now invoke.now.actor) es seats result.0
         × Dialling xs (L.dialled links.old.app) (L.dialled links.new.app) (L.dial_faults links.old.app) (L.dial_faults links.new.app)
         × Dialling ys (L.dialled links.old.peers) (L.dialled links.new.peers) (L.dial_faults links.old.peers) (L.dial_faults links.new.peers)
-        × IsInvoked (host_of node.now).member links.old.app_at invoke.now request.now side (K.shown clock.old) (K.shown clock.new) es xs ys result.1 }
+        × IsInvoked (part_at node.now invoke.now.actor) result.0 (host_of node.now).member links.old.app_at invoke.now request.now side (K.shown clock.old) (K.shown clock.new) es xs ys result.1 }
     ensures places { (links.new.app_at ≡ links.old.app_at) × (links.new.store_at ≡ links.old.store_at) }
     ensures store { links.new.store ≡ links.old.store }
 {
     let host = node.host();
     let least = invoke.least;
     let (seats, next) = ask_here(rt, alloc, node, seats, invoke, request, least, links, clock);
-    go_on(
-        rt,
-        alloc,
-        node,
-        seats,
-        &host.member,
-        side,
-        invoke,
-        request,
-        next,
-        links,
-        clock,
-    )
+    match next {
+        Next::Answered { reply } => (seats, reply),
+        Next::Moves { version, owner } => move_on(
+            rt,
+            alloc,
+            node,
+            seats,
+            &host.member,
+            side,
+            invoke,
+            request,
+            version,
+            owner,
+            links,
+            clock,
+        ),
+    }
 }

@@ -3,17 +3,19 @@ ghost use Rattle.std.specs.Prelude.{◌≡◌, ℕ, List};
 ghost use Rattle.actor_names.specs.declared.member.Member.{Member};
 ghost use Rattle.actor_names.specs.declared.address.Address.{Address};
 ghost use Rattle.http_edge.specs.declared.message.HttpRequest.{HttpRequest};
+ghost use Rattle.http_edge.specs.declared.message.HttpResponse.{HttpResponse};
 ghost use Rattle.actors_api.specs.declared.reply.ApiReply.{ApiReply};
 ghost use Rattle.actors_api.specs.declared.side.Side.{Side};
 ghost use Rattle.actors_api.specs.declared.side.Side.TheVariants.{Peer};
 ghost use Rattle.actors_api.specs.Responses.{response_of};
 ghost use Rattle.app_texts.specs.PeerReplies.{reply_reading};
+ghost use Rattle.sidecar_node.specs.declared.node.Seats.{Seats};
 ghost use Rattle.sidecar_node.specs.Entries.{PartEntry};
 ghost use Rattle.exchanges.specs.Exchanges.{Exchange};
 ghost use Rattle.actor_calls.specs.declared.invoke.Invoke.{Invoke};
 ghost use Rattle.actor_calls.specs.PeerReads.{CanBeTold, told_to_peer};
 ghost use Rattle.actor_calls.specs.Serving.{IsInvoked};
-ghost use Rattle.actor_calls.specs.Causes.{AreCallEntries, AnswerHasCause};
+ghost use Rattle.actor_calls.specs.Causes.{AreCallEntries, AnswerHasCause, IsCompleted, IsItsAnswer};
 
 use actor_names::{address_law, member_law};
 
@@ -26,11 +28,15 @@ pub fn peer_law()
     member_law();
 }
 
-/// The entries of a served call are Asks, Polls and Ends, and no others; each Ask is of its actor, under the chain that
-/// the request told. A refusal that answers it has its cause in this call.
+/// What the relation of a served call guarantees. Its entries are Asks, Polls and Ends, and no others; each Ask is of its
+/// actor, under the chain that the request told. Its answer has its cause in this call, and it has no answers but a reply, an
+/// owner and a refusal. If the application's reply was read without a fault and the End of its turn was answered Ended, the
+/// call is answered with this reply, unless memory ran out.
 pub fn call_law()
-    ensures entries { (me : Member) (app : Address) (q : Invoke) (request : HttpRequest) (side : Side) (first last : ℕ) (es : List PartEntry) (xs ys : List Exchange) (answer : ApiReply)
-        → IsInvoked me app q request side first last es xs ys answer → AreCallEntries q es }
-    ensures causes { (me : Member) (app : Address) (q : Invoke) (request : HttpRequest) (side : Side) (first last : ℕ) (es : List PartEntry) (xs ys : List Exchange) (answer : ApiReply)
-        → IsInvoked me app q request side first last es xs ys answer → AnswerHasCause es xs ys answer }
+    ensures entries { (part : ℕ) (after : Seats) (me : Member) (app : Address) (q : Invoke) (request : HttpRequest) (side : Side) (first last : ℕ) (es : List PartEntry) (xs ys : List Exchange) (answer : ApiReply)
+        → IsInvoked part after me app q request side first last es xs ys answer → AreCallEntries q es }
+    ensures causes { (part : ℕ) (after : Seats) (me : Member) (app : Address) (q : Invoke) (request : HttpRequest) (side : Side) (first last : ℕ) (es : List PartEntry) (xs ys : List Exchange) (answer : ApiReply)
+        → IsInvoked part after me app q request side first last es xs ys answer → AnswerHasCause part after es xs ys answer }
+    ensures completes { (part : ℕ) (after : Seats) (me : Member) (app : Address) (q : Invoke) (request : HttpRequest) (side : Side) (first last : ℕ) (es : List PartEntry) (xs ys : List Exchange) (answer : ApiReply)
+        → IsInvoked part after me app q request side first last es xs ys answer → (reply : HttpResponse) → IsCompleted es xs reply → IsItsAnswer reply answer }
 {}

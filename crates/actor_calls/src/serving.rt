@@ -33,7 +33,7 @@ fn serve_command<R: Wait, L: Dial, K: Clock>(
     ensures follows { (ns : List NodeEntry) × (xs : List Exchange) × (ys : List Exchange) × Acts ns seats result.0
         × Dialling xs (L.dialled links.old.app) (L.dialled links.new.app) (L.dial_faults links.old.app) (L.dial_faults links.new.app)
         × Dialling ys (L.dialled links.old.peers) (L.dialled links.new.peers) (L.dial_faults links.old.peers) (L.dial_faults links.new.peers)
-        × FollowsRead node.now links.old.app_at side request.now (Ok command) (K.shown clock.old) (K.shown clock.new) ns xs ys result.1 }
+        × FollowsRead node.now result.0 links.old.app_at side request.now (Ok command) (K.shown clock.old) (K.shown clock.new) ns xs ys result.1 }
     ensures places { (links.new.app_at ≡ links.old.app_at) × (links.new.store_at ≡ links.old.store_at) }
     ensures store { links.new.store ≡ links.old.store }
 {
@@ -76,7 +76,7 @@ pub fn serve_call<R: Wait, L: Dial, K: Clock>(
     ensures served { (ns : List NodeEntry) × (xs : List Exchange) × (ys : List Exchange) × Acts ns seats result.0
         × Dialling xs (L.dialled links.old.app) (L.dialled links.new.app) (L.dial_faults links.old.app) (L.dial_faults links.new.app)
         × Dialling ys (L.dialled links.old.peers) (L.dialled links.new.peers) (L.dial_faults links.old.peers) (L.dial_faults links.new.peers)
-        × IsServed node.now links.old.app_at side request.now (K.shown clock.old) (K.shown clock.new) ns xs ys result.1 }
+        × IsServed node.now result.0 links.old.app_at side request.now (K.shown clock.old) (K.shown clock.new) ns xs ys result.1 }
     ensures places { (links.new.app_at ≡ links.old.app_at) × (links.new.store_at ≡ links.old.store_at) }
     ensures store { links.new.store ≡ links.old.store }
 {

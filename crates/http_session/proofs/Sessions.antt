@@ -1,5 +1,5 @@
 -- The requests of a session add up.
-use Rattle.std.proofs.Common.{◌≡◌, ◌<◌, ◌≤◌, ◌+◌, ◌^◌, refl, sym, ap, subst, ◌∙◌, inl, inr, ℕ, true, false, List, [], ◌∷◌, ◌++◌, length, append_assoc, length-append, arith, Option, Some, None, Result, Ok, Err}
+use Rattle.std.proofs.Common.{◌≡◌, ◌⊎◌, ◌<◌, ◌≤◌, ◌+◌, ◌^◌, refl, sym, ap, subst, ◌∙◌, inl, inr, ℕ, true, false, List, [], ◌∷◌, ◌++◌, length, append_assoc, length-append, arith, Option, Some, None, Result, Ok, Err}
 use Rattle.std.proofs.lemmas.List.{append-nil}
 use Rattle.lists_and_limits.specs.declared.memory.OutOfMemory.{OutOfMemory}
 use Rattle.actor_ports.specs.declared.session.SessionEnd.{SessionEnd}
@@ -9,12 +9,12 @@ use Rattle.http_edge.specs.declared.message.HttpRequest.{HttpRequest}
 use Rattle.http_edge.specs.declared.message.HttpResponse.{HttpResponse}
 use Rattle.http_edge.specs.declared.error.EdgeError.{EdgeError}
 use Rattle.http_edge.specs.declared.error.EdgeError.TheVariants as edge
-use Rattle.http_edge.specs.Carry.{Carried, Over, AtEnd}
+use Rattle.http_edge.specs.Carry.{Carried, Over, AtEnd, nothing}
 use Rattle.http_edge.specs.Requests.{ReadsNext, ReaderState, EdgeCause}
 use Rattle.http_edge.specs.Texts.{WritesText}
 use Rattle.http_edge.proofs.Carried.{over_nothing, over_then, told_along}
-use Rattle.http_session.specs.Rounds.{Round, texts_of, answers_of, answer_text, GoOn, IsRound, AreRounds, Turns}
-use Rattle.http_session.specs.Sessions.{HasNoReading, IsRefusal, Went, IsCut, IsSession, SessionCause, cut_end, EndsUnread}
+use Rattle.http_session.specs.Rounds.{Round, texts_of, answers_of, answer_text, refusal_text, GoOn, IsRound, AreRounds, Turns}
+use Rattle.http_session.specs.Sessions.{HasNoReading, IsRefusal, Went, IsCut, IsSession, SessionCause, cut_end, refused_end, EndsUnread}
 
 -- ---- the end of the input stays where bytes are written
 
@@ -106,11 +106,9 @@ module _ {S : Type 0} (answers : S → HttpRequest → Result HttpResponse OutOf
         )
 
     -- the reader answered an error
-    widened : (f0 f1 f2 : ℕ) (response : Option HttpResponse) (front : List ℕ) → f0 ≤ f1 → IsRefusal f1 f2 response front → IsRefusal f0 f2 response front
-    widened f0 f1 f2 None front up h = h
-    widened f0 f1 f2 (Some response) front up (inl h) = inl h
-    widened f0 f1 f2 (Some response) front up (inr (inl h)) = inr (inl h)
-    widened f0 f1 f2 (Some response) front up (inr (inr h)) = inr (inr (h.0, (let k = h.1 in omega arith)))
+    widened : (f0 f1 f2 : ℕ) (said : Option HttpResponse) (front : List ℕ) → f0 ≤ f1 → IsRefusal f1 f2 said front → IsRefusal f0 f2 said front
+    widened f0 f1 f2 said front up (inl h) = inl h
+    widened f0 f1 f2 said front up (inr h) = inr (h.0, (let k = h.1 in omega arith))
 
     refused : (f0 f1 f2 : ℕ) (t3 : Option Traffic) (error : EdgeError) (end : SessionEnd) → f0 ≤ f1 → (r : ReadsNext reader.kept new.kept t1 t2 (Err error)) → HasNoReading (reader.kept ++ r.0) t1 t2 error
         → (front : List ℕ) × Over t2 t3 (record { read = []; written = front }) × IsRefusal f1 f2 (refusal_of error) front × (end ≡ ends.Malformed n)
@@ -130,6 +128,26 @@ module _ {S : Type 0} (answers : S → HttpRequest → Result HttpResponse OutOf
           w.3 ∙ ap (λ (k : ℕ). ends.Malformed k) p.count,
         ))
 
+    -- memory ran out for the response
+    silent : (f0 f1 f2 : ℕ) (t3 : Option Traffic) (end : SessionEnd) (got : List ℕ) → Over t1 t2 (record { read = got; written = [] }) → Over t2 t3 nothing → end ≡ ends.OutOfMemory n
+        → IsSession answers refusal_of s0 s1 t0 t3 f0 f2 end
+    silent f0 f1 f2 t3 end got r o is =
+        let went = read_on s0 s1 t0 t1 t2 p.rounds reader.kept got p.went r in
+        let over = wrote_over s0 s1 t0 t2 t3 p.rounds (reader.kept ++ got) [] went o in
+        subst (λ (e : SessionEnd). IsSession answers refusal_of s0 s1 t0 t3 f0 f2 e) (sym is)
+        (inl (
+          p.rounds,
+          reader.kept ++ got,
+          record { each = went.each; over = subst (λ (w : List ℕ). Over t0 t3 (record { read = texts_of p.rounds ++ (reader.kept ++ got); written = w })) (append-nil (answers_of p.rounds)) over },
+          (p.count, p.go_on),
+        ))
+
+    unread : (f0 f1 f2 : ℕ) (t3 : Option Traffic) (error : EdgeError) (end : SessionEnd) → f0 ≤ f1 → (r : ReadsNext reader.kept new.kept t1 t2 (Err error)) → HasNoReading (reader.kept ++ r.0) t1 t2 error
+        → ((front : List ℕ) × Over t2 t3 (record { read = []; written = front }) × IsRefusal f1 f2 (refusal_of error) front × (end ≡ ends.Malformed n)) ⊎ (Over t2 t3 nothing × (end ≡ ends.OutOfMemory n))
+        → IsSession answers refusal_of s0 s1 t0 t3 f0 f2 end
+    unread f0 f1 f2 t3 error end up r none (inl w) = refused f0 f1 f2 t3 error end up r none w
+    unread f0 f1 f2 t3 error end up r none (inr w) = silent f0 f1 f2 t3 end r.0 r.1 w.0 w.1
+
     pub ends_unread : (f0 f1 f2 : ℕ) (t3 : Option Traffic) (error : EdgeError) (end : SessionEnd) → f0 ≤ f1 → ReadsNext reader.kept new.kept t1 t2 (Err error)
         → EndsUnread (refusal_of error) error n f1 f2 t2 t3 end → IsSession answers refusal_of s0 s1 t0 t3 f0 f2 end
     ends_unread f0 f1 f2 t3 edge.ConnFault end up r u =
@@ -140,7 +158,7 @@ module _ {S : Type 0} (answers : S → HttpRequest → Result HttpResponse OutOf
         subst (λ (t : Option Traffic). IsSession answers refusal_of s0 s1 t0 t f0 f2 end) (sym u.0)
         (subst (λ (e : SessionEnd). IsSession answers refusal_of s0 s1 t0 t2 f0 f2 e) (sym u.1)
         (inl (p.rounds, reader.kept ++ r.0, read_on s0 s1 t0 t1 t2 p.rounds reader.kept r.0 p.went r.1, (p.count, p.go_on))))
-    ends_unread f0 f1 f2 t3 error end up r u = refused f0 f1 f2 t3 error end up r r.2 u
+    ends_unread f0 f1 f2 t3 error end up r u = unread f0 f1 f2 t3 error end up r r.2 u
 
     -- a request was read, and given to the server
     module _ (q : HttpRequest) (r : ReadsNext reader.kept new.kept t1 t2 (Ok (Some q))) (s2 : S) (t3 : Option Traffic) where
@@ -197,21 +215,17 @@ module _ {S : Type 0} (answers : S → HttpRequest → Result HttpResponse OutOf
 
 -- ---- what a write did
 
-pub refusal_written : {T : Type 0} (f0 f1 : ℕ) (t0 t1 : Option Traffic) (response : HttpResponse) (written : Result T EdgeError)
-    → WritesText t0 t1 (answer_text true response) written → (written ≡ Err edge.ConnFault → f0 < f1)
-    → (front : List ℕ) × Over t0 t1 (record { read = []; written = front }) × IsRefusal f0 f1 (Some response) front
-refusal_written f0 f1 t0 t1 response (Ok x) w cause = (answer_text true response, w, inl refl)
-refusal_written f0 f1 t0 t1 response (Err edge.ConnFault) w cause = (w.0, w.2, inr (inr (w.1, cause refl)))
-refusal_written f0 f1 t0 t1 response (Err edge.OutOfMemory) w cause = ([], w, inr (inl refl))
-refusal_written f0 f1 t0 t1 response (Err error) w cause = absurd w
+pub refusal_written : (f0 f1 n : ℕ) (t0 t1 : Option Traffic) (said : Option HttpResponse) (written : Result (Unit {0}) EdgeError)
+    → WritesText t0 t1 (refusal_text said) written → (written ≡ Err edge.ConnFault → f0 < f1)
+    → ((front : List ℕ) × Over t0 t1 (record { read = []; written = front }) × IsRefusal f0 f1 said front × (refused_end written n ≡ ends.Malformed n)) ⊎ (Over t0 t1 nothing × (refused_end written n ≡ ends.OutOfMemory n))
+refusal_written f0 f1 n t0 t1 said (Ok x) w cause = inl (refusal_text said, w, inl refl, refl)
+refusal_written f0 f1 n t0 t1 said (Err edge.ConnFault) w cause = inl (w.0, w.2, inr (w.1, cause refl), refl)
+refusal_written f0 f1 n t0 t1 said (Err edge.OutOfMemory) w cause = inr (w, refl)
+refusal_written f0 f1 n t0 t1 said (Err error) w cause = absurd w
 
-silent : (f0 f1 : ℕ) (response : Option HttpResponse) → IsRefusal f0 f1 response []
-silent f0 f1 None = refl
-silent f0 f1 (Some response) = inr (inl refl)
-
--- nothing was written
-pub refusal_silent : (f0 f1 : ℕ) (t : Option Traffic) (response : Option HttpResponse) → (front : List ℕ) × Over t t (record { read = []; written = front }) × IsRefusal f0 f1 response front
-refusal_silent f0 f1 t response = ([], over_nothing t, silent f0 f1 response)
+-- nothing was to be written
+pub refusal_none : (said : Option HttpResponse) (t : Option Traffic) → None ≡ said → Over t t (record { read = []; written = refusal_text said })
+refusal_none said t e = subst (λ (r : Option HttpResponse). Over t t (record { read = []; written = refusal_text r })) e (over_nothing t)
 
 pub turn_written : {S : Type 0} (answers : S → HttpRequest → Result HttpResponse OutOfMemory → S → Type 0) (s t : S) (q : HttpRequest) (t0 t1 : Option Traffic) (response : HttpResponse) (written : Result (Unit {0}) EdgeError)
     → answers s q (Ok response) t → WritesText t0 t1 (answer_text q.close response) written → Turns answers s t q t0 t1 written
@@ -249,13 +263,16 @@ write_up f0 f1 (Err error) c = c
 pub write_fault : (f0 f1 : ℕ) (written : Result (Unit {0}) EdgeError) → WriteCause f0 f1 written → written ≡ Err edge.ConnFault → f0 < f1
 write_fault f0 f1 written c e = subst (λ (w : Result (Unit {0}) EdgeError). WriteCause f0 f1 w) e c
 
-pub unread_other : (said : Option HttpResponse) (error : EdgeError) (n f0 f1 : ℕ) (t0 t1 : Option Traffic) (end : SessionEnd)
-    → (error ≡ edge.ConnFault → ⊥) → (error ≡ edge.OutOfMemory → ⊥)
-    → (front : List ℕ) × Over t0 t1 (record { read = []; written = front }) × IsRefusal f0 f1 said front × (end ≡ ends.Malformed n)
+pub unread_other : (said : Option HttpResponse) (error : EdgeError) (n f0 f1 : ℕ) (t0 t1 : Option Traffic) (written : Result (Unit {0}) EdgeError) (end : SessionEnd)
+    → (error ≡ edge.ConnFault → ⊥) → (error ≡ edge.OutOfMemory → ⊥) → WritesText t0 t1 (refusal_text said) written → (written ≡ Err edge.ConnFault → f0 < f1) → end ≡ refused_end written n
     → EndsUnread said error n f0 f1 t0 t1 end
-unread_other said edge.ConnFault n f0 f1 t0 t1 end a b w = absurd (a refl)
-unread_other said edge.OutOfMemory n f0 f1 t0 t1 end a b w = absurd (b refl)
-unread_other said error n f0 f1 t0 t1 end a b w = w
+unread_other said edge.ConnFault n f0 f1 t0 t1 written end a b w cause is = absurd (a refl)
+unread_other said edge.OutOfMemory n f0 f1 t0 t1 written end a b w cause is = absurd (b refl)
+unread_other said error n f0 f1 t0 t1 written end a b w cause is =
+    elim (refusal_written f0 f1 n t0 t1 said written w cause) [
+      | inl h ↦ inl (h.0, h.1, h.2, is ∙ h.3)
+      | inr h ↦ inr (h.0, is ∙ h.1)
+    ]
 
 -- the cause of the end of a session whose reader answered an error
 pub unread_cause : (said : Option HttpResponse) (error : EdgeError) (n f0 f1 f2 f3 : ℕ) (t0 t1 : Option Traffic) (end : SessionEnd)
@@ -266,8 +283,10 @@ unread_cause said edge.ConnFault n f0 f1 f2 f3 t0 t1 end up c on u =
     subst (λ (e : SessionEnd). SessionCause f0 f3 e) (sym u.1) h
 unread_cause said edge.OutOfMemory n f0 f1 f2 f3 t0 t1 end up c on u =
     subst (λ (e : SessionEnd). SessionCause f0 f3 e) (sym u.1) (no_less f0 f2 f3 (no_less f0 f1 f2 up c) on)
-unread_cause said error n f0 f1 f2 f3 t0 t1 end up c on u =
+unread_cause said error n f0 f1 f2 f3 t0 t1 end up c on (inl u) =
     subst (λ (e : SessionEnd). SessionCause f0 f3 e) (sym u.3) (no_less f0 f2 f3 (no_less f0 f1 f2 up c) on)
+unread_cause said error n f0 f1 f2 f3 t0 t1 end up c on (inr u) =
+    subst (λ (e : SessionEnd). SessionCause f0 f3 e) (sym u.1) (no_less f0 f2 f3 (no_less f0 f1 f2 up c) on)
 
 -- and of one in which an answer wasn't written whole
 pub cut_cause : (error : EdgeError) (n f0 f1 f2 : ℕ) → f0 ≤ f1 → WriteCause f1 f2 (Err error) → SessionCause f0 f2 (cut_end error n)

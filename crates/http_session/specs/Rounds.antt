@@ -1,6 +1,6 @@
 -- Requests that a server was asked, one after the other, and what was written for each. Own; where a response says that
 -- it is the last one is RFC 9112, section 9.6.
-use Rattle.std.specs.Prelude.{◌≡◌, ℕ, Bool, true, false, List, [], ◌∷◌, ◌++◌, codes, Option, Result, Ok, Err}
+use Rattle.std.specs.Prelude.{◌≡◌, ℕ, Bool, true, false, List, [], ◌∷◌, ◌++◌, codes, Option, Some, None, Result, Ok, Err}
 use Rattle.lists_and_limits.specs.declared.memory.OutOfMemory.{OutOfMemory}
 use Rattle.actor_ports.specs.Traffic.{Traffic}
 use Rattle.http_edge.specs.declared.message.HttpField.{HttpField}
@@ -22,6 +22,11 @@ sent false r = r
 
 abbrev pub answer_text : Bool → HttpResponse → List ℕ
 answer_text last r = response_text (sent last r)
+
+-- what is to be written about bytes that have no reading: the response to them, if there is one, as the last one
+abbrev pub refusal_text : Option HttpResponse → List ℕ
+refusal_text None = []
+refusal_text (Some response) = answer_text true response
 
 -- one request: its bytes, what it asked, its response, and the server afterwards
 pub record Round (S : Type 0) : Type 0 where

@@ -1,5 +1,5 @@
 -- A session: the requests of a connection, answered in order, and why it ended. Own.
-use Rattle.std.specs.Prelude.{◌≡◌, ◌⊎◌, ◌<◌, ◌≤◌, ◌^◌, ℕ, true, List, [], ◌++◌, length, Option, Some, None, Result, Ok}
+use Rattle.std.specs.Prelude.{◌≡◌, ◌⊎◌, ◌<◌, ◌≤◌, ◌^◌, ℕ, List, [], ◌++◌, length, Option, Result, Ok, Err}
 use Rattle.lists_and_limits.specs.declared.memory.OutOfMemory.{OutOfMemory}
 use Rattle.actor_ports.specs.declared.session.SessionEnd.{SessionEnd}
 use Rattle.actor_ports.specs.declared.session.SessionEnd.TheVariants as ends
@@ -8,9 +8,9 @@ use Rattle.http_edge.specs.declared.message.HttpRequest.{HttpRequest}
 use Rattle.http_edge.specs.declared.message.HttpResponse.{HttpResponse}
 use Rattle.http_edge.specs.declared.error.EdgeError.{EdgeError}
 use Rattle.http_edge.specs.declared.error.EdgeError.TheVariants as edge
-use Rattle.http_edge.specs.Carry.{Over, AtEnd, IsFront}
+use Rattle.http_edge.specs.Carry.{Over, AtEnd, IsFront, nothing}
 use Rattle.http_edge.specs.Requests.{IsRequestText, Refuses}
-use Rattle.http_session.specs.Rounds.{Round, texts_of, answers_of, answer_text, GoOn, Closes, AreRounds}
+use Rattle.http_session.specs.Rounds.{Round, texts_of, answers_of, answer_text, refusal_text, GoOn, Closes, AreRounds}
 
 -- the error says that the bytes have no reading
 abbrev pub HasNoReading : List ℕ → Option Traffic → Option Traffic → EdgeError → Type 0
@@ -19,10 +19,9 @@ HasNoReading rest t0 t1 edge.OutOfMemory = ⊥
 HasNoReading rest t0 t1 error = Refuses rest t0 t1 error
 
 -- What was written about bytes that have no reading: the text of the response to them, if there is one. It may be cut short
--- if the connection failed, and nothing was written if memory ran out.
+-- only if the connection failed.
 abbrev pub IsRefusal : ℕ → ℕ → Option HttpResponse → List ℕ → Type 0
-IsRefusal f0 f1 None front = front ≡ []
-IsRefusal f0 f1 (Some response) front = (front ≡ answer_text true response) ⊎ ((front ≡ []) ⊎ (IsFront front (answer_text true response) × (f0 < f1)))
+IsRefusal f0 f1 said front = (front ≡ refusal_text said) ⊎ (IsFront front (refusal_text said) × (f0 < f1))
 
 -- Why there was no further request. `rest` are the bytes that were read behind the last one.
 abbrev pub EndsWith : {S : Type 0} → SessionEnd → List (Round S) → List ℕ → Option Traffic → Option Traffic → Type 0
@@ -74,7 +73,8 @@ module _ {S : Type 0} (answers : S → HttpRequest → Result HttpResponse OutOf
       × IsCut s0 s1 t0 t1 rounds request got rest front × EndsCut end rounds request got front
 
   module _ (refusal_of : EdgeError → Option HttpResponse) where
-    -- a session that ended at bytes that have no reading
+    -- A session that ended at bytes that have no reading, to which the response was written. If memory ran out for it, the
+    -- session ended with that, between two requests.
     abbrev pub EndsRefused : S → S → Option Traffic → Option Traffic → ℕ → ℕ → SessionEnd → Type 0
     EndsRefused s0 s1 t0 t1 f0 f1 end =
         (rounds : List (Round S)) × (rest : List ℕ) × (front : List ℕ) × (error : EdgeError)
@@ -91,9 +91,15 @@ abbrev pub cut_end : EdgeError → ℕ → SessionEnd
 cut_end edge.ConnFault n = ends.ConnFault n
 cut_end error n = ends.OutOfMemory n
 
+-- how a session ends at bytes that have no reading, after this came of the response to them
+abbrev pub refused_end : Result (Unit {0}) EdgeError → ℕ → SessionEnd
+refused_end (Err edge.OutOfMemory) n = ends.OutOfMemory n
+refused_end written n = ends.Malformed n
+
 -- what is done about an error of reading, to which this is the response, and how the session ends then
 abbrev pub EndsUnread : Option HttpResponse → EdgeError → ℕ → ℕ → ℕ → Option Traffic → Option Traffic → SessionEnd → Type 0
 EndsUnread said edge.ConnFault n f0 f1 t0 t1 end = (t1 ≡ t0) × (end ≡ ends.ConnFault n)
 EndsUnread said edge.OutOfMemory n f0 f1 t0 t1 end = (t1 ≡ t0) × (end ≡ ends.OutOfMemory n)
 EndsUnread said error n f0 f1 t0 t1 end =
-    (front : List ℕ) × Over t0 t1 (record { read = []; written = front }) × IsRefusal f0 f1 said front × (end ≡ ends.Malformed n)
+    ((front : List ℕ) × Over t0 t1 (record { read = []; written = front }) × IsRefusal f0 f1 said front × (end ≡ ends.Malformed n))
+    ⊎ (Over t0 t1 nothing × (end ≡ ends.OutOfMemory n))

@@ -11,7 +11,7 @@ use Rattle.actors_api.specs.declared.side.Side.{Side}
 use Rattle.sidecar_node.specs.declared.node.SidecarNode.{SidecarNode}
 use Rattle.sidecar_node.specs.declared.node.Seats.{Seats}
 use Rattle.sidecar_node.specs.Entries.{NodeEntry}
-use Rattle.sidecar_node.specs.Nodes.{host_of}
+use Rattle.sidecar_node.specs.Nodes.{host_of, part_at}
 use Rattle.exchanges.specs.Exchanges.{Exchange, Dialling}
 use Rattle.actor_calls.specs.declared.served.Served.{Served}
 use Rattle.actor_calls.specs.declared.served.Served.TheVariants as served
@@ -43,32 +43,33 @@ HandsBackRecord (served.Answered reply) = Unit {0}
 HandsBackRecord (served.Other command) = IsRecord command
 
 module _ (node : SidecarNode) (app : Address) (side : Side) (request : HttpRequest) where
-  hands_back : (read : Result ApiCommand ApiRefusal) (first last : ℕ) (ns : List NodeEntry) (xs ys : List Exchange) (outcome : Served)
-      → FollowsRead node app side request read first last ns xs ys outcome → HandsBackRecord outcome
-  hands_back (Ok (commands.Invoke actor method chain least)) first last ns xs ys outcome f = subst HandsBackRecord (sym f.is) tt
-  hands_back (Ok (commands.Transact actor ops)) first last ns xs ys outcome f = subst HandsBackRecord (sym f.is) tt
-  hands_back (Ok (commands.GetState actor key)) first last ns xs ys outcome f = subst HandsBackRecord (sym f.is) tt
-  hands_back (Ok (commands.PutReminder actor name reminder)) first last ns xs ys outcome f = subst HandsBackRecord (sym f.is) tt
-  hands_back (Ok (commands.GetReminder actor name)) first last ns xs ys outcome f = subst HandsBackRecord (sym f.is) tt
-  hands_back (Ok (commands.DeleteReminder actor name)) first last ns xs ys outcome f = subst HandsBackRecord (sym f.is) tt
-  hands_back (Ok (commands.SetTimer actor name timer)) first last ns xs ys outcome f = subst HandsBackRecord (sym f.is) tt
-  hands_back (Ok (commands.DeleteTimer actor name)) first last ns xs ys outcome f = subst HandsBackRecord (sym f.is) tt
-  hands_back (Err refusal) first last ns xs ys outcome f = subst HandsBackRecord (sym f.is) tt
+  module _ (before : Seats) where
+    hands_back : (read : Result ApiCommand ApiRefusal) (first last : ℕ) (ns : List NodeEntry) (xs ys : List Exchange) (outcome : Served)
+        → FollowsRead node before app side request read first last ns xs ys outcome → HandsBackRecord outcome
+    hands_back (Ok (commands.Invoke actor method chain least)) first last ns xs ys outcome f = subst HandsBackRecord (sym f.is) tt
+    hands_back (Ok (commands.Transact actor ops)) first last ns xs ys outcome f = subst HandsBackRecord (sym f.is) tt
+    hands_back (Ok (commands.GetState actor key)) first last ns xs ys outcome f = subst HandsBackRecord (sym f.is) tt
+    hands_back (Ok (commands.PutReminder actor name reminder)) first last ns xs ys outcome f = subst HandsBackRecord (sym f.is) tt
+    hands_back (Ok (commands.GetReminder actor name)) first last ns xs ys outcome f = subst HandsBackRecord (sym f.is) tt
+    hands_back (Ok (commands.DeleteReminder actor name)) first last ns xs ys outcome f = subst HandsBackRecord (sym f.is) tt
+    hands_back (Ok (commands.SetTimer actor name timer)) first last ns xs ys outcome f = subst HandsBackRecord (sym f.is) tt
+    hands_back (Ok (commands.DeleteTimer actor name)) first last ns xs ys outcome f = subst HandsBackRecord (sym f.is) tt
+    hands_back (Err refusal) first last ns xs ys outcome f = subst HandsBackRecord (sym f.is) tt
 
-  pub hands_back_record : (first last : ℕ) (ns : List NodeEntry) (xs ys : List Exchange) (outcome : Served) → IsServed node app side request first last ns xs ys outcome → HandsBackRecord outcome
-  hands_back_record first last ns xs ys outcome s = hands_back s.read s.now last ns xs ys outcome s.follows
+    pub hands_back_record : (first last : ℕ) (ns : List NodeEntry) (xs ys : List Exchange) (outcome : Served) → IsServed node before app side request first last ns xs ys outcome → HandsBackRecord outcome
+    hands_back_record first last ns xs ys outcome s = hands_back s.read s.now last ns xs ys outcome s.follows
 
   module _ (store : Address) (after : Seats) where
     -- ---- it was answered
 
     answered_by : (read : Result ApiCommand ApiRefusal) (first last : ℕ) (ns : List NodeEntry) (xs ys : List Exchange) (reply : ApiReply)
-        → FollowsRead node app side request read first last ns xs ys (served.Answered reply) → FollowsReading node app store side request after read first last ns xs ys [] reply
+        → FollowsRead node after app side request read first last ns xs ys (served.Answered reply) → FollowsReading node app store side request after read first last ns xs ys [] reply
     answered_by (Ok (commands.Invoke actor method chain least)) first last ns xs ys reply f =
         record {
           es = f.es;
           entries = f.entries;
           store_idle = refl;
-          invoked = subst (λ (a : ApiReply). IsInvoked (host_of node).member app (record { actor = actor; method = method; chain = chain; least = least }) request side first last f.es xs ys a) (sym (ap (reply_or reply) f.is)) f.invoked;
+          invoked = subst (λ (a : ApiReply). IsInvoked (part_at node actor) after (host_of node).member app (record { actor = actor; method = method; chain = chain; least = least }) request side first last f.es xs ys a) (sym (ap (reply_or reply) f.is)) f.invoked;
         }
     answered_by (Ok (commands.Transact actor ops)) first last ns xs ys reply f = absurd (subst IsAnswer f.is tt)
     answered_by (Ok (commands.GetState actor key)) first last ns xs ys reply f = absurd (subst IsAnswer f.is tt)
@@ -81,13 +82,13 @@ module _ (node : SidecarNode) (app : Address) (side : Side) (request : HttpReque
         record { now = f.now; entries = f.entries; app = f.app; peers = f.peers; store = refl; is = ap (reply_or reply) f.is }
 
     pub answered : (first last : ℕ) (ns : List NodeEntry) (xs ys : List Exchange) (reply : ApiReply)
-        → IsServed node app side request first last ns xs ys (served.Answered reply) → IsRequestServed node app store side request after first last ns xs ys [] reply
+        → IsServed node after app side request first last ns xs ys (served.Answered reply) → IsRequestServed node app store side request after first last ns xs ys [] reply
     answered first last ns xs ys reply s =
         record { now = s.now; read = s.read; later = s.later; reads = s.reads; follows = answered_by s.read s.now last ns xs ys reply s.follows }
 
     -- ---- its command was handed back, and served
 
-    module _ (first middle last : ℕ) (ms ns : List NodeEntry) (xs ys zs : List Exchange) (command : ApiCommand) (answer : ApiReply) where
+    module _ (before : Seats) (first middle last : ℕ) (ms ns : List NodeEntry) (xs ys zs : List Exchange) (command : ApiCommand) (answer : ApiReply) where
       -- the command goes by another name; reading it took no entry, and the clock stood still
       renamed : (c : ApiCommand) → command ≡ c → middle ≡ first → ms ≡ [] → IsRecordServed node store after command middle last ns zs answer → IsRecordServed node store after c first last (ms ++ ns) zs answer
       renamed c is now none r =
@@ -95,7 +96,7 @@ module _ (node : SidecarNode) (app : Address) (side : Side) (request : HttpReque
           (subst (λ (l : List NodeEntry). IsRecordServed node store after c middle last (l ++ ns) zs answer) (sym none)
           (subst (λ (k : ApiCommand). IsRecordServed node store after k middle last ns zs answer) is r))
 
-      recorded_by : (read : Result ApiCommand ApiRefusal) → FollowsRead node app side request read first middle ms xs ys (served.Other command) → IsRecordServed node store after command middle last ns zs answer
+      recorded_by : (read : Result ApiCommand ApiRefusal) → FollowsRead node before app side request read first middle ms xs ys (served.Other command) → IsRecordServed node store after command middle last ns zs answer
           → FollowsReading node app store side request after read first last (ms ++ ns) xs ys zs answer
       recorded_by (Ok (commands.Invoke actor method chain least)) f r = absurd (subst IsHandedBack f.is tt)
       recorded_by (Ok (commands.Transact actor ops)) f r = (f.app, f.peers, renamed (commands.Transact actor ops) (ap (command_or command) f.is) f.now f.entries r)
@@ -107,16 +108,16 @@ module _ (node : SidecarNode) (app : Address) (side : Side) (request : HttpReque
       recorded_by (Ok (commands.DeleteTimer actor name)) f r = (f.app, f.peers, renamed (commands.DeleteTimer actor name) (ap (command_or command) f.is) f.now f.entries r)
       recorded_by (Err refusal) f r = absurd (subst IsHandedBack f.is tt)
 
-    pub recorded : (at : Address) (first middle last : ℕ) (ms ns : List NodeEntry) (xs ys zs : List Exchange) (command : ApiCommand) (answer : ApiReply)
-        → at ≡ store → IsServed node app side request first middle ms xs ys (served.Other command) → IsRecordServed node at after command middle last ns zs answer
+    pub recorded : (before : Seats) (at : Address) (first middle last : ℕ) (ms ns : List NodeEntry) (xs ys zs : List Exchange) (command : ApiCommand) (answer : ApiReply)
+        → at ≡ store → IsServed node before app side request first middle ms xs ys (served.Other command) → IsRecordServed node at after command middle last ns zs answer
         → IsRequestServed node app store side request after first last (ms ++ ns) xs ys zs answer
-    recorded at first middle last ms ns xs ys zs command answer same s r =
+    recorded before at first middle last ms ns xs ys zs command answer same s r =
         record {
           now = s.now;
           read = s.read;
           later = s.later;
           reads = s.reads;
-          follows = recorded_by s.now middle last ms ns xs ys zs command answer s.read s.follows (subst (λ (a : Address). IsRecordServed node a after command middle last ns zs answer) same r);
+          follows = recorded_by before s.now middle last ms ns xs ys zs command answer s.read s.follows (subst (λ (a : Address). IsRecordServed node a after command middle last ns zs answer) same r);
         }
 
 -- a dialler that wasn't used afterwards

@@ -32,17 +32,17 @@ pub record IsRefused (refusal : ApiRefusal) (first last : ℕ) (ns : List NodeEn
 -- that the request left.
 module _ (node : SidecarNode) (app store : Address) (side : Side) (request : HttpRequest) where
   -- a call was served, with entries on the part of its actor alone; the store wasn't asked
-  pub record IsCallAnswered (q : Invoke) (first last : ℕ) (ns : List NodeEntry) (xs ys zs : List Exchange) (answer : ApiReply) : Type 0 where
+  pub record IsCallAnswered (after : Seats) (q : Invoke) (first last : ℕ) (ns : List NodeEntry) (xs ys zs : List Exchange) (answer : ApiReply) : Type 0 where
     pub es : List PartEntry
     pub entries : ns ≡ at_part (part_at node q.actor) es
     pub store_idle : zs ≡ []
-    pub invoked : IsInvoked (host_of node).member app q request side first last es xs ys answer
+    pub invoked : IsInvoked (part_at node q.actor) after (host_of node).member app q request side first last es xs ys answer
 
   -- what follows the reading of a request: a refusal is its answer, a call is served, and so is any other command, for
   -- which neither the application nor another sidecar is asked
   abbrev pub FollowsReading : Seats → Result ApiCommand ApiRefusal → ℕ → ℕ → List NodeEntry → List Exchange → List Exchange → List Exchange → ApiReply → Type 0
   FollowsReading after (Ok (commands.Invoke actor method chain least)) first last ns xs ys zs answer =
-      IsCallAnswered (record { actor = actor; method = method; chain = chain; least = least }) first last ns xs ys zs answer
+      IsCallAnswered after (record { actor = actor; method = method; chain = chain; least = least }) first last ns xs ys zs answer
   FollowsReading after (Ok command) first last ns xs ys zs answer = (xs ≡ []) × (ys ≡ []) × IsRecordServed node store after command first last ns zs answer
   FollowsReading after (Err refusal) first last ns xs ys zs answer = IsRefused refusal first last ns xs ys zs answer
 

@@ -3,11 +3,11 @@ use Rattle.std.specs.Prelude.{◌≡◌, ℕ, List, [], ◌∷◌, ◌++◌, opt
 use Rattle.lists_and_limits.specs.declared.memory.OutOfMemory.{OutOfMemory}
 use Rattle.actor_names.specs.declared.address.Address.{Address}
 use Rattle.actor_ports.specs.Traffic.{Traffic, Dialled}
+use Rattle.actor_ports.specs.declared.session.SessionEnd.{SessionEnd}
 use Rattle.http_edge.specs.declared.message.HttpRequest.{HttpRequest}
 use Rattle.http_edge.specs.declared.message.HttpResponse.{HttpResponse}
 use Rattle.http_edge.specs.declared.error.EdgeError.{EdgeError}
-use Rattle.http_edge.specs.Carry.{Over}
-use Rattle.http_edge.specs.Requests.{IsRequestText}
+use Rattle.http_session.specs.Sessions.{IsSession}
 use Rattle.actors_api.specs.declared.refusal.ApiRefusal.{ApiRefusal}
 use Rattle.actors_api.specs.declared.reply.ApiReply.{ApiReply}
 use Rattle.actors_api.specs.declared.reply.ApiReply.TheVariants.{Refused}
@@ -88,10 +88,13 @@ abbrev pub all_of : {A : Type 0} → (Deed → List A) → List Deed → List A
 all_of pick [] = []
 all_of pick (d ∷ ds) = pick d ++ all_of pick ds
 
--- the bytes are the texts of these requests, one behind the other
-abbrev pub AreTexts : List Deed → List ℕ → Type 0
-AreTexts [] bytes = bytes ≡ []
-AreTexts (d ∷ ds) bytes = (text : List ℕ) × (more : List ℕ) × IsRequestText text d.request × (bytes ≡ text ++ more) × AreTexts ds more
+-- where a session stands, and what was done for its requests so far, in order
+pub record Account : Type 0 where
+  pub at : Standing
+  pub deeds : List Deed
+
+abbrev pub account : Standing → List Deed → Account
+account s deeds = record { at = s; deeds = deeds }
 
 -- `side` is the port on which the connection came
 module _ (side : Side) where
@@ -104,31 +107,24 @@ module _ (side : Side) where
     pub store : Exchanged d.store s.store t.store
     pub served : IsRequestServed s.node s.app_at s.store_at side d.request t.seats s.shown t.shown d.entries d.app d.peers d.store d.answer
 
-  -- a request was served, and its response is that of its answer, unless memory ran out for it
-  pub record IsAnswered (s : Standing) (request : HttpRequest) (got : Result HttpResponse OutOfMemory) (t : Standing) : Type 0 where
+  -- a request was served and noted, and its response is that of its answer, unless memory ran out for it
+  pub record IsAnswered (s : Account) (request : HttpRequest) (got : Result HttpResponse OutOfMemory) (t : Account) : Type 0 where
     pub deed : Deed
     pub asked : deed.request ≡ request
-    pub does : Does s deed t
+    pub does : Does s.at deed t.at
+    pub noted : t.deeds ≡ s.deeds ++ deed ∷ []
     pub response : IfOk got (λ r. r ≡ response_of side deed.answer)
 
   -- ---- a session
 
-  -- requests were served one after the other, each from where the one before it had led
-  abbrev pub AreDone : Standing → List Deed → Standing → Type 0
-  AreDone s [] t = t ≡ s
-  AreDone s (d ∷ ds) t = (u : Standing) × Does s d u × AreDone u ds t
-
-  -- What a session did. The bytes read are the texts of its requests, in order, and a rest; each request was served once,
-  -- and all entries and exchanges of the session are those of its requests, in order.
-  pub record SessionDoes (s t : Standing) (t0 t1 : Option Traffic) : Type 0 where
+  -- A session, and what it did. The requests that were read were answered one after the other, each from where the one
+  -- before it had led, and nothing else was written but about bytes that have no reading (`IsSession`); these deeds are what
+  -- was done for them, one each, in order. All entries and exchanges of the session are those of its deeds.
+  pub record SessionDoes (s t : Standing) (t0 t1 : Option Traffic) (f0 f1 : ℕ) (end : SessionEnd) : Type 0 where
     pub deeds : List Deed
-    pub done : AreDone s deeds t
+    pub session : IsSession IsAnswered (edge_response side) (account s []) (account t deeds) t0 t1 f0 f1 end
+    pub stays : Stays s t
     pub acts : Acts (all_of (λ (d : Deed). d.entries) deeds) s.seats t.seats
     pub app : Exchanged (all_of (λ (d : Deed). d.app) deeds) s.app t.app
     pub peers : Exchanged (all_of (λ (d : Deed). d.peers) deeds) s.peers t.peers
     pub store : Exchanged (all_of (λ (d : Deed). d.store) deeds) s.store t.store
-    pub bytes : List ℕ
-    pub rest : List ℕ
-    pub written : List ℕ
-    pub texts : AreTexts deeds bytes
-    pub over : Over t0 t1 (record { read = bytes ++ rest; written = written })

@@ -1,8 +1,8 @@
 // A session of a sidecar over HTTP.
-ghost use Rattle.std.specs.Prelude.{◌≡◌, ◌<◌, ◌≤◌};
+ghost use Rattle.std.specs.Prelude.{◌≡◌, ◌<◌, ◌≤◌, List, []};
 ghost use Rattle.http_session.specs.Sessions.{IsSession, SessionCause};
 ghost use Rattle.sidecar_node.specs.Nodes.{IsSeatsOf};
-ghost use Rattle.sidecar_requests.specs.Sessions.{IsAnswered, edge_response, standing, SessionDoes};
+ghost use Rattle.sidecar_requests.specs.Sessions.{Deed, IsAnswered, account, edge_response, standing, SessionDoes};
 
 use crate::edge::edge_response;
 use crate::turn::take_turn;
@@ -31,9 +31,9 @@ fn serve_requests<R: Wait, C: Conn, L: Dial, K: Clock>(
 ) -> (Seats, SessionEnd)
     requires { IsSeatsOf node.now seats }
     ensures seats { IsSeatsOf node.now result.0 }
-    ensures session { IsSession (IsAnswered side) (edge_response side)
-        (standing L.dialled L.dial_faults K.shown node.now seats links.old clock.old)
-        (standing L.dialled L.dial_faults K.shown node.now result.0 links.new clock.new)
+    ensures session { (deeds : List Deed) × IsSession (IsAnswered side) (edge_response side)
+        (account (standing L.dialled L.dial_faults K.shown node.now seats links.old clock.old) [])
+        (account (standing L.dialled L.dial_faults K.shown node.now result.0 links.new clock.new) deeds)
         (C.read_traffic conn.old) (C.read_traffic conn.new) (C.read_faults conn.old) (C.read_faults conn.new) result.1 }
     ensures cause { SessionCause (C.read_faults conn.old) (C.read_faults conn.new) result.1 }
 {
@@ -72,9 +72,9 @@ fn serve_requests<R: Wait, C: Conn, L: Dial, K: Clock>(
 }
 
 /// Serves the requests of a connection that came on this port until it ends, each before the next one is read. A request
-/// that asks to close is the last one; so are bytes that have no reading, about which a response may be written. A request
-/// for whose response there is no memory ends the session without it. `requests` is the number of requests whose
-/// responses were written whole; a session ends as `Spent` after 2^62 of them.
+/// that asks to close is the last one; so are bytes that have no reading, about which a response is written if their error
+/// has one. A request or such bytes for whose response there is no memory end the session without it. `requests` is the
+/// number of requests whose responses were written whole; a session ends as `Spent` after 2^62 of them.
 pub fn sidecar_session<R: Wait, C: Conn, L: Dial, K: Clock>(
     rt: &R,
     alloc: Global,
@@ -87,14 +87,10 @@ pub fn sidecar_session<R: Wait, C: Conn, L: Dial, K: Clock>(
 ) -> (Seats, SessionEnd)
     requires { IsSeatsOf node.now seats }
     ensures seats { IsSeatsOf node.now result.0 }
-    ensures session { IsSession (IsAnswered side) (edge_response side)
+    ensures session { SessionDoes side
         (standing L.dialled L.dial_faults K.shown node.now seats links.old clock.old)
         (standing L.dialled L.dial_faults K.shown node.now result.0 links.new clock.new)
         (C.read_traffic conn.old) (C.read_traffic conn.new) (C.read_faults conn.old) (C.read_faults conn.new) result.1 }
-    ensures does { SessionDoes side
-        (standing L.dialled L.dial_faults K.shown node.now seats links.old clock.old)
-        (standing L.dialled L.dial_faults K.shown node.now result.0 links.new clock.new)
-        (C.read_traffic conn.old) (C.read_traffic conn.new) }
     ensures places { (links.new.app_at ≡ links.old.app_at) × (links.new.store_at ≡ links.old.store_at) }
     ensures cause { SessionCause (C.read_faults conn.old) (C.read_faults conn.new) result.1 }
 {

@@ -1,9 +1,9 @@
 // One request of a session.
-ghost use Rattle.std.specs.Prelude.{◌≡◌, ◌<◌, ◌≤◌};
+ghost use Rattle.std.specs.Prelude.{◌≡◌, ◌<◌, ◌≤◌, List, [], ◌∷◌, ◌++◌};
 ghost use Rattle.http_edge.specs.Requests.{EdgeCause};
 ghost use Rattle.http_session.specs.Rounds.{Turns};
 ghost use Rattle.sidecar_node.specs.Nodes.{IsSeatsOf};
-ghost use Rattle.sidecar_requests.specs.Sessions.{IsAnswered, standing};
+ghost use Rattle.sidecar_requests.specs.Sessions.{Deed, IsAnswered, account, standing};
 
 use crate::serving::serve_one;
 use actor_ports::{Clock, Conn, Dial};
@@ -29,9 +29,9 @@ pub(crate) fn take_turn<R: Wait, C: Conn, L: Dial, K: Clock>(
 ) -> (Seats, Result<(), EdgeError>)
     requires { IsSeatsOf node.now seats }
     ensures seats { IsSeatsOf node.now result.0 }
-    ensures turn { Turns (IsAnswered side)
-        (standing L.dialled L.dial_faults K.shown node.now seats links.old clock.old)
-        (standing L.dialled L.dial_faults K.shown node.now result.0 links.new clock.new)
+    ensures turn { (before : List Deed) → (deed : Deed) × Turns (IsAnswered side)
+        (account (standing L.dialled L.dial_faults K.shown node.now seats links.old clock.old) before)
+        (account (standing L.dialled L.dial_faults K.shown node.now result.0 links.new clock.new) (before ++ deed ∷ []))
         request.now (C.read_traffic conn.old) (C.read_traffic conn.new) result.1 }
     ensures cause { EdgeCause (C.read_faults conn.old) (C.read_faults conn.new) result.1 }
 {

@@ -14,5 +14,5 @@ returns-in_default-clause-follows g c = (
   [],
   acts_none c.args.seats,
   none_made _ _,
-  follows_next c.args.links.now.app_at c.args.invoke.now c.args.request.now c.args.reply c.next_of.result (g.K.Clock.shown c.args.clock.now) c.next_of.ensures c.in_default.not-Begun,
+  follows_next _ c.args.seats c.args.links.now.app_at c.args.invoke.now c.args.request.now c.args.reply c.next_of.result (g.K.Clock.shown c.args.clock.now) c.next_of.ensures c.in_default.not-Begun,
 )

@@ -19,6 +19,7 @@ returns-clause-turn g c =
         exchange = subst (λ (m : Option (List ℕ)). IsHttpExchange (call_text at invoke.actor invoke.method m c.args.request.now) (place_at at) x.0 c.call_app-got.result) c.as_ref.ensures.value x.1;
         later = c.end_turn-seats.ensures.clock;
         ends = e.2;
+        full = c.end_turn-seats.ensures.spent;
         answered = c.turn_answer.ensures;
       },
     )

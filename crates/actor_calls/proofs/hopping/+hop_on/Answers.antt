@@ -14,7 +14,7 @@ returns-in-NotRising-clause-routed g t c = (
   acts_none c.args.seats,
   none_made _ _,
   none_made _ _,
-  route_stops c.args.me.now c.args.links.now.app_at c.args.invoke.now c.args.request.now c.args.route c.args.version c.args.owner (hops.NotRising c.in-NotRising.last c.in-NotRising.version) (g.K.Clock.shown c.args.clock.now) (refusals.NotRising c.in-NotRising.last c.in-NotRising.version) c.in-NotRising.ensures.answer refl,
+  route_stops _ c.args.seats c.args.me.now c.args.links.now.app_at c.args.invoke.now c.args.request.now c.args.route c.args.version c.args.owner (hops.NotRising c.in-NotRising.last c.in-NotRising.version) (g.K.Clock.shown c.args.clock.now) (refusals.NotRising c.in-NotRising.last c.in-NotRising.version) c.in-NotRising.ensures.answer refl,
 )
 
 pub returns-in-Moved-clause-routed : goal.returns-in-Moved-clause-routed
@@ -25,7 +25,7 @@ returns-in-Moved-clause-routed g t c = (
   acts_none c.args.seats,
   none_made _ _,
   none_made _ _,
-  route_stops c.args.me.now c.args.links.now.app_at c.args.invoke.now c.args.request.now c.args.route c.args.version c.args.owner (hops.Moved c.in-Moved.versions) (g.K.Clock.shown c.args.clock.now) (refusals.Moved c.in-Moved.versions) c.in-Moved.ensures.answer refl,
+  route_stops _ c.args.seats c.args.me.now c.args.links.now.app_at c.args.invoke.now c.args.request.now c.args.route c.args.version c.args.owner (hops.Moved c.in-Moved.versions) (g.K.Clock.shown c.args.clock.now) (refusals.Moved c.in-Moved.versions) c.in-Moved.ensures.answer refl,
 )
 
 pub returns-in-Answered-clause-routed : goal.returns-in-Answered-clause-routed
@@ -37,7 +37,7 @@ returns-in-Answered-clause-routed g t c =
       h.3,
       h.4,
       h.5,
-      route_ends c.args.me.now c.args.links.now.app_at c.args.invoke.now c.args.request.now c.args.route c.args.version c.args.owner (hops.Go c.in-Go.to c.in-Go.least) c.in-Go.to c.in-Go.least refl c.in-Go.ensures.answer _ _ h.0 h.1 h.2 _ h.6,
+      route_ends _ c.hop_once-seats.result.0 c.args.me.now c.args.links.now.app_at c.args.invoke.now c.args.request.now c.args.route c.args.version c.args.owner (hops.Go c.in-Go.to c.in-Go.least) c.in-Go.to c.in-Go.least refl c.in-Go.ensures.answer _ _ h.0 h.1 h.2 _ h.6,
     )
 
 pub returns-clause-routed : goal.returns-clause-routed
@@ -50,7 +50,7 @@ returns-clause-routed g t c =
       acts_at_then _ h.0 r.0 _ _ _ h.3 r.3,
       dialling_then h.1 r.1 _ _ _ _ _ _ h.4 r.4,
       dialling_then h.2 r.2 _ _ _ _ _ _ h.5 r.5,
-      route_goes_on c.args.me.now c.args.links.now.app_at c.args.invoke.now c.args.request.now c.args.route c.args.version c.args.owner (hops.Go c.in-Go.to c.in-Go.least) c.in-Go.to c.in-Go.least refl c.in-Go.ensures.answer _ _ _ _ _ h.0 r.0 h.1 r.1 h.2 r.2 _ _ _ c.hop_once-seats.ensures.places.0 c.in-Go.ensures.hops h.6 r.6,
+      route_goes_on _ c.hop_on.result.0 c.args.me.now c.args.links.now.app_at c.args.invoke.now c.args.request.now c.args.route c.args.version c.args.owner (hops.Go c.in-Go.to c.in-Go.least) c.in-Go.to c.in-Go.least refl c.in-Go.ensures.answer c.hop_once-seats.result.0 _ _ _ _ _ h.0 r.0 h.1 r.1 h.2 r.2 _ _ _ c.hop_once-seats.ensures.places.0 c.in-Go.ensures.hops h.6 r.6,
     )
 
 pub hop_on-requires : goal.hop_on-requires

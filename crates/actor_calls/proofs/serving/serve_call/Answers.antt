@@ -13,8 +13,8 @@ returns-in-Err-clause-served g c = (
   acts_none c.args.seats,
   none_made _ _,
   none_made _ _,
-  served_by c.args.node.now c.args.links.now.app_at c.args.side c.args.request.now _ _ _ c.now_ms-now.result _ (Err c.in-Err.refusal) [] [] [] _
-      (ap (λ (h : HostInfo). h.member.space) c.host.ensures) c.now_ms-now.ensures.never_falls c.now_ms-now.ensures.shows c.in-Err.ensures (done c.args.node.now c.args.links.now.app_at c.args.side c.args.request.now _ _),
+  served_by c.args.node.now c.args.seats c.args.links.now.app_at c.args.side c.args.request.now _ _ _ c.now_ms-now.result _ (Err c.in-Err.refusal) [] [] [] _
+      (ap (λ (h : HostInfo). h.member.space) c.host.ensures) c.now_ms-now.ensures.never_falls c.now_ms-now.ensures.shows c.in-Err.ensures (done c.args.node.now c.args.seats c.args.links.now.app_at c.args.side c.args.request.now _ _),
 )
 
 pub returns-in-Ok-clause-served : goal.returns-in-Ok-clause-served
@@ -26,6 +26,6 @@ returns-in-Ok-clause-served g c =
       f.3,
       f.4,
       f.5,
-      served_by c.args.node.now c.args.links.now.app_at c.args.side c.args.request.now _ _ _ c.now_ms-now.result _ (Ok c.in-Ok.command) f.0 f.1 f.2 _
+      served_by c.args.node.now c.serve_command.result.0 c.args.links.now.app_at c.args.side c.args.request.now _ _ _ c.now_ms-now.result _ (Ok c.in-Ok.command) f.0 f.1 f.2 _
           (ap (λ (h : HostInfo). h.member.space) c.host.ensures) c.now_ms-now.ensures.never_falls c.now_ms-now.ensures.shows c.in-Ok.ensures f.6,
     )

@@ -26,5 +26,5 @@ returns-in_default-clause-follows g c = (
   acts_none c.args.seats,
   none_made _ _,
   none_made _ _,
-  follows_command c.args.node.now c.args.links.now.app_at c.args.side c.args.request.now c.args.command (g.K.Clock.shown c.args.clock.now) c.in_default.not-Invoke,
+  follows_command c.args.node.now c.args.seats c.args.links.now.app_at c.args.side c.args.request.now c.args.command (g.K.Clock.shown c.args.clock.now) c.in_default.not-Invoke,
 )

@@ -1,5 +1,5 @@
-use Rattle.sidecar_requests.proofs.Causes.{record_causes}
+use Rattle.sidecar_requests.proofs.Causes.{record_entries, record_causes}
 use Rattle.sidecar_requests.proofs.law.record_law.Goals as goal
 
 pub returns : goal.returns
-returns c = record_causes
+returns c = record { entries = record_entries; causes = record_causes }

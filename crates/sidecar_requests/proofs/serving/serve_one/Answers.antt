@@ -21,7 +21,7 @@ returns-in-Answered-clause-served g c =
 pub serve_record-requires-clause-record_ : goal.serve_record-requires-clause-record_
 serve_record-requires-clause-record_ g c κs within =
     let s = c.serve_call-seats.ensures.served in
-    subst HandsBackRecord c.in-Other.is (hands_back_record c.args.node.now c.args.links.now.app_at c.args.side c.args.request.now _ _ s.0 s.1 s.2 _ s.6)
+    subst HandsBackRecord c.in-Other.is (hands_back_record c.args.node.now c.args.links.now.app_at c.args.side c.args.request.now c.serve_call-seats.result.0 _ _ s.0 s.1 s.2 _ s.6)
 
 pub returns-in-Other-clause-served : goal.returns-in-Other-clause-served
 returns-in-Other-clause-served g c =
@@ -39,7 +39,7 @@ returns-in-Other-clause-served g c =
       none_after dialled faults first.app last.app c.serve_record.ensures.others.0 s.1 _ _ s.4,
       none_after dialled faults first.peers last.peers c.serve_record.ensures.others.1 s.2 _ _ s.5,
       none_before dialled faults c.args.links.now.store first.store c.serve_call-seats.ensures.store r.1 _ _ r.3,
-      recorded c.args.node.now c.args.links.now.app_at c.args.side c.args.request.now c.args.links.now.store_at c.serve_record.result.0 first.store_at _ _ _ s.0 r.0 s.1 s.2 r.1 c.in-Other.command c.serve_record.result.1
+      recorded c.args.node.now c.args.links.now.app_at c.args.side c.args.request.now c.args.links.now.store_at c.serve_record.result.0 c.serve_call-seats.result.0 first.store_at _ _ _ s.0 r.0 s.1 s.2 r.1 c.in-Other.command c.serve_record.result.1
           c.serve_call-seats.ensures.places.1 s.6 r.4,
     )
 

@@ -1,31 +1,32 @@
-use Rattle.std.proofs.Common.{◌≡◌, ◌≤◌, refl, sym, subst, arith, ℕ}
+use Rattle.std.proofs.Common.{◌≡◌, ◌≤◌, refl, sym, subst, arith, ℕ, [], ◌∷◌, ◌++◌}
 use Rattle.actor_ports.specs.declared.session.SessionEnd.{SessionEnd}
 use Rattle.http_edge.specs.Requests.{ReaderState}
 use Rattle.http_session.specs.Sessions.{IsSession, SessionCause}
 use Rattle.http_session.proofs.Sessions.{Progress, start, ends_done, ends_unread, ends_cut, ends_closed, goes_on, ends_spent, read_up, unread_cause, cut_cause}
-use Rattle.sidecar_requests.specs.Sessions.{IsAnswered, edge_response, standing}
+use Rattle.sidecar_requests.specs.Sessions.{IsAnswered, account, edge_response, standing}
 use Rattle.sidecar_requests.proofs.session.serve_requests.Goals as goal
 
 pub loop-requests-init : goal.loop-requests-init
 loop-requests-init g c =
     let s = standing g.L.Dial.dialled g.L.Dial.dial_faults g.K.Clock.shown c.args.node.now c.args.seats c.args.links.now c.args.clock.now in
     let t = g.C.Source.read_traffic c.args.conn.now in
+    let none = account s [] in
     record {
-      progress = subst (λ (r : ReaderState). Progress (IsAnswered c.args.side) s s t t r 0) (sym c.new-reader.ensures) (start (IsAnswered c.args.side) s t);
+      progress = ([], subst (λ (r : ReaderState). Progress (IsAnswered c.args.side) none none t t r 0) (sym c.new-reader.ensures) (start (IsAnswered c.args.side) none t));
       ready = c.requires;
       faults = omega arith;
     }
 
 pub returns-in-Ok-None-clause-session : goal.returns-in-Ok-None-clause-session
 returns-in-Ok-None-clause-session g c =
-    let p = c.loop-requests.invariant.progress in
+    let p = c.loop-requests.invariant.progress.1 in
     let faults = g.C.Source.read_faults in
     let read = rw c.in-Ok-None.field-0-is at c.in-Ok-None.ensures.reads in
-    ends_done (IsAnswered c.args.side) (edge_response c.args.side) _ _ _ _ c.loop-requests.reader c.loop-requests.requests p _ c.read.new.self (faults c.args.conn.now) (faults c.read.new.conn) (read p.sound)
+    (c.loop-requests.invariant.progress.0, ends_done (IsAnswered c.args.side) (edge_response c.args.side) _ _ _ _ c.loop-requests.reader c.loop-requests.requests p _ c.read.new.self (faults c.args.conn.now) (faults c.read.new.conn) (read p.sound))
 
 pub returns-in-Ok-None-clause-cause : goal.returns-in-Ok-None-clause-cause
 returns-in-Ok-None-clause-cause g c =
-    let p = c.loop-requests.invariant.progress in
+    let p = c.loop-requests.invariant.progress.1 in
     let faults = g.C.Source.read_faults in
     let up = c.loop-requests.invariant.faults in
     let on : faults c.loop-requests.conn ≤ faults c.read.new.conn = c.in-Ok-None.ensures.cause p.sound in
@@ -33,35 +34,43 @@ returns-in-Ok-None-clause-cause g c =
 
 pub returns-in-Err-clause-session : goal.returns-in-Err-clause-session
 returns-in-Err-clause-session g c =
-    let p = c.loop-requests.invariant.progress in
+    let p = c.loop-requests.invariant.progress.1 in
     let faults = g.C.Source.read_faults in
     let up = c.loop-requests.invariant.faults in
     let on = read_up (faults c.loop-requests.conn) (faults c.read.new.conn) c.in-Err.error (c.in-Err.ensures.cause p.sound) in
     let under : faults c.args.conn.now ≤ faults c.read.new.conn = omega arith in
-    let ends = c.end_unread-end.ensures.ends (edge_response c.args.side c.in-Err.error) c.edge_response-refusal.ensures in
-    ends_unread (IsAnswered c.args.side) (edge_response c.args.side) _ _ _ _ c.loop-requests.reader c.loop-requests.requests p _ c.read.new.self
-    (faults c.args.conn.now) (faults c.read.new.conn) (faults c.end_unread-end.new.conn) _ c.in-Err.error c.end_unread-end.result under (c.in-Err.ensures.reads p.sound) ends
+    let ends = c.end_unread-end.ensures.ends (edge_response c.args.side c.in-Err.error) c.edge_response-refusal.ensures in (
+      c.loop-requests.invariant.progress.0,
+      ends_unread (IsAnswered c.args.side) (edge_response c.args.side) _ _ _ _ c.loop-requests.reader c.loop-requests.requests p _ c.read.new.self
+          (faults c.args.conn.now) (faults c.read.new.conn) (faults c.end_unread-end.new.conn) _ c.in-Err.error c.end_unread-end.result under (c.in-Err.ensures.reads p.sound) ends,
+    )
 
 pub returns-in-Err-clause-cause : goal.returns-in-Err-clause-cause
 returns-in-Err-clause-cause g c =
-    let p = c.loop-requests.invariant.progress in
+    let p = c.loop-requests.invariant.progress.1 in
     let faults = g.C.Source.read_faults in
     let ends = c.end_unread-end.ensures.ends (edge_response c.args.side c.in-Err.error) c.edge_response-refusal.ensures in
     unread_cause (edge_response c.args.side c.in-Err.error) c.in-Err.error c.loop-requests.requests (faults c.args.conn.now) (faults c.loop-requests.conn) (faults c.read.new.conn) (faults c.end_unread-end.new.conn) _ _ c.end_unread-end.result c.loop-requests.invariant.faults (c.in-Err.ensures.cause p.sound) c.end_unread-end.ensures.cause ends
 
 pub returns-in-Err-written-clause-session : goal.returns-in-Err-written-clause-session
 returns-in-Err-written-clause-session g c =
-    let p = c.loop-requests.invariant.progress in
+    let p = c.loop-requests.invariant.progress.1 in
     let faults = g.C.Source.read_faults in
     let traffic = g.C.Source.read_traffic in
     let read = rw c.in-Ok-Some.field-0-is at c.in-Ok-Some.ensures.reads in
-    let turn = rw c.in-Err-written.is at c.take_turn-next.ensures.turn in
-    subst (λ (e : SessionEnd). IsSession (IsAnswered c.args.side) (edge_response c.args.side) (standing g.L.Dial.dialled g.L.Dial.dial_faults g.K.Clock.shown c.args.node.now c.args.seats c.args.links.now c.args.clock.now) (standing g.L.Dial.dialled g.L.Dial.dial_faults g.K.Clock.shown c.args.node.now c.take_turn-next.result.0 c.take_turn-next.new.links c.take_turn-next.new.clock) (traffic c.args.conn.now) (traffic c.take_turn-next.new.conn) (faults c.args.conn.now) (faults c.take_turn-next.new.conn) e) (sym c.cut_end.ensures)
-    (ends_cut (IsAnswered c.args.side) (edge_response c.args.side) _ _ _ _ c.loop-requests.reader c.loop-requests.requests p _ c.read.new.self c.in-Ok-Some.request (read p.sound) _ _ (faults c.args.conn.now) (faults c.take_turn-next.new.conn) c.in-Err-written.error turn)
+    let before = c.loop-requests.invariant.progress.0 in
+    let turn = c.take_turn-next.ensures.turn before in
+    let cut = rw c.in-Err-written.is at turn.1 in
+    let old = account (standing g.L.Dial.dialled g.L.Dial.dial_faults g.K.Clock.shown c.args.node.now c.args.seats c.args.links.now c.args.clock.now) [] in
+    let new = account (standing g.L.Dial.dialled g.L.Dial.dial_faults g.K.Clock.shown c.args.node.now c.take_turn-next.result.0 c.take_turn-next.new.links c.take_turn-next.new.clock) (before ++ turn.0 ∷ []) in (
+      before ++ turn.0 ∷ [],
+      subst (λ (e : SessionEnd). IsSession (IsAnswered c.args.side) (edge_response c.args.side) old new (traffic c.args.conn.now) (traffic c.take_turn-next.new.conn) (faults c.args.conn.now) (faults c.take_turn-next.new.conn) e) (sym c.cut_end.ensures)
+          (ends_cut (IsAnswered c.args.side) (edge_response c.args.side) _ _ _ _ c.loop-requests.reader c.loop-requests.requests p _ c.read.new.self c.in-Ok-Some.request (read p.sound) _ _ (faults c.args.conn.now) (faults c.take_turn-next.new.conn) c.in-Err-written.error cut),
+    )
 
 pub returns-in-Err-written-clause-cause : goal.returns-in-Err-written-clause-cause
 returns-in-Err-written-clause-cause g c =
-    let p = c.loop-requests.invariant.progress in
+    let p = c.loop-requests.invariant.progress.1 in
     let faults = g.C.Source.read_faults in
     let up = c.loop-requests.invariant.faults in
     let on : faults c.loop-requests.conn ≤ faults c.read.new.conn = c.in-Ok-Some.ensures.cause p.sound in
@@ -72,15 +81,19 @@ returns-in-Err-written-clause-cause g c =
 
 pub returns-then-request-clause-session : goal.returns-then-request-clause-session
 returns-then-request-clause-session g c =
-    let p = c.loop-requests.invariant.progress in
+    let p = c.loop-requests.invariant.progress.1 in
     let faults = g.C.Source.read_faults in
     let read = rw c.in-Ok-Some.field-0-is at c.in-Ok-Some.ensures.reads in
-    let turn = rw c.in-Ok.is at c.take_turn-next.ensures.turn in
-    ends_closed (IsAnswered c.args.side) (edge_response c.args.side) _ _ _ _ c.loop-requests.reader c.loop-requests.requests p _ c.read.new.self c.in-Ok-Some.request (read p.sound) _ _ (faults c.args.conn.now) (faults c.take_turn-next.new.conn) turn c.if-request.true
+    let before = c.loop-requests.invariant.progress.0 in
+    let turn = c.take_turn-next.ensures.turn before in
+    let whole = rw c.in-Ok.is at turn.1 in (
+      before ++ turn.0 ∷ [],
+      ends_closed (IsAnswered c.args.side) (edge_response c.args.side) _ _ _ _ c.loop-requests.reader c.loop-requests.requests p _ c.read.new.self c.in-Ok-Some.request (read p.sound) _ _ (faults c.args.conn.now) (faults c.take_turn-next.new.conn) whole c.if-request.true,
+    )
 
 pub returns-then-request-clause-cause : goal.returns-then-request-clause-cause
 returns-then-request-clause-cause g c =
-    let p = c.loop-requests.invariant.progress in
+    let p = c.loop-requests.invariant.progress.1 in
     let faults = g.C.Source.read_faults in
     let up = c.loop-requests.invariant.faults in
     let on : faults c.loop-requests.conn ≤ faults c.read.new.conn = c.in-Ok-Some.ensures.cause p.sound in
@@ -89,26 +102,33 @@ returns-then-request-clause-cause g c =
 
 pub loop-requests-preserved : goal.loop-requests-preserved
 loop-requests-preserved g c =
-    let p = c.loop-requests.invariant.progress in
+    let p = c.loop-requests.invariant.progress.1 in
     let faults = g.C.Source.read_faults in
     let up = c.loop-requests.invariant.faults in
     let on : faults c.loop-requests.conn ≤ faults c.read.new.conn = c.in-Ok-Some.ensures.cause p.sound in
     let more : faults c.read.new.conn ≤ faults c.take_turn-next.new.conn = rw c.in-Ok.is at c.take_turn-next.ensures.cause in
     let read = rw c.in-Ok-Some.field-0-is at c.in-Ok-Some.ensures.reads in
-    let turn = rw c.in-Ok.is at c.take_turn-next.ensures.turn in
+    let before = c.loop-requests.invariant.progress.0 in
+    let turn = c.take_turn-next.ensures.turn before in
+    let whole = rw c.in-Ok.is at turn.1 in
     record {
-      progress = goes_on (IsAnswered c.args.side) (edge_response c.args.side) _ _ _ _ c.loop-requests.reader c.loop-requests.requests p _ c.read.new.self c.in-Ok-Some.request (read p.sound) _ _ turn c.if-request.false (c.in-Ok-Some.ensures.failed p.sound);
+      progress = (
+        before ++ turn.0 ∷ [],
+        goes_on (IsAnswered c.args.side) (edge_response c.args.side) _ _ _ _ c.loop-requests.reader c.loop-requests.requests p _ c.read.new.self c.in-Ok-Some.request (read p.sound) _ _ whole c.if-request.false (c.in-Ok-Some.ensures.failed p.sound),
+      );
       ready = c.take_turn-next.ensures.seats;
       faults = omega arith;
     }
 
 pub returns-clause-session : goal.returns-clause-session
 returns-clause-session g c =
-    let p = c.loop-requests.invariant.progress in
+    let p = c.loop-requests.invariant.progress.1 in
     let faults = g.C.Source.read_faults in
     let traffic = g.C.Source.read_traffic in
     let low = c.loop-requests.auto.requests-end in
     let high = c.loop-requests-test.false in
     let all : c.loop-requests.requests ≡ 4611686018427387904 = omega arith in
-    let done = subst (λ (n : ℕ). Progress (IsAnswered c.args.side) (standing g.L.Dial.dialled g.L.Dial.dial_faults g.K.Clock.shown c.args.node.now c.args.seats c.args.links.now c.args.clock.now) (standing g.L.Dial.dialled g.L.Dial.dial_faults g.K.Clock.shown c.args.node.now c.loop-requests.seats c.loop-requests.links c.loop-requests.clock) (traffic c.args.conn.now) (traffic c.loop-requests.conn) c.loop-requests.reader n) all p in
-    ends_spent (IsAnswered c.args.side) (edge_response c.args.side) _ _ _ _ (faults c.args.conn.now) (faults c.loop-requests.conn) c.loop-requests.reader 4611686018427387904 4611686018427387904 done refl refl
+    let old = account (standing g.L.Dial.dialled g.L.Dial.dial_faults g.K.Clock.shown c.args.node.now c.args.seats c.args.links.now c.args.clock.now) [] in
+    let new = account (standing g.L.Dial.dialled g.L.Dial.dial_faults g.K.Clock.shown c.args.node.now c.loop-requests.seats c.loop-requests.links c.loop-requests.clock) c.loop-requests.invariant.progress.0 in
+    let done = subst (λ (n : ℕ). Progress (IsAnswered c.args.side) old new (traffic c.args.conn.now) (traffic c.loop-requests.conn) c.loop-requests.reader n) all p in
+    (c.loop-requests.invariant.progress.0, ends_spent (IsAnswered c.args.side) (edge_response c.args.side) _ _ _ _ (faults c.args.conn.now) (faults c.loop-requests.conn) c.loop-requests.reader 4611686018427387904 4611686018427387904 done refl refl)

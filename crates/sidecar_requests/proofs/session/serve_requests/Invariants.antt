@@ -1,16 +1,16 @@
-use Rattle.std.proofs.Common.{◌≤◌}
+use Rattle.std.proofs.Common.{◌≤◌, List, []}
 use Rattle.http_session.proofs.Sessions.{Progress}
 use Rattle.sidecar_node.specs.Nodes.{IsSeatsOf}
-use Rattle.sidecar_requests.specs.Sessions.{IsAnswered, standing}
+use Rattle.sidecar_requests.specs.Sessions.{Deed, IsAnswered, account, standing}
 use Rattle.sidecar_requests.proofs.session.serve_requests.Given as goal
 
 -- each request so far was served, answered whole and didn't ask to close; the bytes behind the last one are those that the
 -- reader keeps
 abbrev pub invariant-loop-requests : goal.invariant-loop-requests
 invariant-loop-requests g l = record {
-  progress : Progress (IsAnswered l.side)
-      (standing g.L.Dial.dialled g.L.Dial.dial_faults g.K.Clock.shown l.node l.initial.seats l.initial.links l.initial.clock)
-      (standing g.L.Dial.dialled g.L.Dial.dial_faults g.K.Clock.shown l.node l.seats l.links l.clock)
+  progress : (deeds : List Deed) × Progress (IsAnswered l.side)
+      (account (standing g.L.Dial.dialled g.L.Dial.dial_faults g.K.Clock.shown l.node l.initial.seats l.initial.links l.initial.clock) [])
+      (account (standing g.L.Dial.dialled g.L.Dial.dial_faults g.K.Clock.shown l.node l.seats l.links l.clock) deeds)
       (g.C.Source.read_traffic l.initial.conn) (g.C.Source.read_traffic l.conn) l.reader l.requests;
   ready : IsSeatsOf l.node l.seats;
   faults : g.C.Source.read_faults l.initial.conn ≤ g.C.Source.read_faults l.conn;

@@ -1,10 +1,10 @@
-use Rattle.sidecar_requests.specs.Sessions.{edge_response}
-use Rattle.sidecar_requests.proofs.Sessions.{session_does, session_stays}
+use Rattle.sidecar_requests.proofs.Sessions.{session_does}
 use Rattle.sidecar_requests.proofs.session.sidecar_session.Goals as goal
 
-pub returns-clause-does : goal.returns-clause-does
-returns-clause-does g c = session_does c.args.side (edge_response c.args.side) _ _ _ _ _ _ _ c.serve_requests.ensures.session
+pub returns-clause-session : goal.returns-clause-session
+returns-clause-session g c = let s = c.serve_requests.ensures.session in session_does c.args.side _ _ _ _ _ _ _ s.0 s.1
 
 pub returns-clause-places : goal.returns-clause-places
 returns-clause-places g c =
-    let s = session_stays c.args.side (edge_response c.args.side) _ _ _ _ _ _ _ c.serve_requests.ensures.session in (s.app_at, s.store_at)
+    let s = c.serve_requests.ensures.session in
+    let d = session_does c.args.side _ _ _ _ _ _ _ s.0 s.1 in (d.stays.app_at, d.stays.store_at)
