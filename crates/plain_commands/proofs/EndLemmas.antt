@@ -10,7 +10,7 @@ use Rattle.script_text.specs.Lines.{lines_of}
 use Rattle.plain_commands.specs.Scripts.{Unread}
 use Rattle.plain_commands.specs.Replay.{ReplayRun, replay_of, limit_run, run_lines, most_bytes, most_lines}
 use Rattle.plain_commands.specs.ReplayTold.{IsFront, Prints, Writes, WritesFrontOf, WritesAs, PieceEnds, RunEnds, EndsAs, ReadsAll, AreAllOf, IsReadSoFar, most_read, Replays}
-use Rattle.plain_commands.proofs.Headlines.{headline_holds}
+use Rattle.plain_commands.proofs.Headlines.{headline_told}
 use Rattle.plain_commands.proofs.RunTold.{replay_told}
 use Rattle.plain_commands.proofs.RunLemmas.{front_of, then_front, drop_front}
 
@@ -131,7 +131,7 @@ replays_run left rest bytes before after ended reads ends =
       read = read_so_far left rest bytes before after ended reads ends;
       ends = subst (λ (r : ReplayRun). EndsAs r ended before after) (sym (read_whole left rest bytes reads)) (ends_as (replay_of bytes) before after ended ends);
       tells = replay_told (whole_of left bytes);
-      headline = headline_holds (replay_of (whole_of left bytes)).log;
+      headline = headline_told (lines_of (whole_of left bytes)) (replay_of (whole_of left bytes)) (replay_told (whole_of left bytes));
     }
 
 fault_read : (left rest : Option (List ℕ)) → IsReadSoFar left rest status.SourceFault
@@ -147,7 +147,7 @@ replays_fault left rest before =
       read = fault_read left rest;
       ends = refl;
       tells = replay_told (whole_of left []);
-      headline = headline_holds (replay_of (whole_of left [])).log;
+      headline = headline_told (lines_of (whole_of left [])) (replay_of (whole_of left [])) (replay_told (whole_of left []));
     }
 
 memory_read : (left rest : Option (List ℕ)) (bytes : List ℕ) → ReadsAll {X = Unit {0}} left rest bytes (Err port.OutOfMemory) → IsReadSoFar left rest status.OutOfMemory
@@ -167,7 +167,7 @@ replays_no_memory left rest before bytes reads =
       read = memory_read left rest bytes reads;
       ends = nothing_written before (replay_of (whole_of left [])).text;
       tells = replay_told (whole_of left []);
-      headline = headline_holds (replay_of (whole_of left [])).log;
+      headline = headline_told (lines_of (whole_of left [])) (replay_of (whole_of left [])) (replay_told (whole_of left []));
     }
 
 -- no run of bytes ends by a fault of the source

@@ -3,6 +3,7 @@ pub mod SetupLemmas
 pub mod RunLemmas
 pub mod EndLemmas
 pub mod RunTold
+mod Named
 pub mod Headlines
 pub mod Rows
 pub mod Moments

@@ -11,7 +11,8 @@ use Rattle.world_events.specs.declared.error.WorldError.TheVariants.{Spent, Dish
 use Rattle.solo_run.specs.World.{SoloState, TypeDepth, solo_step, refusal_of}
 use Rattle.solo_run.specs.Runs.{after_event, run_from, solo_run}
 use Rattle.solo_run.specs.Steps.{GivesOutcome}
-use Rattle.cluster_model.specs.World.{ClusterState, opening_cluster, key_part, cluster_step, cluster_run}
+use Rattle.cluster_model.specs.World.{opening_cluster, key_part, cluster_step}
+use Rattle.cluster_model.proofs.Lines.{cluster_run-append}
 use Rattle.world_run.specs.Worlds.{WorldView, view_of, GivesStep}
 use Rattle.script_text.specs.Outcomes.{turn_text, outcome_text}
 use Rattle.script_text.specs.Reading.{Setting}
@@ -64,10 +65,6 @@ solo_was_set depths events line setting started result new text is reads gives =
 
 -- ---- cluster scripts
 
-cluster_run-append : (w : ClusterState) (xs ys : List WorldEvent) → cluster_run ring_owner key_part w (xs ++ ys) ≡ cluster_run ring_owner key_part (cluster_run ring_owner key_part w xs) ys
-cluster_run-append w [] ys = refl
-cluster_run-append w (x ∷ xs) ys = cluster_run-append (cluster_step ring_owner key_part w x).world xs ys
-
 -- an event that sets no moment before the present one happens
 happens : (s : Setup) (events : List WorldEvent) (column : ℕ) (event : WorldEvent) (result : Result Outcome WorldError) → is_falling (cluster_after s events) event ≡ false
     → (cluster_step ring_owner key_part (cluster_after s events) event).outcome ≡ result → cluster_event_step s events column event ≡ cluster_event s events column event result
@@ -79,7 +76,7 @@ cluster_done : (s : Setup) (events : List WorldEvent) (column : ℕ) (event : Wo
     → new ≡ view_of (cluster_step ring_owner key_part (cluster_after s events) event).world → after ≡ before ++ outcome_text outcome
     → GoesTo (cluster_event_step s events column event) (script.Cluster new) before after
 cluster_done s events column event new outcome before after rising is world added =
-    let one = sym (cluster_run-append (opening_cluster (settings_of s)) events (event ∷ [])) in
+    let one = sym (cluster_run-append ring_owner key_part (opening_cluster (settings_of s)) events (event ∷ [])) in
     let goes : GoesTo (cluster_event s events column event (Ok outcome)) (script.Cluster new) before after = ((any_more events event, world ∙ ap view_of one), added) in
     subst (λ (step : LineStep). GoesTo step (script.Cluster new) before after) (sym (happens s events column event (Ok outcome) rising is)) goes
 
