@@ -25,3 +25,18 @@ AsksSecond path at (Some a) after = (after ≡ Some a) ⊎ ((after ≡ Some (wit
 abbrev pub AsksPort : Place → Option Asked → Option Asked → Type 0
 AsksPort at None after = Unit {0}
 AsksPort at (Some a) after = (after ≡ Some a) ⊎ (after ≡ Some (with_place a at))
+
+-- the one place was asked for
+abbrev pub AsksAt : Place → Option Asked → Option Asked → Type 0
+AsksAt at None after = Unit {0}
+AsksAt at (Some a) after = after ≡ Some (with_place a at)
+
+-- the one path, and then the place
+abbrev pub AsksSecondAll : List ℕ → Place → Option Asked → Option Asked → Type 0
+AsksSecondAll path at None after = Unit {0}
+AsksSecondAll path at (Some a) after = after ≡ Some (with_place (with_path a path) at)
+
+-- both paths, and then the place
+abbrev pub AsksAll : List ℕ → Place → Option Asked → Option Asked → Type 0
+AsksAll path at None after = Unit {0}
+AsksAll path at (Some a) after = after ≡ Some (with_place (with_both a path) at)

@@ -1,7 +1,9 @@
 // The command.
-ghost use Rattle.std.specs.Prelude.{◌≡◌, ◌≢◌, ◌<◌, ◌≤◌, ◌+◌, IfOk, string_bytes};
-ghost use Rattle.server_ports.specs.Hosts.{place_of};
-ghost use Rattle.store_command.specs.Commands.{second_path, AsksOnly, AsksPort, AsksSecond};
+ghost use Rattle.std.specs.Prelude.{◌≡◌, ◌≢◌, ◌<◌, ◌≤◌, ◌+◌, List, Option, IfOk, IsSome, string_bytes};
+ghost use Rattle.disk_model.specs.Disk.{DiskState};
+ghost use Rattle.server_ports.specs.Hosts.{Handed, Hands, place_of};
+ghost use Rattle.store_command.specs.Commands.{second_path, AsksAll, AsksAt, AsksOnly, AsksPort, AsksSecond, AsksSecondAll};
+ghost use Rattle.store_command.specs.Runs.{IsUnopened, RunsFirst, RunsPair, RunsStore, given_back};
 
 use crate::back::give_both;
 use crate::ends::end_of;
@@ -33,7 +35,7 @@ pub enum StoreEnd {
 // How the command ends if a disk isn't opened.
 fn unopened(error: PortError) -> StoreEnd
     ensures disk { result ≡ StoreEnd.DiskFault → error ≡ PortError.Failed }
-    ensures port { result ≢ StoreEnd.PortFault }
+    ensures either { IsUnopened result }
 {
     match error {
         PortError::Failed => StoreEnd::DiskFault,
@@ -68,6 +70,9 @@ fn run_both<R: Threads + Wait + Sync, H: Host, N: Dial, K: Clock>(
     ensures never_fall { (H.open_faults host.old ≤ H.open_faults host.new) × (H.bind_faults host.old ≤ H.bind_faults host.new) }
     ensures port_back { H.ports_out host.new ≡ H.ports_out host.old }
     ensures disks_back { result ≢ StoreEnd.OutOfMemory → H.disks_out host.old ≡ H.disks_out host.new + 2 }
+    ensures done { result ≡ StoreEnd.Done → (H.open_faults host.new ≡ H.open_faults host.old) × (H.bind_faults host.new ≡ H.bind_faults host.old) × IsSome words.now.sessions }
+    ensures bound { result ≡ StoreEnd.Done → AsksAt (place_of words.now.listen) (H.asked host.old) (H.asked host.new) }
+    ensures ran { (back : List (Option DiskState)) × Hands (H.handed host.old) (given_back back) (H.handed host.new) × RunsPair words.now.is_new (H.Store.told first) (H.Store.told second) result back }
 {
     match Store::open(alloc, first, second, words.is_new) {
         Ok(store) => serve_opened(rt, alloc, store, words, host, net, clock),
@@ -96,6 +101,9 @@ fn run_first<R: Threads + Wait + Sync, H: Host, N: Dial, K: Clock>(
     ensures never_fall { (H.open_faults host.old ≤ H.open_faults host.new) × (H.bind_faults host.old ≤ H.bind_faults host.new) }
     ensures port_back { H.ports_out host.new ≡ H.ports_out host.old }
     ensures disks_back { result ≢ StoreEnd.OutOfMemory → H.disks_out host.old ≡ H.disks_out host.new + 1 }
+    ensures done { result ≡ StoreEnd.Done → (H.open_faults host.new ≡ H.open_faults host.old) × (H.bind_faults host.new ≡ H.bind_faults host.old) × IsSome words.now.sessions }
+    ensures bound { result ≡ StoreEnd.Done → AsksSecondAll path.now (place_of words.now.listen) (H.asked host.old) (H.asked host.new) }
+    ensures ran { (given : Handed) × Hands (H.handed host.old) given (H.handed host.new) × RunsFirst path.now words.now.is_new (H.Store.told first) result given }
 {
     match host.open_disk(path, true) {
         Ok(second) => run_both(rt, alloc, first, second, words, host, net, clock),
@@ -125,6 +133,13 @@ pub fn run_store<R: Threads + Wait + Sync, H: Host, N: Dial, K: Clock>(
     // The port and both disks are given back; if memory ran out, the disks may be lost.
     ensures port_back { H.ports_out host.new ≡ H.ports_out host.old }
     ensures disks_back { result ≢ StoreEnd.OutOfMemory → H.disks_out host.new ≡ H.disks_out host.old }
+    // It is done only if no disk and no port has failed, the words name a number of connections, and the port was bound.
+    ensures done { result ≡ StoreEnd.Done → (H.open_faults host.new ≡ H.open_faults host.old) × (H.bind_faults host.new ≡ H.bind_faults host.old) × IsSome words.now.sessions }
+    ensures bound { result ≡ StoreEnd.Done → AsksAll words.now.journal.now (place_of words.now.listen) (H.asked host.old) (H.asked host.new) }
+    // What it did to the disks, as a host that tells of them tells it: which it opened, why the store was refused, or
+    // one legal history of its steps, what a crash leaves at each moment of it, and the states in which the disks are
+    // given back.
+    ensures ran { (given : Handed) × Hands (H.handed host.old) given (H.handed host.new) × RunsStore words.now.journal.now words.now.is_new result given }
 {
     let Ok(second) = second_path(alloc, words.journal) else {
         return StoreEnd::OutOfMemory;
