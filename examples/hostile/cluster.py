@@ -118,15 +118,16 @@ class Process:
     def start(self, *more):
         with open(self.output, "ab") as output:
             words = ["sh", "-c", f'{self.before}; exec "$@"', "sh", *self.words, *more]
-            self.child = subprocess.Popen(words, stdin=subprocess.DEVNULL, stdout=output)
+            self.child = subprocess.Popen(words, stdin=subprocess.DEVNULL, stdout=output, start_new_session=True)
 
     def send(self, number):
         if self.child and self.child.poll() is None:
             self.child.send_signal(number)
 
     def kill(self):
-        self.send(signal.SIGKILL)
-        if self.child:
+        """Kills it, and what it has started."""
+        if self.child and self.child.poll() is None:
+            os.killpg(self.child.pid, signal.SIGKILL)
             self.child.wait()
 
     def status(self):
