@@ -120,7 +120,8 @@ pub first_opened_then : (path second_at : List ℕ) (is_new : Bool) (first : Opt
     → Hands before (record { opened = first_opened path is_new first ∷ []; returned = [] }) mid
     → ((given : Handed) × Hands mid given after × RunsFirst second_at is_new first end given)
     → (given : Handed) × Hands before given after × RunsStore path is_new end given
-first_opened_then path second_at is_new first end before mid after at opens (more, hands, runs) =
-    (record { opened = first_opened path is_new first ∷ more.opened; returned = more.returned },
-     hands_both before mid after (record { opened = first_opened path is_new first ∷ []; returned = [] }) more opens hands,
-     inr (first, more, refl, subst (λ (p : List ℕ). RunsFirst p is_new first end more) at runs))
+first_opened_then path second_at is_new first end before mid after at opens (more, hands, runs) = (
+  record { opened = first_opened path is_new first ∷ more.opened; returned = more.returned },
+  hands_both before mid after (record { opened = first_opened path is_new first ∷ []; returned = [] }) more opens hands,
+  inr (first, more, refl, subst (λ (p : List ℕ). RunsFirst p is_new first end more) at runs),
+)
