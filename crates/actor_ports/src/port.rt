@@ -125,8 +125,8 @@ pub trait Dial: Drop + Send {
         ensures anew { IfOk result (λ other. StartsAnew (dialled self.now) (dialled other)) }
         ensures memory { IfErr result (λ e. e ≡ PortError.OutOfMemory) };
 
-    /// Says that no connection of this program is wanted any more: each that waits fails soon, where the dialler can see to
-    /// that.
+    /// Says that no connection of this program is wanted any more: each fails soon, where the dialler can see to that, but for
+    /// those that are dialled later and may wait for so long in all.
     fn end_links(&self) {}
 }
 

@@ -73,6 +73,13 @@ const WAITS: Waits = Waits {
     whole_ms: None,
 };
 
+// How long the placement has to answer a sidecar that leaves: its other links have ended then.
+const LEAVE_WAITS: Waits = Waits {
+    quiet_ms: None,
+    message_ms: None,
+    whole_ms: Some(1_000),
+};
+
 // The link to the placement, dialled if there is none.
 fn linked<N: Dial, K: Clock>(
     service: &SidecarService<'_, N, K>,
@@ -133,7 +140,7 @@ pub(crate) fn beat<R: Wait, N: Dial, K: Clock>(
     }
 }
 
-/// Stops all parts and leaves the placement, over the link that is left or a new one.
+/// Stops all parts and leaves the placement, over a new link.
 pub(crate) fn leave<R: Wait, N: Dial, K: Clock>(
     rt: &R,
     service: &SidecarService<'_, N, K>,
@@ -145,8 +152,9 @@ pub(crate) fn leave<R: Wait, N: Dial, K: Clock>(
     let mut pass = pass;
     let (seats, _) = stop_turn(rt, service.node, pass.seats);
     pass.seats = seats;
-    let left = pass.link.take();
-    let Some(link) = linked(service, &mut pass.net, left) else {
+    pass.link = None;
+    let at = service.placement;
+    let Ok(link) = pass.net.dial_waiting(at.ip, at.port, LEAVE_WAITS) else {
         return pass;
     };
     let mut link = link;

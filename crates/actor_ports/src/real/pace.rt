@@ -48,11 +48,13 @@ impl Patience for Impatient {
     }
 }
 
-// What a connection has waited, by a clock, and whether it is still wanted: it isn't once `ended` is true.
+// What a connection has waited, by a clock, and whether it is still wanted: it isn't once `ended` is true. One that is made
+// after that, and has an end of its own, is.
 #[derive(Drop)]
 pub(super) struct Pace<C: Clock + Copy> {
     clock: C,
     ended: Arc<AtomicBool, Global>,
+    is_last: bool,
     waits: Waits,
     made: Option<Instant>,
     began: Option<Instant>,
@@ -62,9 +64,11 @@ pub(super) struct Pace<C: Clock + Copy> {
 impl<C: Clock + Copy> Pace<C> {
     // That of a connection that begins now.
     pub(super) fn new(clock: C, ended: Arc<AtomicBool, Global>, waits: Waits) -> Pace<C> {
+        let is_last = ended.load(Ordering::SeqCst) && waits.whole_ms.is_some();
         Pace {
             clock,
             ended,
+            is_last,
             waits,
             made: Instant::now(&clock).ok(),
             began: None,
@@ -108,7 +112,7 @@ impl<C: Clock + Copy> Patience for Pace<C> {
     }
 
     fn is_over(&self, looks: u64) -> bool {
-        if self.ended.load(Ordering::SeqCst) {
+        if !self.is_last && self.ended.load(Ordering::SeqCst) {
             return true;
         }
         let quiet = looks.saturating_mul(look_ms(self.waits));
