@@ -1,9 +1,13 @@
 -- A call that did nothing.
-use Rattle.std.proofs.Common.{◌≡◌, inl, ℕ, List, [], ◌++◌, Option, Some, None, refl, sym, subst}
+use Rattle.std.proofs.Common.{◌≡◌, inl, inr, ℕ, List, [], ◌++◌, Option, Some, None, refl, sym, subst}
 use Rattle.std.proofs.lemmas.List.{append-nil}
 use Rattle.actor_names.specs.declared.address.Address.{Address}
 use Rattle.actor_ports.specs.Traffic.{Place, Dialled}
-use Rattle.server_ports.specs.Hosts.{Asked}
+use Rattle.server_ports.specs.Hosts.{Asked, nothing_handed, place_of}
+use Rattle.server_ports.proofs.Handed.{hands_nothing}
+use Rattle.command_words.specs.Reading.{Hosting}
+use Rattle.store_command.specs.declared.command.StoreEnd.TheVariants as stores
+use Rattle.actors_top.specs.Ran.{HostTold, RanStore}
 use Rattle.placement_command.specs.Commands.{AsksOnly}
 use Rattle.store_command.specs.Commands.{AsksOnly as AsksStore}
 use Rattle.sidecar_command.specs.Commands.{AsksPorts, DialsOnly}
@@ -17,7 +21,7 @@ pub nothing_asked_for : (path : List ℕ) (at : Place) (state : Option Address) 
 nothing_asked_for path at state None = tt
 nothing_asked_for path at state (Some a) = inl refl
 
-pub no_store_asked : (path : List ℕ) (at : Place) (asked : Option Asked) → AsksStore path at asked asked
+no_store_asked : (path : List ℕ) (at : Place) (asked : Option Asked) → AsksStore path at asked asked
 no_store_asked path at None = tt
 no_store_asked path at (Some a) = inl refl
 
@@ -31,3 +35,18 @@ nothing_dialled store app (Some d) = ([], [], tt, same d)
   where
     same : (d : Dialled) → Some d ≡ Some (record { places = d.places ++ []; links = d.links ++ [] })
     same d = rw (append-nil d.places, append-nil d.links) refl
+
+-- an end by want of memory isn't a store that is done
+store_not_done : {P : Type 0} → stores.OutOfMemory ≡ stores.Done → P
+store_not_done is = cc
+
+pub no_store : (p : Hosting) (h : HostTold) → RanStore p stores.OutOfMemory h h
+no_store p h = record {
+  asks = no_store_asked p.journal (place_of p.listen) h.asked;
+  given = nothing_handed;
+  hands = hands_nothing h.handed h.handed refl;
+  ran = inl (refl, inr refl);
+  limit = store_not_done;
+  bound = store_not_done;
+  sound = store_not_done;
+}

@@ -1,7 +1,11 @@
 -- What a server prints. Own: the statuses are in README.md.
-use Rattle.std.specs.Prelude.{ℕ, List, ◌++◌, codes, decimal, Option}
+use Rattle.std.specs.Prelude.{◌≡◌, ℕ, List, ◌++◌, codes, decimal, Option, None, Some}
 use Rattle.plain_commands.specs.ReplayTold.{Writes, WritesFrontOf}
 use Rattle.plain_commands.specs.Schedule.{WritesNothing}
+use Rattle.placement_command.specs.declared.command.PlacementEnd.{PlacementEnd}
+use Rattle.placement_command.specs.declared.command.PlacementEnd.TheVariants as places
+use Rattle.store_command.specs.declared.command.StoreEnd.{StoreEnd}
+use Rattle.store_command.specs.declared.command.StoreEnd.TheVariants as stores
 use Rattle.actors_top.specs.declared.server.ServerStatus.{ServerStatus}
 use Rattle.actors_top.specs.declared.server.ServerStatus.TheVariants as status
 
@@ -18,14 +22,41 @@ TellsDamage offset status.Done before after = ⊥
 TellsDamage offset status.DiskFault before after = ⊥
 TellsDamage offset status.PortFault before after = ⊥
 
--- what a server prints, by its status: nothing, but for the place of a damage
-abbrev pub TellsServer : ServerStatus → Option (List ℕ) → Option (List ℕ) → Type 0
-TellsServer status.Damaged before after = (offset : ℕ) × Writes before after (damaged_line offset)
-TellsServer status.SinkFault before after = (offset : ℕ) × WritesFrontOf before after (damaged_line offset)
-TellsServer status.OutOfMemory before after = WritesNothing before after
-TellsServer status.Done before after = WritesNothing before after
-TellsServer status.DiskFault before after = WritesNothing before after
-TellsServer status.PortFault before after = WritesNothing before after
+-- what a server prints, by the place of the damage that it is told with, if it is; else nothing, and the status is this
+abbrev pub TellsServer : Option ℕ → ServerStatus → ServerStatus → Option (List ℕ) → Option (List ℕ) → Type 0
+TellsServer None due ended before after = (ended ≡ due) × WritesNothing before after
+TellsServer (Some offset) due ended before after = TellsDamage offset ended before after
+
+-- the status of a placement's end
+abbrev pub placement_status : PlacementEnd → ServerStatus
+placement_status places.Done = status.Done
+placement_status places.DiskFault = status.DiskFault
+placement_status places.PortFault = status.PortFault
+placement_status places.OutOfMemory = status.OutOfMemory
+placement_status (places.Damaged offset) = status.Damaged
+
+-- the place of the damage that it is told with
+abbrev pub placement_damage : PlacementEnd → Option ℕ
+placement_damage places.Done = None
+placement_damage places.DiskFault = None
+placement_damage places.PortFault = None
+placement_damage places.OutOfMemory = None
+placement_damage (places.Damaged offset) = Some offset
+
+-- the same of a store's end
+abbrev pub store_status : StoreEnd → ServerStatus
+store_status stores.Done = status.Done
+store_status stores.DiskFault = status.DiskFault
+store_status stores.PortFault = status.PortFault
+store_status stores.OutOfMemory = status.OutOfMemory
+store_status (stores.Damaged offset) = status.Damaged
+
+abbrev pub store_damage : StoreEnd → Option ℕ
+store_damage stores.Done = None
+store_damage stores.DiskFault = None
+store_damage stores.PortFault = None
+store_damage stores.OutOfMemory = None
+store_damage (stores.Damaged offset) = Some offset
 
 abbrev pub server_code : ServerStatus → ℕ
 server_code status.Done = 0

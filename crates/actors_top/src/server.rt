@@ -1,10 +1,12 @@
 // How a server ends, and what it prints.
 ghost use Rattle.std.specs.Prelude.{◌≡◌, ◌<◌, ◌++◌, [], OnOk};
-ghost use Rattle.actors_top.specs.Server.{TellsDamage, damaged_line};
+ghost use Rattle.actors_top.specs.Server.{TellsDamage, TellsServer, damaged_line, placement_damage, placement_status, store_damage, store_status};
 
 use actor_ports::{PortError, Sink};
 use itoa::Buffer;
+use placement_command::PlacementEnd;
 use std::alloc::{AllocError, Global};
+use store_command::StoreEnd;
 
 /// How a server ends, by the status that the program gives to its caller.
 #[derive(Clone, Copy, PartialEq, Eq)]
@@ -33,8 +35,8 @@ fn push_damage(text: &mut Vec<u8>, offset: u64) -> Result<(), AllocError>
     text.extend_from_slice(b"\n")
 }
 
-/// Prints where a journal is damaged.
-pub(crate) fn tell_damage<W: Sink>(alloc: Global, offset: u64, output: &mut W) -> ServerStatus
+// Prints where a journal is damaged.
+fn tell_damage<W: Sink>(alloc: Global, offset: u64, output: &mut W) -> ServerStatus
     ensures tells { TellsDamage offset result (W.contents output.old) (W.contents output.new) }
     ensures cause { result ≡ ServerStatus.SinkFault → W.write_faults output.old < W.write_faults output.new }
 {
@@ -46,5 +48,43 @@ pub(crate) fn tell_damage<W: Sink>(alloc: Global, offset: u64, output: &mut W) -
         Ok(()) => ServerStatus::Damaged,
         Err(PortError::Failed) => ServerStatus::SinkFault,
         Err(PortError::OutOfMemory) => ServerStatus::OutOfMemory,
+    }
+}
+
+/// Tells how a placement ended: its status, and where its journal is damaged.
+pub(crate) fn tell_placement<W: Sink>(
+    alloc: Global,
+    end: PlacementEnd,
+    output: &mut W,
+) -> ServerStatus
+    ensures tells { TellsServer (placement_damage end) (placement_status end) result (W.contents output.old) (W.contents output.new) }
+    ensures cause { result ≡ ServerStatus.SinkFault → W.write_faults output.old < W.write_faults output.new }
+    ensures disk { result ≡ ServerStatus.DiskFault → end ≡ PlacementEnd.DiskFault }
+    ensures port { result ≡ ServerStatus.PortFault → end ≡ PlacementEnd.PortFault }
+    ensures memory { end ≡ PlacementEnd.OutOfMemory → result ≡ ServerStatus.OutOfMemory }
+{
+    match end {
+        PlacementEnd::Done => ServerStatus::Done,
+        PlacementEnd::DiskFault => ServerStatus::DiskFault,
+        PlacementEnd::PortFault => ServerStatus::PortFault,
+        PlacementEnd::OutOfMemory => ServerStatus::OutOfMemory,
+        PlacementEnd::Damaged { offset } => tell_damage(alloc, offset, output),
+    }
+}
+
+/// Tells how a store ended: its status, and where its journal is damaged.
+pub(crate) fn tell_store<W: Sink>(alloc: Global, end: StoreEnd, output: &mut W) -> ServerStatus
+    ensures tells { TellsServer (store_damage end) (store_status end) result (W.contents output.old) (W.contents output.new) }
+    ensures cause { result ≡ ServerStatus.SinkFault → W.write_faults output.old < W.write_faults output.new }
+    ensures disk { result ≡ ServerStatus.DiskFault → end ≡ StoreEnd.DiskFault }
+    ensures port { result ≡ ServerStatus.PortFault → end ≡ StoreEnd.PortFault }
+    ensures memory { end ≡ StoreEnd.OutOfMemory → result ≡ ServerStatus.OutOfMemory }
+{
+    match end {
+        StoreEnd::Done => ServerStatus::Done,
+        StoreEnd::DiskFault => ServerStatus::DiskFault,
+        StoreEnd::PortFault => ServerStatus::PortFault,
+        StoreEnd::OutOfMemory => ServerStatus::OutOfMemory,
+        StoreEnd::Damaged { offset } => tell_damage(alloc, offset, output),
     }
 }

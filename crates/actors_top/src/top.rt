@@ -2,36 +2,38 @@
 ghost use Rattle.std.specs.Prelude.{◌≡◌, ◌≢◌, ◌<◌, ◌≤◌, ◌⊎◌, ◌∷◌, [], true, None, Some, map, codes, string_bytes};
 ghost use Rattle.server_ports.specs.Hosts.{place_of};
 ghost use Rattle.exchanges.specs.Replies.{place_at};
-ghost use Rattle.command_words.specs.Told.{told_sidecar};
+ghost use Rattle.command_words.specs.Told.{told_server, told_sidecar};
 ghost use Rattle.command_words.specs.Reading.{Asking, Schedule, Drilling, Drill, Hosting, Placing, Placement, Store, Seating, Sidecar, has_options, reading};
 ghost use Rattle.plain_commands.specs.Drilled.{DrillEnds, DrillsHonestly};
 ghost use Rattle.plain_commands.specs.Status.{code_of};
 ghost use Rattle.plain_commands.specs.ReplayTold.{Replays};
 ghost use Rattle.plain_commands.specs.Schedule.{schedule_of, ScheduleEnds};
 ghost use Rattle.plain_commands.specs.declared.status.Status.{Status};
+ghost use Rattle.placement_command.specs.declared.command.PlacementEnd.{PlacementEnd};
 ghost use Rattle.placement_command.specs.Commands.{AsksOnly};
-ghost use Rattle.store_command.specs.Commands.{AsksOnly as AsksStore};
+ghost use Rattle.store_command.specs.declared.command.StoreEnd.{StoreEnd};
 ghost use Rattle.sidecar_command.specs.declared.ends.SidecarEnd.{SidecarEnd};
 ghost use Rattle.sidecar_command.specs.Commands.{AsksPorts, DialsOnly, IsSidecarRun};
-ghost use Rattle.actors_top.specs.Server.{TellsServer, server_code};
+ghost use Rattle.actors_top.specs.Ran.{RanStore, told_by};
+ghost use Rattle.actors_top.specs.Server.{TellsServer, placement_damage, placement_status, server_code, store_damage, store_status};
 ghost use Rattle.actors_top.specs.Sidecar.{TellsEnd, sidecar_code};
 ghost use Rattle.actors_top.specs.declared.server.ServerStatus.{ServerStatus};
 ghost use Rattle.actors_top.specs.declared.sidecar.SidecarStatus.{SidecarStatus};
 
-use crate::server::{ServerStatus, tell_damage};
+use crate::server::{ServerStatus, tell_placement, tell_store};
 use crate::sidecar::{SidecarStatus, tell_sidecar};
 use actor_ports::{Clock, Dial, Sink, Source};
 use command_words::{
     CommandWords, PlacementWords, ServerWords, SidecarWords, WordsError, read_words,
 };
-use placement_command::{PlacementEnd, run_placement};
+use placement_command::run_placement;
 use plain_commands::{Status, run_plain};
 use server_ports::Host;
 use sidecar_command::{Callees, run_sidecar};
 use std::alloc::Global;
 use std::sync::Wait;
 use std::thread::Threads;
-use store_command::{StoreEnd, run_store};
+use store_command::run_store;
 
 /// The outside of the program.
 #[derive(Drop)]
@@ -63,21 +65,16 @@ fn placement<R: Threads + Wait + Sync, I: Source, W: Sink, N: Dial, T: Clock, H:
     out: &mut Outside<I, W, N, T, H>,
 ) -> ServerStatus
     ensures asks { AsksOnly words.now.server.journal.now (place_of words.now.server.listen) words.now.http (H.asked out.old.host) (H.asked out.new.host) }
-    ensures tells { TellsServer result (W.contents out.old.output) (W.contents out.new.output) }
-    ensures unread { out.new.input ≡ out.old.input }
+    ensures tells { (end : PlacementEnd) × TellsServer (placement_damage end) (placement_status end) result (W.contents out.old.output) (W.contents out.new.output) }
+    ensures only { out.new ≡ record out.old { output = out.new.output; steady = out.new.steady; host = out.new.host } }
     ensures sink { result ≡ ServerStatus.SinkFault → W.write_faults out.old.output < W.write_faults out.new.output }
     ensures disk { result ≡ ServerStatus.DiskFault → H.open_faults out.old.host < H.open_faults out.new.host }
     ensures port { result ≡ ServerStatus.PortFault → H.bind_faults out.old.host < H.bind_faults out.new.host }
     ensures ports_back { H.ports_out out.new.host ≡ H.ports_out out.old.host }
     ensures disks_back { result ≢ ServerStatus.OutOfMemory → H.disks_out out.new.host ≡ H.disks_out out.old.host }
 {
-    match run_placement(rt, alloc, words, &mut out.host, &out.net, &mut out.steady) {
-        PlacementEnd::Done => ServerStatus::Done,
-        PlacementEnd::DiskFault => ServerStatus::DiskFault,
-        PlacementEnd::PortFault => ServerStatus::PortFault,
-        PlacementEnd::OutOfMemory => ServerStatus::OutOfMemory,
-        PlacementEnd::Damaged { offset } => tell_damage(alloc, offset, &mut out.output),
-    }
+    let end = run_placement(rt, alloc, words, &mut out.host, &out.net, &mut out.steady);
+    tell_placement(alloc, end, &mut out.output)
 }
 
 // Runs the store's server.
@@ -87,22 +84,17 @@ fn store<R: Threads + Wait + Sync, I: Source, W: Sink, N: Dial, T: Clock, H: Hos
     words: &ServerWords<'_>,
     out: &mut Outside<I, W, N, T, H>,
 ) -> ServerStatus
-    ensures asks { AsksStore words.now.journal.now (place_of words.now.listen) (H.asked out.old.host) (H.asked out.new.host) }
-    ensures tells { TellsServer result (W.contents out.old.output) (W.contents out.new.output) }
-    ensures unread { out.new.input ≡ out.old.input }
+    ensures ran { (end : StoreEnd) × RanStore (told_server words.now) end (told_by H.asked H.handed H.open_faults H.bind_faults out.old.host) (told_by H.asked H.handed H.open_faults H.bind_faults out.new.host)
+        × TellsServer (store_damage end) (store_status end) result (W.contents out.old.output) (W.contents out.new.output) }
+    ensures only { out.new ≡ record out.old { output = out.new.output; host = out.new.host } }
     ensures sink { result ≡ ServerStatus.SinkFault → W.write_faults out.old.output < W.write_faults out.new.output }
     ensures disk { result ≡ ServerStatus.DiskFault → H.open_faults out.old.host < H.open_faults out.new.host }
     ensures port { result ≡ ServerStatus.PortFault → H.bind_faults out.old.host < H.bind_faults out.new.host }
     ensures ports_back { H.ports_out out.new.host ≡ H.ports_out out.old.host }
     ensures disks_back { result ≢ ServerStatus.OutOfMemory → H.disks_out out.new.host ≡ H.disks_out out.old.host }
 {
-    match run_store(rt, alloc, words, &mut out.host, &out.net, &out.time) {
-        StoreEnd::Done => ServerStatus::Done,
-        StoreEnd::DiskFault => ServerStatus::DiskFault,
-        StoreEnd::PortFault => ServerStatus::PortFault,
-        StoreEnd::OutOfMemory => ServerStatus::OutOfMemory,
-        StoreEnd::Damaged { offset } => tell_damage(alloc, offset, &mut out.output),
-    }
+    let end = run_store(rt, alloc, words, &mut out.host, &out.net, &out.time);
+    tell_store(alloc, end, &mut out.output)
 }
 
 // Runs a sidecar.
@@ -167,30 +159,37 @@ pub fn run<R: Threads + Wait + Sync, I: Source, W: Sink, N: Dial, T: Clock, H: H
 
     // The status is that of a replay of the source's bytes, and what was written is what that replay prints: the
     // outcomes of the events that the script's lines name. For these the headline holds: no actor is active on two
-    // members, and the turns of one actor never mix.
+    // members, and the turns of one actor never mix. Nothing of the outside but the source and the sink is used: no disk is
+    // opened, no port bound, no connection made, and the clock isn't read.
     ensures replayed { map string_bytes words.now ≡ codes "replay" ∷ [] → (ended : Status) × (result ≡ code_of ended)
-        × Replays (I.remaining out.old.input) (I.remaining out.new.input) ended (W.contents out.old.output) (W.contents out.new.output) }
+        × Replays (I.remaining out.old.input) (I.remaining out.new.input) ended (W.contents out.old.output) (W.contents out.new.output)
+        × (out.new ≡ record out.old { input = out.new.input; output = out.new.output }) }
 
-    // The status is that of the schedule that is asked for, what was written is what it prints, and the source
-    // stays unread.
+    // The status is that of the schedule that is asked for, what was written is what it prints, and nothing but the sink
+    // is used: the source stays unread.
     ensures scheduled { (asking : Asking) → reading (map string_bytes words.now) ≡ Some (Schedule asking) → (ended : Status) × (result ≡ code_of ended)
-        × ScheduleEnds (schedule_of asking) ended (W.contents out.old.output) (W.contents out.new.output) × (out.new.input ≡ out.old.input) }
+        × ScheduleEnds (schedule_of asking) ended (W.contents out.old.output) (W.contents out.new.output) × (out.new ≡ record out.old { output = out.new.output }) }
 
     // The status is 0 and what was written is the counts of the drill that is asked for, unless the sink failed or
-    // there was no memory; the source stays unread. No event of the drill declares a running member lost.
+    // there was no memory; nothing but the sink is used, and the source stays unread. No event of the drill declares a running member lost.
     ensures drilled { (d : Drilling) → reading (map string_bytes words.now) ≡ Some (Drill d) → (ended : Status) × (result ≡ code_of ended)
-        × DrillEnds d ended (W.contents out.old.output) (W.contents out.new.output) × DrillsHonestly d × (out.new.input ≡ out.old.input) }
+        × DrillEnds d ended (W.contents out.old.output) (W.contents out.new.output) × DrillsHonestly d × (out.new ≡ record out.old { output = out.new.output }) }
 
-    // A placement asks its host for nothing but the path and the addresses of its words, prints nothing but the place of a
-    // damage, and leaves the source unread.
-    ensures placed { (p : Placing) → reading (map string_bytes words.now) ≡ Some (Placement p) → (ended : ServerStatus) × (result ≡ server_code ended)
+    // A placement asks its host for nothing but the path and the addresses of its words, and prints nothing but the place of a
+    // damage; the status says how its run ended. Nothing else of the outside is used but the steady clock.
+    ensures placed { (p : Placing) → reading (map string_bytes words.now) ≡ Some (Placement p) → (end : PlacementEnd) × (ended : ServerStatus) × (result ≡ server_code ended)
         × AsksOnly p.server.journal (place_of p.server.listen) p.http (H.asked out.old.host) (H.asked out.new.host)
-        × TellsServer ended (W.contents out.old.output) (W.contents out.new.output) × (out.new.input ≡ out.old.input) }
+        × TellsServer (placement_damage end) (placement_status end) ended (W.contents out.old.output) (W.contents out.new.output)
+        × (out.new ≡ record out.old { output = out.new.output; steady = out.new.steady; host = out.new.host }) }
 
-    // A store asks for nothing but the path of its words, the same with `.2` behind it, and the address; else the same.
-    ensures stored { (p : Hosting) → reading (map string_bytes words.now) ≡ Some (Store p) → (ended : ServerStatus) × (result ≡ server_code ended)
-        × AsksStore p.journal (place_of p.listen) (H.asked out.old.host) (H.asked out.new.host)
-        × TellsServer ended (W.contents out.old.output) (W.contents out.new.output) × (out.new.input ≡ out.old.input) }
+    // A store opens nothing but the path of its words and the same with `.2` behind it, and binds the address. Over a host that
+    // tells of its disks it served the store that was opened from those two, or says why not: 0 and 9 have their causes. What
+    // a crash leaves at any moment from the opening on opens with the contents after the acknowledged commands, perhaps with
+    // the one under way. It prints nothing but the place of a damage, and nothing else of the outside is used.
+    ensures stored { (p : Hosting) → reading (map string_bytes words.now) ≡ Some (Store p) → (end : StoreEnd) × (ended : ServerStatus) × (result ≡ server_code ended)
+        × RanStore p end (told_by H.asked H.handed H.open_faults H.bind_faults out.old.host) (told_by H.asked H.handed H.open_faults H.bind_faults out.new.host)
+        × TellsServer (store_damage end) (store_status end) ended (W.contents out.old.output) (W.contents out.new.output)
+        × (out.new ≡ record out.old { output = out.new.output; host = out.new.host }) }
 
     // A sidecar asks for nothing but the two addresses of its words, and leaves the source unread. It starts by exchanges with
     // the store and the application of its words, and says that either refused it only by what those answered. It says that

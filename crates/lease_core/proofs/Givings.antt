@@ -13,6 +13,7 @@ use Rattle.world_events.specs.declared.event.WorldEvent.TheVariants as lines
 use Rattle.world_events.specs.declared.outcome.Outcome.{Outcome}
 use Rattle.world_events.specs.declared.error.WorldError.{WorldError}
 use Rattle.world_events.specs.declared.error.WorldError.TheVariants as refused
+use Rattle.cluster_model.proofs.Lines.{cluster_run-append}
 use Rattle.cluster_model.specs.World as world
 use Rattle.cluster_model.specs.World.{ClusterState, WorldStep, key_part, most_events, cluster_run}
 use Rattle.world_run.specs.Looks.{asks_at}
@@ -182,15 +183,11 @@ stops-next m part (suc n) some =
     let b : n ≡ suc n - 1 = omega arith in
     λ i. lines.Stop m part ∷ stops_of m (a i) (b i)
 
-pub run-append : (w : ClusterState) (es fs : List WorldEvent) → cluster_run ring_owner key_part w (es ++ fs) ≡ cluster_run ring_owner key_part (cluster_run ring_owner key_part w es) fs
-run-append w [] fs = refl
-run-append w (e ∷ es) fs = run-append (world.cluster_step ring_owner key_part w e).world es fs
-
 -- the stops of the member at a place, and of those after it
 pub stops_from : (parts : ℕ) (ms : List MemberClock) (i : ℕ) (d : MemberClock) (w : ClusterState) → i < length ms →
     cluster_run ring_owner key_part w (stops_for parts (drop i ms)) ≡ cluster_run ring_owner key_part (cluster_run ring_owner key_part w (stops_if_ended parts (get_or ms i d))) (stops_for parts (drop (i + 1) ms))
 stops_from parts ms i d w l =
-    ap (λ (zs : List MemberClock). cluster_run ring_owner key_part w (stops_for parts zs)) (drop_at ms i d l) ∙ run-append w (stops_if_ended parts (get_or ms i d)) (stops_for parts (drop (i + 1) ms))
+    ap (λ (zs : List MemberClock). cluster_run ring_owner key_part w (stops_for parts zs)) (drop_at ms i d l) ∙ cluster_run-append ring_owner key_part w (stops_if_ended parts (get_or ms i d)) (stops_for parts (drop (i + 1) ms))
 
 -- ---- the code's own steps
 

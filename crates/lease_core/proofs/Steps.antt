@@ -28,7 +28,7 @@ use Rattle.cluster_model.specs.World as world
 use Rattle.cluster_model.specs.World.{ClusterState, WorldStep, most_events}
 use Rattle.cluster_model.proofs.Basics.{In-append, In-right, In-slice_get}
 use Rattle.turn_core.proofs.Elements.{In-left}
-use Rattle.cluster_model.proofs.Boots.{In-new_parts}
+use Rattle.cluster_model.proofs.Boots.{In-new_parts, number-new_parts}
 use Rattle.cluster_model.proofs.Lines.{line_kept}
 use Rattle.cluster_model.proofs.Named.{booted_part}
 use Rattle.cluster_model.proofs.Runs.{IsToldWorld, told_kept}
@@ -44,11 +44,6 @@ use Rattle.lease_core.proofs.Follows.{IsPlaced, Came, came_self, Follows, follow
 use Rattle.lease_core.proofs.Rooms.{Entry, WasMember, WasHeard, Registers, Heard, step_heard, IsRestarted, restart_heard, asker_heard, only_room, of_space}
 use Rattle.lease_core.proofs.Stops.{GoesOn, stops_go, run_follows, all_stop}
 use Rattle.lease_core.proofs.Leases.{IsSent, IsCovered, IsHeardSince, IsBookSound, IsLeased, heard_now, book_on, sent_more, told_more, NoneTold, heard_on}
-
-number-new_parts : (m : Member) (kinds : List TypeSettings) (i n : ℕ) (x : PartState) → In x (world.new_parts m kinds i n) → x.number < i + n
-number-new_parts m kinds i zero x h = absurd h
-number-new_parts m kinds i (suc n) x (inl e) = let a : x.number ≡ i = ap (λ (y : PartState). y.number) e in omega arith
-number-new_parts m kinds i (suc n) x (inr h) = let a = number-new_parts m kinds (suc i) n x h in omega arith
 
 -- the sent moments after an event: one more if there is one more message
 pub sent_same : (sent : List Sent) (s : Sent) (messages : List Message) → length sent ≡ length messages → cond (nat_lt (length sent) (length messages)) (sent ++ s ∷ []) sent ≡ sent

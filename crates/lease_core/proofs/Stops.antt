@@ -1,10 +1,9 @@
 -- A list of stops leaves stopped each part that it names.
-use Rattle.std.proofs.Common.{◌≡◌, ◌⊎◌, ℕ, zero, suc, Bool, true, false, cond, ◌+◌, ◌<◌, ◌≤◌, List, [], ◌∷◌, length, set, Option, None, Some, refl, sym, ap, ◌∙◌, subst, inl, inr, arith}
+use Rattle.std.proofs.Common.{◌≡◌, ◌⊎◌, ℕ, ◌+◌, ◌<◌, ◌≤◌, List, [], ◌∷◌, length, set, Option, None, Some, refl, sym, ap, ◌∙◌, subst, inl, inr, arith}
 use Rattle.std.specs.Prelude.{nat_le, slice_get, Result, Ok, Err}
-use Rattle.std.proofs.lemmas.Bool.{cond_both, cond-false, cases_Bool, and_from, eq-eqb, both_ways, lt-leb}
+use Rattle.std.proofs.lemmas.Bool.{cond_both, cond-false, lt-leb}
 use Rattle.actor_names.specs.declared.member.Member.{Member}
 use Rattle.actor_names.specs.declared.actor_key.ActorKey.{ActorKey}
-use Rattle.actor_names.specs.Same.{same_member}
 use Rattle.place_table.specs.declared.host.HostInfo.{HostInfo}
 use Rattle.place_table.specs.Hosts.{PlacementTable}
 use Rattle.turn_core.specs.CellSound.{In}
@@ -17,35 +16,17 @@ use Rattle.world_events.specs.declared.event.WorldEvent.TheVariants as lines
 use Rattle.world_events.specs.declared.outcome.Outcome.{Outcome}
 use Rattle.world_events.specs.declared.error.WorldError.{WorldError}
 use Rattle.cluster_model.specs.World as world
-use Rattle.cluster_model.specs.World.{ClusterState, WorldStep, is_part, place_of_part, most_events}
+use Rattle.cluster_model.specs.World.{ClusterState, WorldStep, place_of_part, most_events}
 use Rattle.cluster_model.specs.Spaces.{KeepsToSpace}
-use Rattle.cluster_model.proofs.Basics.{same_member-self, In-slice_get}
+use Rattle.cluster_model.proofs.Basics.{In-slice_get}
 use Rattle.cluster_model.proofs.Histories.{get-set}
 use Rattle.cluster_model.proofs.Lines.{step_kept, run_kept}
-use Rattle.cluster_model.proofs.Named.{same_place}
+use Rattle.cluster_model.proofs.Named.{same_place, place-In, place_found}
 use Rattle.cluster_model.proofs.Runs.{IsToldWorld, told_kept}
 use Rattle.cluster_model.proofs.SpaceParts.{backed}
 use Rattle.lease_core.proofs.Lists.{AreStops, some_same}
 use Rattle.lease_core.proofs.Quiet.{Rests, quiet_rests}
 use Rattle.lease_core.proofs.Follows.{IsPlaced, Follows, follows_self, follows_kept}
-
-place-In : (ps : List PartState) (p : PartState) → In p ps → (k : ℕ) × (slice_get ps k ≡ Some p)
-place-In [] p i = absurd i
-place-In (x ∷ ps) p (inl e) = (0, ap Some (sym e))
-place-In (x ∷ ps) p (inr i) = (let h = place-In ps p i in (suc h.0, h.1))
-
--- a part of the list has a place
-place_found : (ps : List PartState) (p : PartState) → In p ps → (n : ℕ) × (q : PartState) × (place_of_part ps p.member p.number ≡ Some n) × (slice_get ps n ≡ Some q)
-place_found [] p i = absurd i
-place_found (x ∷ ps) p i =
-    let more = place_found ps p in
-    elim (cases_Bool (is_part p.member p.number x)) [
-      | inl t ↦ (0, x, ap (λ (b : Bool). cond b (Some 0) (world.up (place_of_part ps p.member p.number))) t, refl)
-      | inr f ↦ elim i [
-        | inl e ↦ absurd (both_ways _ f (and_from _ _ (subst (λ (z : Member). same_member p.member z ≡ true) (ap (λ (z : PartState). z.member) e) (same_member-self p.member)) (eq-eqb _ _ (ap (λ (z : PartState). z.number) e))))
-        | inr j ↦ (let h = more j in (suc h.0, h.1, ap (λ (b : Bool). cond b (Some 0) (world.up (place_of_part ps p.member p.number))) f ∙ ap world.up h.2, h.3))
-      ]
-    ]
 
 module _ (owner : PlacementTable → ActorKey → Option HostInfo) (part_of : ActorKey → ℕ → ℕ) where
   stop_at : (p : PartState) (s : Stage) → p.stage ≡ s → (step_at owner p s events.StopPart).part.stage ≡ Stopped
