@@ -47,7 +47,7 @@ serve_ports-requires-send-P g c κs within =
     let L = param 5 g.row.N-Link in
     let w = watch.the_send N K L g.N.Dial g.N.Link.Source g.N.Link.Sink g.K.Clock in
     let T = pass.the_type N K L g.N.Dial g.N.Link.Source g.N.Link.Sink g.K.Clock in
-    let parts : AllSend (fields T) = (c.seats_cross.ensures, (search (w, seat.the_send) depth 9, (search (c.type_bounds.send-N, address.the_field_send, sendable, crosses) depth 20, (c.type_bounds.send-N, (c.type_bounds.send-K, (search (sendable, crosses) depth 20, (search (c.type_bounds.send-N-Link, sendable, crosses) depth 20, tt))))))) in
+    let parts : AllSend (fields T) = (c.seats_cross.ensures, (search (w, seat.the_send) depth 9, (search (c.type_bounds.send-N, address.the_field_send, sendable, crosses) depth 20, (c.type_bounds.send-N, (c.type_bounds.send-K, (c.type_bounds.send-K, (search (sendable, crosses) depth 20, (search (c.type_bounds.send-N-Link, sendable, crosses) depth 20, tt)))))))) in
     param_send _ _ (arg_send _ no (pass.the_row N K L g.N.Dial g.N.Link.Source g.N.Link.Sink g.K.Clock) (recorded_send _ _ T.to T.to_one (struct_send (shape T) parts)))
 
 pub serve_ports-requires-sync-V : goal.serve_ports-requires-sync-V
