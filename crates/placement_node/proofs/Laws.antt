@@ -1,15 +1,13 @@
 -- A node at the end of a run, and what a crash leaves of it.
 use Rattle.std.proofs.Common.{◌≡◌, inl, inr, ℕ, ◌≤◌, false, List, [], ◌∷◌, ◌++◌, length, Option, Some, None, Result, Ok, refl, sym, ap, ◌∙◌, subst}
-use Rattle.disk_model.specs.Disk.{DiskState, Tells}
-use Rattle.disk_model.specs.Crash.{Since}
-use Rattle.disk_model.proofs.Moments.{later_here, since_weaker}
+use Rattle.disk_model.specs.Disk.{Tells}
 use Rattle.disk_model.proofs.Stages.{told_before, tells_map_at, tells_same}
 use Rattle.std.proofs.lemmas.List.{append-nil}
 use Rattle.tx_journal.specs.declared.error.JournalError.{JournalError}
 use Rattle.tx_journal.specs.Runs.{AppendMoves}
-use Rattle.tx_journal.specs.File.{journal_payloads}
-use Rattle.tx_journal.specs.Pair.{Files, Claim, Holds, LeavesBoth, LeavesOpened, SinceBoth, SinceOpened, IsJust, IsEither, live_payloads}
+use Rattle.tx_journal.specs.Pair.{Files, Holds, LeavesOpened, SinceOpened, IsJust, IsEither}
 use Rattle.tx_journal.specs.Calls.{JournalState, told, append_refusal, Commits, Committed}
+use Rattle.tx_journal.proofs.Claims.{leaves_weaker, since_opened_weaker, opened_here}
 use Rattle.round_core.specs.Runs.{RunEvent, Steps as Stepped, Restarts}
 use Rattle.placement_core.specs.Entries.{EntryOf, placement_record}
 use Rattle.placement_core.specs.Placement.{PlacementState, new_placement, placement_step, placement_restarted}
@@ -20,7 +18,7 @@ use Rattle.placement_node.specs.Node.{NodeState, Appended, Steps, Works, NodeMov
 use Rattle.placement_node.specs.Ranges.{EventFits, StateFits, RecordFits}
 use Rattle.placement_node.specs.Records.{payload_of, payloads_of}
 use Rattle.placement_node.specs.Replies.{Outcome, Done, NoMemory, NoRoom, Failed, Shut, outcome_of}
-use Rattle.placement_node.specs.Runs.{reached, with_step, RunFits, AreOfRun, OpensAs, OpensAsEither, IsAt, StepHolds, StepsAtEnd, LeavesEnd}
+use Rattle.placement_node.specs.Runs.{reached, with_step, RunFits, AreOfRun, OpensAs, LeftBy, LeftByEither, OpensLeft, IsAt, StepHolds, StepsAtEnd, LeavesEnd}
 use Rattle.placement_node.proofs.Fits.{new_fits}
 use Rattle.placement_node.proofs.Pushes.{Restores, state_push, of_run_push, opens_run}
 use Rattle.placement_node.proofs.Rooms.{state_fits, restart_fits, record_fits}
@@ -43,34 +41,14 @@ fits_push (Restarts now ∷ run) event events here = fits_push run event events 
 
 -- ---- claims
 
-pub claims_weaker : (P Q : Claim) (first : DiskState) (second : Option DiskState) → ((r : Result (List (List ℕ)) ℕ) → P r → Q r) → LeavesBoth P first second → LeavesBoth Q first second
-claims_weaker P Q first None f leaves = λ x image. f (journal_payloads x) (leaves x image)
-claims_weaker P Q first (Some second) f leaves = λ x image y other. f (live_payloads x y) (leaves x image y other)
-
-since_claims : (P Q : Claim) (a : DiskState) (b : Option DiskState) (c : DiskState) (d : Option DiskState) → ((r : Result (List (List ℕ)) ℕ) → P r → Q r) → SinceBoth P a b c d → SinceBoth Q a b c d
-since_claims P Q a None c None f since = since_weaker (λ x. P (journal_payloads x)) (λ x. Q (journal_payloads x)) a c (λ x. f (journal_payloads x)) since
-since_claims P Q a None c (Some e) f since = since
-since_claims P Q a (Some d) c None f since = since
-since_claims P Q a (Some d) c (Some e) f since =
-    since_weaker (λ x. Since (λ y. P (live_payloads x y)) d e) (λ x. Since (λ y. Q (live_payloads x y)) d e) a c
-    (λ x. since_weaker (λ y. P (live_payloads x y)) (λ y. Q (live_payloads x y)) d e (λ y. f (live_payloads x y))) since
-
--- nothing was called
-since_here : (P : Claim) (a : DiskState) (b : Option DiskState) → LeavesBoth P a b → SinceBoth P a b a b
-since_here P a None leaves = record { start = leaves; later = later_here (λ x. P (journal_payloads x)) a }
-since_here P a (Some b) leaves = record {
-  start = λ x image. record { start = leaves x image; later = later_here (λ y. P (live_payloads x y)) b };
-  later = later_here (λ x. Since (λ y. P (live_payloads x y)) b b) a;
-}
-
 one_payload : (es : List EntryOf) (payload : List ℕ) (others : List (List ℕ)) → payloads_of es ≡ payload ∷ others → payloads_of es ≡ payload ∷ []
 one_payload [] payload others is = absurd cc
 one_payload (e ∷ es) payload others is = let same : payload_of (e ∷ es) ≡ payload = cc in ap (λ (p : List ℕ). p ∷ []) same
 
-module _ (restored : Restores) (run : List RunEvent) where
+module _ (run : List RunEvent) where
   -- files that hold the records of the run
-  pub held_opens : (payloads : List (List ℕ)) (files : Files) → AreOfRun run payloads → Holds payloads files → LeavesOpened (OpensAs (reached run)) files
-  held_opens payloads files reads holds = claims_weaker (IsJust payloads) (OpensAs (reached run)) files.first files.second (λ r is. subst (OpensAs (reached run)) (sym is) (opens_run restored run payloads reads)) holds.leaves
+  pub held_left : (payloads : List (List ℕ)) (files : Files) → AreOfRun run payloads → Holds payloads files → LeavesOpened (LeftBy run) files
+  held_left payloads files reads holds = leaves_weaker (IsJust payloads) (LeftBy run) files.first files.second (λ r is. (payloads, is, reads)) holds.leaves
 
   module _ (event : NodeEvent) (old : NodeState) (sent : EventFits event.event) (at : IsAt run old) where
     abbrev next : PlacementState
@@ -86,25 +64,25 @@ module _ (restored : Restores) (run : List RunEvent) where
     more : (payloads : List (List ℕ)) → AreOfRun run payloads → AreOfRun (with_step run event) (payloads ++ payloads_of es)
     more payloads reads = of_run_push run (Stepped event.event event.now) payloads es_fit reads
 
-    either : (payloads : List (List ℕ)) (payload : List ℕ) → payloads_of es ≡ payload ∷ [] → AreOfRun run payloads → (r : Result (List (List ℕ)) ℕ) → IsEither payloads (payloads ++ payload ∷ []) r → OpensAsEither (reached run) next r
-    either payloads payload one reads r (inl is) = inl (subst (OpensAs (reached run)) (sym is) (opens_run restored run payloads reads))
-    either payloads payload one reads r (inr is) = inr (subst (OpensAs next) (sym is) (opens_run restored (with_step run event) (payloads ++ payload ∷ []) (subst (λ (ps : List (List ℕ)). AreOfRun (with_step run event) (payloads ++ ps)) one (more payloads reads))))
+    either : (payloads : List (List ℕ)) (payload : List ℕ) → payloads_of es ≡ payload ∷ [] → AreOfRun run payloads → (r : Result (List (List ℕ)) ℕ) → IsEither payloads (payloads ++ payload ∷ []) r → LeftByEither run (with_step run event) r
+    either payloads payload one reads r (inl is) = inl (payloads, is, reads)
+    either payloads payload one reads r (inr is) = inr (payloads ++ payload ∷ [], is, subst (λ (ps : List (List ℕ)). AreOfRun (with_step run event) (payloads ++ ps)) one (more payloads reads))
 
     -- at each moment of an append
-    appends : (payload : List ℕ) (new : JournalState) → payloads_of es ≡ payload ∷ [] → Tells (Commits payload) (told old.journal) (told new) → Tells (SinceOpened (OpensAsEither (reached run) next)) (told old.journal) (told new)
-    appends payload new one commits = tells_map_at (Commits payload) (SinceOpened (OpensAsEither (reached run) next)) (told old.journal) (told new)
+    appends : (payload : List ℕ) (new : JournalState) → payloads_of es ≡ payload ∷ [] → Tells (Commits payload) (told old.journal) (told new) → Tells (SinceOpened (LeftByEither run (with_step run event))) (told old.journal) (told new)
+    appends payload new one commits = tells_map_at (Commits payload) (SinceOpened (LeftByEither run (with_step run event))) (told old.journal) (told new)
         (λ f g is commit.
         let held = at.holds f is in
-        since_claims (IsEither held.0 (held.0 ++ payload ∷ [])) (OpensAsEither (reached run) next) f.first f.second g.first g.second (either held.0 payload one held.2) (commit held.0 held.1))
+        since_opened_weaker (IsEither held.0 (held.0 ++ payload ∷ [])) (LeftByEither run (with_step run event)) f.first f.second g.first g.second (either held.0 payload one held.2) (commit held.0 held.1))
         commits
 
     -- where nothing was written
-    rests : (new : JournalState) → new ≡ old.journal → Tells (SinceOpened (OpensAsEither (reached run) next)) (told old.journal) (told new)
-    rests new same = tells_map_at (λ f g. f ≡ g) (SinceOpened (OpensAsEither (reached run) next)) (told old.journal) (told new)
+    rests : (new : JournalState) → new ≡ old.journal → Tells (SinceOpened (LeftByEither run (with_step run event))) (told old.journal) (told new)
+    rests new same = tells_map_at (λ f g. f ≡ g) (SinceOpened (LeftByEither run (with_step run event))) (told old.journal) (told new)
         (λ f g is equal.
         let held = at.holds f is in
-        subst (SinceOpened (OpensAsEither (reached run) next) f) equal
-        (since_here (OpensAsEither (reached run) next) f.first f.second (claims_weaker (OpensAs (reached run)) (OpensAsEither (reached run) next) f.first f.second (λ r opens. inl opens) (held_opens held.0 f held.2 held.1))))
+        subst (SinceOpened (LeftByEither run (with_step run event)) f) equal
+        (opened_here (LeftByEither run (with_step run event)) f.first f.second (leaves_weaker (LeftBy run) (LeftByEither run (with_step run event)) f.first f.second (λ r left. inl left) (held_left held.0 f held.2 held.1))))
         (tells_same (λ f g. f ≡ g) (told old.journal) (told new) (λ f. refl) (ap told same))
 
     -- the state after the step
@@ -115,7 +93,7 @@ module _ (restored : Restores) (run : List RunEvent) where
     written_is = ap (λ (s : PlacementState). payloads_of (placement_record s event.event event.now)) at.state
 
     -- a step that is done
-    done_at : (reply : NodeReply) (new : NodeState) → Steps old event reply new → IsAt (with_step run event) new × Tells (SinceOpened (OpensAsEither (reached run) next)) (told old.journal) (told new.journal)
+    done_at : (reply : NodeReply) (new : NodeState) → Steps old event reply new → IsAt (with_step run event) new × Tells (SinceOpened (LeftByEither run (with_step run event))) (told old.journal) (told new.journal)
     done_at reply new steps = go (payloads_of es) refl (subst (λ (ps : List (List ℕ)). Appended ps (Ok tt) old.journal new.journal) written_is steps.written)
       where
         at_next : new.journal.is_broken ≡ false → ((files : Files) → told new.journal ≡ Some files → (payloads : List (List ℕ)) × Holds payloads files × AreOfRun (with_step run event) payloads) → IsAt (with_step run event) new
@@ -128,7 +106,7 @@ module _ (restored : Restores) (run : List RunEvent) where
             by_refusal None is = ap (λ (j : JournalState). j.is_broken) (moves.taken is).0 ∙ at.works
             by_refusal (Some e) is = absurd (let both = (moves.refused e is).0 in cc (both))
 
-        go : (ps : List (List ℕ)) → payloads_of es ≡ ps → Appended ps (Ok tt) old.journal new.journal → IsAt (with_step run event) new × Tells (SinceOpened (OpensAsEither (reached run) next)) (told old.journal) (told new.journal)
+        go : (ps : List (List ℕ)) → payloads_of es ≡ ps → Appended ps (Ok tt) old.journal new.journal → IsAt (with_step run event) new × Tells (SinceOpened (LeftByEither run (with_step run event))) (told old.journal) (told new.journal)
         go [] one same = (
           at_next (ap (λ (j : JournalState). j.is_broken) same ∙ at.works)
               (λ files is.
@@ -147,7 +125,7 @@ module _ (restored : Restores) (run : List RunEvent) where
             )
 
     -- what a step does, by what came of it
-    by_outcome : (reply : NodeReply) (new : NodeState) (o : Outcome) → Works old event reply new o → Tells (SinceOpened (OpensAsEither (reached run) next)) (told old.journal) (told new.journal) × (o ≡ Done → IsAt (with_step run event) new)
+    by_outcome : (reply : NodeReply) (new : NodeState) (o : Outcome) → Works old event reply new o → Tells (SinceOpened (LeftByEither run (with_step run event))) (told old.journal) (told new.journal) × (o ≡ Done → IsAt (with_step run event) new)
     by_outcome reply new Done works = let done = done_at reply new works in (done.1, λ is. done.0)
     by_outcome reply new NoMemory works = (rests new.journal (ap (λ (n : NodeState). n.journal) works), λ is. absurd (let e : NoMemory ≡ Done = is in cc))
     by_outcome reply new (NoRoom len) works = (rests new.journal (ap (λ (n : NodeState). n.journal) works.1), λ is. absurd (let e : NoRoom len ≡ Done = is in cc))
@@ -157,8 +135,12 @@ module _ (restored : Restores) (run : List RunEvent) where
     pub step_holds : (reply : NodeReply) (new : NodeState) → NodeMoves old event reply new → StepHolds run event reply old new
     step_holds reply new moves = let did = by_outcome reply new (outcome_of reply) (moves.works at.works) in record { risks = did.0; done = did.1 }
 
-pub steps_at_end : Restores → StepsAtEnd
-steps_at_end restored run event reply old new sent at moves = step_holds restored run event old sent at reply new moves
+pub steps_at_end : StepsAtEnd
+steps_at_end run event reply old new sent at moves = step_holds run event old sent at reply new moves
 
-pub leaves_end : Restores → LeavesEnd
-leaves_end restored run n files at is = let held = at.holds files is in subst (λ (s : PlacementState). LeavesOpened (OpensAs s) files) (sym at.state) (held_opens restored run held.0 files held.2 held.1)
+pub leaves_end : LeavesEnd
+leaves_end run n files at is = let held = at.holds files is in held_left run held.0 files held.2 held.1
+
+-- what is left opens as the restart of the run's last state
+pub left_opens : Restores → OpensLeft
+left_opens restored run r left = subst (OpensAs (reached run)) (sym left.1) (opens_run restored run left.0 left.2)

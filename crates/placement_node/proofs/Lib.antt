@@ -1,6 +1,8 @@
+pub mod Above
 pub mod Fits
 pub mod Histories
 pub mod Laws
+pub mod Lefts
 pub mod Opens
 pub mod Pushes
 pub mod Quiet

@@ -1,11 +1,10 @@
 -- A node that is opened on the records of a run is at the end of the run with this restart.
-use Rattle.std.proofs.Common.{◌≡◌, ℕ, ◌≤◌, List, [], ◌∷◌, ◌++◌, length, Some, Result, Ok, sym, ap, ◌∙◌, subst}
-use Rattle.std.proofs.lemmas.List.{length-map}
+use Rattle.std.proofs.Common.{◌≡◌, ℕ, List, [], ◌∷◌, ◌++◌, Some, Result, Ok, sym, ap, ◌∙◌, subst}
 use Rattle.tx_journal.specs.Pair.{Holds}
 use Rattle.round_core.specs.Runs.{RunEvent, Steps as Stepped, Restarts}
 use Rattle.placement_core.specs.Entries.{placement_restart_record}
-use Rattle.placement_core.specs.Placement.{SpaceRoom, PlacementState, new_placement, each_room, restarted, placement_restarted}
-use Rattle.placement_core.specs.Runs.{AreRooms}
+use Rattle.placement_core.specs.Placement.{SpaceRoom, PlacementState, new_placement, placement_restarted}
+use Rattle.placement_core.proofs.Ordered.{run_ordered}
 use Rattle.placement_node.specs.declared.error.PlacementOpenError.{PlacementOpenError}
 use Rattle.placement_node.specs.Found.{all_found, restart_entries, restart_payloads}
 use Rattle.placement_node.specs.Records.{payloads_of}
@@ -22,6 +21,13 @@ restart_is restored run payloads now reads =
     let same = ap (λ (s : PlacementState). s.rooms) (rooms_restarted restored run rooms.0 now rooms.2) in
     ap (λ (r : Result (List SpaceRoom) PlacementOpenError). restart_entries r now) rooms.1 ∙ run_recorded now run rooms.0 rooms.2 same
 
+-- the payloads with the record of the restart are those of the run with it
+pub restart_pushed : Restores → (run : List RunEvent) (payloads : List (List ℕ)) (now : ℕ) → RunFits run → AreOfRun run payloads → AreOfRun (with_restart run now) (payloads ++ restart_payloads payloads now)
+restart_pushed restored run payloads now fits reads =
+    let pushed = of_run_push run (Restarts now) payloads (restart_record_fits (reached run).rooms now (run_fits run fits) (run_ordered run).few) reads in
+    let written : restart_payloads payloads now ≡ payloads_of (placement_restart_record (reached run) now) = ap payloads_of (restart_is restored run payloads now reads) in
+    subst (λ (ps : List (List ℕ)). AreOfRun (with_restart run now) (payloads ++ ps)) (sym written) pushed
+
 fits_restart : (run : List RunEvent) (now : ℕ) → RunFits run → RunFits (with_restart run now)
 fits_restart [] now fits = tt
 fits_restart (Stepped event at ∷ run) now fits = (fits.0, fits_restart run now fits.1)
@@ -35,9 +41,6 @@ opens_at_end restored run create now n files fits rooms whole of_run tells =
     let next = state_push new_placement run (Restarts now) in
     let both : Ok n.state ≡ Ok (placement_restarted (reached run) now) = sym opened.2 ∙ found_run restored run payloads now reads in
     let state : n.state ≡ placement_restarted (reached run) now = cc in
-    let few : length (reached run).rooms ≤ 64 = few_rooms (reached run) now n.state state rooms in
-    let pushed = of_run_push run (Restarts now) payloads (restart_record_fits (reached run).rooms now (run_fits run fits) few) reads in
-    let written : restart_payloads payloads now ≡ payloads_of (placement_restart_record (reached run) now) = ap payloads_of (restart_is restored run payloads now reads) in
     record {
       works = whole;
       state = state ∙ sym next;
@@ -46,8 +49,5 @@ opens_at_end restored run create now n files fits rooms whole of_run tells =
       holds = λ later is.
           let same : Some tells.0 ≡ Some later = sym tells.1 ∙ is in
           let here : tells.0 ≡ later = cc in
-          (payloads ++ restart_payloads payloads now, subst (Holds (payloads ++ restart_payloads payloads now)) here opened.3, subst (λ (ps : List (List ℕ)). AreOfRun (with_restart run now) (payloads ++ ps)) (sym written) pushed);
+          (payloads ++ restart_payloads payloads now, subst (Holds (payloads ++ restart_payloads payloads now)) here opened.3, restart_pushed restored run payloads now fits reads);
     }
-  where
-    few_rooms : (s : PlacementState) (at : ℕ) (t : PlacementState) → t ≡ placement_restarted s at → AreRooms t.rooms → length s.rooms ≤ 64
-    few_rooms s at t is order = subst (λ (k : ℕ). k ≤ 64) (ap (λ (u : PlacementState). length u.rooms) is ∙ length-map s.rooms (each_room (restarted at))) order.few

@@ -4,14 +4,15 @@ use Rattle.std.specs.Prelude.{cond, nat_lt, option_map}
 use Rattle.std.proofs.lemmas.Bool.{ltb-true}
 use Rattle.std.proofs.lemmas.List.{append-nil, length-map}
 use Rattle.disk_model.specs.Disk.{DiskState, Tells}
-use Rattle.disk_model.specs.Crash.{Since}
-use Rattle.disk_model.proofs.Moments.{later_here, later_then, later_weaker}
+use Rattle.disk_model.proofs.Moments.{later_then, later_weaker}
 use Rattle.disk_model.proofs.Stages.{Then, Both, tells_on, tells_then, tells_both, tells_map, tells_map_at, tells_same}
 use Rattle.tx_journal.specs.declared.error.JournalError.{JournalError}
 use Rattle.tx_journal.specs.declared.error.JournalError.TheVariants as faults
-use Rattle.tx_journal.specs.File.{journal_payloads, most_bytes, longest}
+use Rattle.tx_journal.specs.File.{most_bytes, longest}
 use Rattle.tx_journal.specs.Journal.{Rises, IsOpenError}
-use Rattle.tx_journal.specs.Pair.{Files, Holds, IsEither, SinceOpened, live_payloads}
+use Rattle.tx_journal.specs.Pair.{Files, Holds, IsJust, IsEither, ReadsAs, SinceOpened}
+use Rattle.tx_journal.proofs.Claims.{leaves_weaker, opened_here}
+use Rattle.tx_journal.specs.declared.format.Format.TheVariants.{One}
 use Rattle.tx_journal.specs.Calls.{Side, JournalState, first_of, first_side, second_of, second_side, told, tell_one, append_refusal, Commits, Committed, is_making, MayBeLeftIn, OpensFiles, KeepsFiles, RefusesFiles, IsMeasured}
 use Rattle.placement_core.specs.Entries.{EntryOf, placement_restart_record}
 use Rattle.placement_core.specs.Placement.{SpaceRoom, PlacementState, new_placement, each_room, restarted, placement_restarted}
@@ -30,14 +31,7 @@ use Rattle.placement_node.proofs.Reading.{told_alone}
 
 -- nothing was written
 since_held : (payloads others : List (List ℕ)) (files : Files) → Holds payloads files → SinceOpened (IsEither payloads others) files files
-since_held payloads others files holds = go files.first files.second holds
-  where
-    go : (d : DiskState) (second : Option DiskState) → Holds payloads (record { first = d; second = second }) → SinceOpened (IsEither payloads others) (record { first = d; second = second }) (record { first = d; second = second })
-    go d None holds = record { start = λ x image. inl (holds.leaves x image); later = later_here (λ x. IsEither payloads others (journal_payloads x)) d }
-    go d (Some e) holds = record {
-      start = λ x image. record { start = λ y other. inl (holds.leaves x image y other); later = later_here (λ y. IsEither payloads others (live_payloads x y)) e };
-      later = later_here (λ x. Since (λ y. IsEither payloads others (live_payloads x y)) e e) d;
-    }
+since_held payloads others files holds = opened_here (IsEither payloads others) files.first files.second (leaves_weaker (IsJust payloads) (IsEither payloads others) files.first files.second (λ r is. inl is) holds.leaves)
 
 pub rests : (now : ℕ) (old new : JournalState) → told new ≡ told old → Tells (CommitsRestart now) (told old) (told new)
 rests now old new same = tells_same (CommitsRestart now) (told old) (told new) (λ files payloads holds. since_held payloads (payloads ++ restart_payloads payloads now) files holds) same
@@ -179,7 +173,7 @@ keeps_in create now d None e None f None alone opened keeps commits =
     let old : Files = record { first = d; second = None } in
     later_then (λ x. MayBeLeftBy create now old x None) d e f
     (later_weaker (λ x. MayBeLeftIn (is_making create d None) d None x None) (λ x. MayBeLeftBy create now old x None) d e (λ x left. inl left) keeps)
-    (later_weaker (λ x. IsEither opened.0 (opened.0 ++ restart_payloads opened.0 now) (journal_payloads x)) (λ x. MayBeLeftBy create now old x None) e f (λ x either. inr (opened.0, opened.1, either)) (commits opened.0 opened.2).later)
+    (later_weaker (ReadsAs (IsEither opened.0 (opened.0 ++ restart_payloads opened.0 now)) One) (λ x. MayBeLeftBy create now old x None) e f (λ x reads. inr (opened.0, opened.1, reads)) (commits opened.0 opened.2).later)
 
 -- what a crash leaves of an opening that read the journal
 pub keeps_node : (create : Bool) (now : ℕ) (a : Option DiskState) (b c : Option Files) → Tells (OpensFiles create) (tell_one a) b → Tells (KeepsFiles create) (tell_one a) b → Tells (CommitsRestart now) b c → Tells (KeepsNode create now) (tell_one a) c
@@ -202,7 +196,7 @@ keeps_refused create now a b keeps = tells_map_at (KeepsFiles create) (KeepsNode
 pub opens_node : (create : Bool) (now : ℕ) (s : PlacementState) (a : Option DiskState) (b c : Option Files) → Tells (OpensFiles create) (tell_one a) b → ((files : Files) → b ≡ Some files → (payloads : List (List ℕ)) → Holds payloads files → placement_found payloads now ≡ Ok s) → Tells (CommittedRestart now) b c → Tells (OpensNode create now s) (tell_one a) c
 opens_node create now s a b c opened found committed =
     tells_map (Then (Both (OpensFiles create) (λ f g. b ≡ Some g)) (CommittedRestart now)) (OpensNode create now s) (tell_one a) c
-    (λ d f calls. (calls.1.0.0, calls.1.0.1, found calls.0 calls.1.1 calls.1.0.0 calls.1.0.2, calls.2 calls.1.0.0 calls.1.0.2))
+    (λ d f calls. (calls.1.0.0, calls.1.0.1, found calls.0 calls.1.1 calls.1.0.0 calls.1.0.2, calls.2 calls.1.0.0 calls.1.0.2, calls.1.0.3))
     (tells_then (Both (OpensFiles create) (λ f g. b ≡ Some g)) (CommittedRestart now) (tell_one a) b c (at_b (tell_one a) opened) committed)
   where
     at_b : (x : Option Files) → Tells (OpensFiles create) x b → Tells (Both (OpensFiles create) (λ f g. b ≡ Some g)) x b

@@ -1,32 +1,23 @@
 -- What holds of a node after any list of steps.
 use Rattle.std.proofs.Common.{◌≡◌, inl, ℕ, ◌+◌, Bool, true, false, cond, List, [], ◌∷◌, length, Option, Some, None, Err, refl, sym, ap, ◌∙◌, subst}
 use Rattle.std.specs.Prelude.{nat_lt}
-use Rattle.disk_model.specs.Disk.{DiskState, Tells}
-use Rattle.disk_model.specs.Crash.{Since}
-use Rattle.disk_model.proofs.Moments.{since_now}
+use Rattle.disk_model.specs.Disk.{Tells}
 use Rattle.disk_model.proofs.Stages.{told_before}
 use Rattle.tx_journal.specs.declared.error.JournalError.{JournalError}
 use Rattle.tx_journal.specs.declared.error.JournalError.TheVariants as faults
 use Rattle.tx_journal.specs.Runs.{AppendMoves}
-use Rattle.tx_journal.specs.File.{journal_payloads, longest, most_bytes}
-use Rattle.tx_journal.specs.Pair.{Claim, LeavesBoth, SinceBoth, SinceOpened, live_payloads}
+use Rattle.tx_journal.specs.File.{longest, most_bytes}
+use Rattle.tx_journal.specs.Pair.{SinceOpened}
 use Rattle.tx_journal.specs.Calls.{JournalState, told, append_refusal}
+use Rattle.tx_journal.proofs.Claims.{leaves_weaker, opened_now}
 use Rattle.round_core.specs.Runs.{RunEvent}
 use Rattle.placement_node.specs.declared.reply.NodeEvent.{NodeEvent}
 use Rattle.placement_node.specs.declared.reply.NodeReply.{NodeReply}
-use Rattle.placement_node.specs.Node.{NodeState, Fails, Works, NodeMoves}
+use Rattle.placement_node.specs.Node.{NodeState, Fails, Works}
 use Rattle.placement_node.specs.Ranges.{EventFits}
 use Rattle.placement_node.specs.Replies.{Outcome, Done, NoMemory, NoRoom, Failed, Shut, outcome_of}
-use Rattle.placement_node.specs.Runs.{reached, with_step, OpensAs, OpensAsEither, IsAt, StepHolds, after_outcome, Follows, Stands, StandsAfter}
-use Rattle.placement_node.proofs.Laws.{claims_weaker, held_opens, step_holds}
-use Rattle.placement_node.proofs.Pushes.{Restores}
-
--- whatever may have been left since then may be left now
-leaves_now : (P : Claim) (a : DiskState) (b : Option DiskState) (c : DiskState) (d : Option DiskState) → SinceBoth P a b c d → LeavesBoth P c d
-leaves_now P a None c None since = since_now (λ x. P (journal_payloads x)) a c since
-leaves_now P a None c (Some e) since = absurd since
-leaves_now P a (Some d) c None since = absurd since
-leaves_now P a (Some d) c (Some e) since = λ x image. since_now (λ y. P (live_payloads x y)) d e (since_now (λ x. Since (λ y. P (live_payloads x y)) d e) a c since x image)
+use Rattle.placement_node.specs.Runs.{with_step, RunFits, LeftBy, LeftByEither, IsAt, StepHolds, after_outcome, fault_or, run_at_fault, Follows, Stands, StandsAfter}
+use Rattle.placement_node.proofs.Laws.{held_left, fits_push, step_holds}
 
 -- an append is never refused for a fault
 not_fault : (j : JournalState) (payload : List ℕ) → append_refusal j payload ≡ Some faults.DiskFault → ⊥
@@ -51,48 +42,49 @@ fault_breaks payload old new moves = go (append_refusal old payload) refl
 clash : (b : Bool) → b ≡ true → b ≡ false → ⊥
 clash b is other = let e : true ≡ false = sym is ∙ other in cc
 
-module _ (restored : Restores) where
-  -- a node at the end of a run
-  at_stands : (run : List RunEvent) (n : NodeState) → IsAt run n → Stands run run n
-  at_stands run n at = record {
-    works = λ whole. at;
-    leaves = λ files is.
-        let held = at.holds files is in
-        claims_weaker (OpensAs (reached run)) (OpensAsEither (reached run) (reached run)) files.first files.second (λ r opens. inl opens) (held_opens restored run held.0 files held.2 held.1);
-  }
+-- a node at the end of a run
+at_stands : (run : List RunEvent) (n : NodeState) → IsAt run n → Stands run run n
+at_stands run n at = record {
+  works = λ whole. at;
+  fits = (at.fits, at.fits);
+  leaves = λ files is.
+      let held = at.holds files is in
+      leaves_weaker (LeftBy run) (LeftByEither run run) files.first files.second (λ r left. inl left) (held_left run held.0 files held.2 held.1);
+}
 
-  -- a step that met a fault
-  failed_stands : (run : List RunEvent) (event : NodeEvent) (old new : NodeState) → Fails old event new → Tells (SinceOpened (OpensAsEither (reached run) (reached (with_step run event)))) (told old.journal) (told new.journal) → Stands run (with_step run event) new
-  failed_stands run event old new fails risks = record {
-    works = λ whole. absurd (clash new.journal.is_broken (fault_breaks fails.payload old.journal new.journal fails.written) whole);
-    leaves = λ files is.
-        let before = told_before (SinceOpened (OpensAsEither (reached run) (reached (with_step run event)))) (told old.journal) (told new.journal) files risks is in
-        leaves_now (OpensAsEither (reached run) (reached (with_step run event))) before.0.first before.0.second files.first files.second before.2;
-  }
+-- a step that met a fault
+failed_stands : (run : List RunEvent) (event : NodeEvent) (old new : NodeState) → RunFits run → EventFits event.event → Fails old event new → Tells (SinceOpened (LeftByEither run (with_step run event))) (told old.journal) (told new.journal) → Stands run (with_step run event) new
+failed_stands run event old new fits sent fails risks = record {
+  works = λ whole. absurd (clash new.journal.is_broken (fault_breaks fails.payload old.journal new.journal fails.written) whole);
+  fits = (fits, fits_push run event fits sent);
+  leaves = λ files is.
+      let before = told_before (SinceOpened (LeftByEither run (with_step run event))) (told old.journal) (told new.journal) files risks is in
+      opened_now (LeftByEither run (with_step run event)) before.0.first before.0.second files.first files.second before.2;
+}
 
-  next_stands : (run : List RunEvent) (event : NodeEvent) (reply : NodeReply) (old new : NodeState) (o : Outcome) → outcome_of reply ≡ o → IsAt run old → Works old event reply new o → StepHolds run event reply old new → (maybe : List RunEvent) × Stands (after_outcome run event o) maybe new
-  next_stands run event reply old new Done is at works holds = (with_step run event, at_stands (with_step run event) new (holds.done is))
-  next_stands run event reply old new NoMemory is at works holds = (run, at_stands run new (subst (IsAt run) (sym works) at))
-  next_stands run event reply old new (NoRoom len) is at works holds = (run, at_stands run new (subst (IsAt run) (sym works.1) at))
-  next_stands run event reply old new Failed is at works holds = (with_step run event, failed_stands run event old new works holds.risks)
-  next_stands run event reply old new Shut is at works holds = absurd works
+-- after a fault nothing changes
+shut_follows : (entries : List (NodeEvent × NodeReply)) (run maybe more : List RunEvent) (old new : NodeState) → old.journal.is_broken ≡ true → Stands run maybe old → Follows run old entries more new → Stands more maybe new
+shut_follows [] run maybe more old new broken stands follows = subst (λ (r : List RunEvent). Stands r maybe new) (sym follows.0) (subst (Stands run maybe) (sym follows.1) stands)
+shut_follows (entry ∷ entries) run maybe more old new broken stands follows =
+    let shut = follows.2.shut broken in
+    let rest = subst (λ (r : NodeReply). Follows (after_outcome run entry.0 (outcome_of r)) follows.0 entries more new) shut.0 follows.3 in
+    shut_follows entries run maybe more follows.0 new (ap (λ (n : NodeState). n.journal.is_broken) shut.1 ∙ broken) (subst (Stands run maybe) (sym shut.1) stands) rest
 
-  step_stands : (run maybe : List RunEvent) (event : NodeEvent) (reply : NodeReply) (old new : NodeState) → EventFits event.event → Stands run maybe old → NodeMoves old event reply new → (after : List RunEvent) × Stands (after_outcome run event (outcome_of reply)) after new
-  step_stands run maybe event reply old new sent stands moves = go old.journal.is_broken refl
-    where
-      go : (b : Bool) → old.journal.is_broken ≡ b → (after : List RunEvent) × Stands (after_outcome run event (outcome_of reply)) after new
-      go false whole =
-          let at = stands.works whole in
-          next_stands run event reply old new (outcome_of reply) refl at (moves.works whole) (step_holds restored run event old sent at reply new moves)
-      go true broken =
-          let shut = moves.shut broken in
-          (maybe, subst (λ (r : NodeReply). Stands (after_outcome run event (outcome_of r)) maybe new) (sym shut.0) (subst (Stands run maybe) (sym shut.1) stands))
+all_stand : (entries : List (NodeEvent × NodeReply)) (run more : List RunEvent) (old new : NodeState) → IsAt run old → Follows run old entries more new → Stands more (run_at_fault run entries) new
+all_stand [] run more old new at follows = subst (λ (r : List RunEvent). Stands r run new) (sym follows.0) (subst (Stands run run) (sym follows.1) (at_stands run old at))
+all_stand (entry ∷ entries) run more old new at follows =
+    let holds = step_holds run entry.0 old follows.1 at entry.1 follows.0 follows.2 in
+    go (λ on mid at rest. all_stand entries on more mid new at rest) (outcome_of entry.1) refl (follows.2.works at.works) holds follows.3
+  where
+    go : ((on : List RunEvent) (mid : NodeState) → IsAt on mid → Follows on mid entries more new → Stands more (run_at_fault on entries) new) → (o : Outcome) → outcome_of entry.1 ≡ o → Works old entry.0 entry.1 follows.0 o → StepHolds run entry.0 entry.1 old follows.0 → Follows (after_outcome run entry.0 o) follows.0 entries more new
+        → Stands more (fault_or run entry.0 o (run_at_fault (after_outcome run entry.0 o) entries)) new
+    go ih Done is works holds rest = ih (with_step run entry.0) follows.0 (holds.done is) rest
+    go ih NoMemory is works holds rest = ih run follows.0 (subst (IsAt run) (sym works) at) rest
+    go ih (NoRoom len) is works holds rest = ih run follows.0 (subst (IsAt run) (sym works.1) at) rest
+    go ih Failed is works holds rest =
+        shut_follows entries run (with_step run entry.0) more follows.0 new (fault_breaks works.payload old.journal follows.0.journal works.written)
+        (failed_stands run entry.0 old follows.0 at.fits follows.1 works holds.risks) rest
+    go ih Shut is works holds rest = absurd works
 
-  all_stand : (entries : List (NodeEvent × NodeReply)) (run maybe more : List RunEvent) (old new : NodeState) → Stands run maybe old → Follows run old entries more new → (last : List RunEvent) × Stands more last new
-  all_stand [] run maybe more old new stands follows = (maybe, subst (λ (r : List RunEvent). Stands r maybe new) (sym follows.0) (subst (Stands run maybe) (sym follows.1) stands))
-  all_stand (entry ∷ entries) run maybe more old new stands follows =
-      let next = step_stands run maybe entry.0 entry.1 old follows.0 follows.1 stands follows.2 in
-      all_stand entries (after_outcome run entry.0 (outcome_of entry.1)) next.0 more follows.0 new next.1 follows.3
-
-pub stands_after : Restores → StandsAfter
-stands_after restored run more old new entries at follows = all_stand restored entries run run more old new (at_stands restored run old at) follows
+pub stands_after : StandsAfter
+stands_after run more old new entries at follows = all_stand entries run more old new at follows

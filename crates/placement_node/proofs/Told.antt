@@ -35,12 +35,12 @@ version_in (replies.Update version) = Some version
 version_in (replies.Unlock version) = Some version
 version_in reply = None
 
-abbrev IsSilent : Conclusion → Type 0
+abbrev pub IsSilent : Conclusion → Type 0
 IsSilent (Stays reply) = version_in reply ≡ None
 IsSilent (Says reply) = version_in reply ≡ None
 IsSilent (Tells m) = Unit {0}
 
-no_version : (version : ℕ) (Q : Type 0) → None ≡ Some version → Q
+pub no_version : (version : ℕ) (Q : Type 0) → None ≡ Some version → Q
 no_version version Q is = absurd cc
 
 for_member : (s : RoomState) (m : Member) (version : ℕ) → version_in (reply_for s m) ≡ Some version → version ≡ last_version s
@@ -58,7 +58,7 @@ concluded s (Stays reply) version silent is = no_version version (version ≡ la
 concluded s (Says reply) version silent is = no_version version (version ≡ last_version (conclude s (Says reply)).state) (sym silent ∙ is)
 concluded s (Tells m) version silent is = for_member (conclude s (Tells m)).state m version is
 
-abbrev Silent : Membership → Type 0
+abbrev pub Silent : Membership → Type 0
 Silent change = IsSilent change.conclusion
 
 here_or_not : (s : RoomState) (m : Member) (f : Joined → Joined) → Silent (cond (is_here s.members m) (with_member s m f) (not_member s m))
@@ -83,7 +83,7 @@ register_silent s host now = go (is_here s.members host.member) (nat_le host.mem
     go false true o = refl
     go false false o = free_silent s host now o
 
-silent : (s : RoomState) (event : PlaceEvent) (now : ℕ) → Silent (apply_membership s event now)
+pub silent : (s : RoomState) (event : PlaceEvent) (now : ℕ) → Silent (apply_membership s event now)
 silent s (events.Register host) now = register_silent s host now
 silent s (events.Beat m) now = here_or_not s m _
 silent s (events.Ack m stage version) now = here_or_not s m _
@@ -127,13 +127,13 @@ placement_told s events.Look now version is = no_version version (version ≡ la
 
 -- ---- in a reply of the node
 
-reply_told : (s : PlacementState) (space : List ℕ) (reply : PlaceReply) (version : ℕ) → version_told (reply_of s space reply) ≡ Some version → version_in reply ≡ Some version
+pub reply_told : (s : PlacementState) (space : List ℕ) (reply : PlaceReply) (version : ℕ) → version_told (reply_of s space reply) ≡ Some version → version_in reply ≡ Some version
 reply_told s space (replies.Lock at) version is = is
 reply_told s space (replies.Update at) version is = is
 reply_told s space (replies.Unlock at) version is = is
 reply_told s space reply version is = is
 
-told_done : (reply : NodeReply) (version : ℕ) → version_told reply ≡ Some version → outcome_of reply ≡ Done
+pub told_done : (reply : NodeReply) (version : ℕ) → version_told reply ≡ Some version → outcome_of reply ≡ Done
 told_done (Message (frames.Lock at)) version is = refl
 told_done (Message (frames.Update at hosts)) version is = refl
 told_done (Message (frames.Unlock at)) version is = refl
@@ -192,11 +192,11 @@ event_rises s (Stepped events.Tick now) q = each_rises (ticked now) (λ room. (s
 event_rises s (Stepped events.Look now) q = omega arith
 event_rises s (Restarts now) q = each_rises (restarted now) (λ room. restart_rises room now) s.rooms q
 
-run_rises : (s : PlacementState) (run : List RunEvent) (q : List ℕ) → next_in (room_at s.rooms q) ≤ next_in (room_at (run_state s run).rooms q)
+pub run_rises : (s : PlacementState) (run : List RunEvent) (q : List ℕ) → next_in (room_at s.rooms q) ≤ next_in (room_at (run_state s run).rooms q)
 run_rises s [] q = omega arith
 run_rises s (e ∷ run) q = let first = event_rises s e q in let rest = run_rises (state_after s e) run q in omega arith
 
-state_append : (s : PlacementState) (run more : List RunEvent) → run_state s (run ++ more) ≡ run_state (run_state s run) more
+pub state_append : (s : PlacementState) (run more : List RunEvent) → run_state s (run ++ more) ≡ run_state (run_state s run) more
 state_append s [] more = refl
 state_append s (e ∷ run) more = state_append (state_after s e) run more
 

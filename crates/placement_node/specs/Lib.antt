@@ -1,3 +1,4 @@
+pub mod Crashes
 pub mod Found
 pub mod Histories
 pub mod Node

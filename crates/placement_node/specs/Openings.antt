@@ -1,9 +1,10 @@
 -- The opening of a node. Own.
 use Rattle.std.specs.Prelude.{◌≡◌, ◌<◌, ◌⊎◌, ℕ, ◌+◌, Bool, List, [], ◌∷◌, ◌++◌, length, Option, None, Some, Result, Ok, Err, ◌≤◌}
 use Rattle.tx_journal.specs.declared.error.JournalError.TheVariants as faults
-use Rattle.tx_journal.specs.File.{most_bytes, file_length, journal_payloads}
+use Rattle.tx_journal.specs.declared.format.Format.TheVariants.{One}
+use Rattle.tx_journal.specs.File.{most_bytes, file_length}
 use Rattle.tx_journal.specs.Journal.{Rises}
-use Rattle.tx_journal.specs.Pair.{Files, SinceOpened, Holds, IsEither}
+use Rattle.tx_journal.specs.Pair.{Files, live_bytes, ReadsAs, SinceOpened, Holds, IsEither}
 use Rattle.tx_journal.specs.Calls.{is_making, FindsIn, MayBeLeftIn, LaterBoth, RefusesFiles}
 use Rattle.placement_core.specs.Placement.{PlacementState}
 use Rattle.placement_node.specs.declared.error.PlacementOpenError.{PlacementOpenError}
@@ -17,13 +18,14 @@ abbrev pub Finds : Bool → Files → List (List ℕ) → Type 0
 Finds create files payloads = FindsIn (is_making create files.first files.second) files payloads
 
 -- An opening that is done: the placement is the restart of the records that the file had, and the record of that
--- restart, if there is one, is on the disk.
+-- restart, if there is one, is on the disk. The file wasn't longer than a journal takes.
 abbrev pub OpensNode : Bool → ℕ → PlacementState → Files → Files → Type 0
-OpensNode create now s old new = (payloads : List (List ℕ)) × Finds create old payloads × (placement_found payloads now ≡ Ok s) × Holds (payloads ++ restart_payloads payloads now) new
+OpensNode create now s old new = (payloads : List (List ℕ)) × Finds create old payloads × (placement_found payloads now ≡ Ok s) × Holds (payloads ++ restart_payloads payloads now) new × (length (live_bytes old.first old.second) ≤ most_bytes)
 
--- the file stands for the payloads that were found, or for these and the record of the restart
+-- the file stands for the payloads that were found, or for these and the record of the restart, and is no longer than a
+-- journal takes
 abbrev pub IsRestarting : Bool → ℕ → Files → List ℕ → Type 0
-IsRestarting create now files file = (payloads : List (List ℕ)) × Finds create files payloads × IsEither payloads (payloads ++ restart_payloads payloads now) (journal_payloads file)
+IsRestarting create now files file = (payloads : List (List ℕ)) × Finds create files payloads × ReadsAs (IsEither payloads (payloads ++ restart_payloads payloads now)) One file
 
 -- what a crash in the opening leaves: the file as it was, or while it is made one that isn't made or has no records; or
 -- a file of the payloads that were found, with the record of the restart or without it

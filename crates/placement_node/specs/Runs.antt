@@ -1,5 +1,5 @@
 -- A node over lists of steps and restarts: own.
-use Rattle.std.specs.Prelude.{◌≡◌, ◌≤◌, ◌⊎◌, ℕ, Bool, false, List, [], ◌∷◌, ◌++◌, Option, None, Some, Ok}
+use Rattle.std.specs.Prelude.{◌≡◌, ◌<◌, ◌≤◌, ◌⊎◌, ℕ, Bool, false, List, [], ◌∷◌, ◌++◌, Option, None, Some, Result, Ok}
 use Rattle.disk_model.specs.Disk.{Tells}
 use Rattle.frame_wire.specs.declared.frame.Frame.TheVariants as frames
 use Rattle.tx_journal.specs.Pair.{Files, Claim, Holds, LeavesOpened, SinceOpened}
@@ -45,8 +45,17 @@ AreOfRun run payloads = records_in payloads ≡ Some (run_records new_placement 
 abbrev pub OpensAs : PlacementState → Claim
 OpensAs s r = (payloads : List (List ℕ)) × (r ≡ Ok payloads) × ((now : ℕ) → placement_found payloads now ≡ Ok (placement_restarted s now))
 
-abbrev pub OpensAsEither : PlacementState → PlacementState → Claim
-OpensAsEither s t r = OpensAs s r ⊎ OpensAs t r
+-- the file has the records that this run leaves
+abbrev pub LeftBy : List RunEvent → Claim
+LeftBy run r = (payloads : List (List ℕ)) × (r ≡ Ok payloads) × AreOfRun run payloads
+
+-- those of this run or of that one
+abbrev pub LeftByEither : List RunEvent → List RunEvent → Claim
+LeftByEither run other r = LeftBy run r ⊎ LeftBy other r
+
+-- such a file opens, at any moment, as the restart of the state to which the run leads
+abbrev pub OpensLeft : Type 0
+OpensLeft = (run : List RunEvent) (r : Result (List (List ℕ)) ℕ) → LeftBy run r → OpensAs (reached run) r
 
 -- ---- a node at the end of a run
 
@@ -58,10 +67,10 @@ pub record IsAt (run : List RunEvent) (n : NodeState) : Type 0 where
   pub rooms : AreRooms n.state.rooms
   pub holds : (files : Files) → told n.journal ≡ Some files → (payloads : List (List ℕ)) × Holds payloads files × AreOfRun run payloads
 
--- What a step does at the end of a run: whatever a crash leaves at any moment of it opens as the restart of the state
--- before the step or after it; once the step is done, the node is at the end of the run with this step.
+-- What a step does at the end of a run: whatever a crash leaves at any moment of it has the records of the run, with this
+-- step or without it; once the step is done, the node is at the end of the run with this step.
 pub record StepHolds (run : List RunEvent) (event : NodeEvent) (reply : NodeReply) (old new : NodeState) : Type 0 where
-  pub risks : Tells (SinceOpened (OpensAsEither (reached run) (reached (with_step run event)))) (told old.journal) (told new.journal)
+  pub risks : Tells (SinceOpened (LeftByEither run (with_step run event))) (told old.journal) (told new.journal)
   pub done : outcome_of reply ≡ Done → IsAt (with_step run event) new
 
 -- a node that is opened on files with the records of a run is at the end of the run with this restart
@@ -75,9 +84,9 @@ OpensAtEnd =
 abbrev pub StepsAtEnd : Type 0
 StepsAtEnd = (run : List RunEvent) (event : NodeEvent) (reply : NodeReply) (old new : NodeState) → EventFits event.event → IsAt run old → NodeMoves old event reply new → StepHolds run event reply old new
 
--- a crash now leaves a file that opens as the restart of the node's state
+-- a crash now leaves a file with the records of the run
 abbrev pub LeavesEnd : Type 0
-LeavesEnd = (run : List RunEvent) (n : NodeState) (files : Files) → IsAt run n → told n.journal ≡ Some files → LeavesOpened (OpensAs n.state) files
+LeavesEnd = (run : List RunEvent) (n : NodeState) (files : Files) → IsAt run n → told n.journal ≡ Some files → LeavesOpened (LeftBy run) files
 
 -- ---- lists of steps
 
@@ -89,20 +98,34 @@ after_outcome run e (NoRoom len) = run
 after_outcome run e Failed = run
 after_outcome run e Shut = run
 
+-- the run with a step that met a disk fault; after any other outcome, this run
+abbrev pub fault_or : List RunEvent → NodeEvent → Outcome → List RunEvent → List RunEvent
+fault_or run e Failed later = with_step run e
+fault_or run e Done later = later
+fault_or run e NoMemory later = later
+fault_or run e (NoRoom len) later = later
+fault_or run e Shut later = later
+
+-- the run that may have been left in its place: up to the first step that met a disk fault, and with it
+abbrev pub run_at_fault : List RunEvent → List (NodeEvent × NodeReply) → List RunEvent
+run_at_fault run [] = run
+run_at_fault run (step ∷ steps) = fault_or run step.0 (outcome_of step.1) (run_at_fault (after_outcome run step.0 (outcome_of step.1)) steps)
+
 -- a list of steps with their replies leads from one node to the next
 abbrev pub Follows : List RunEvent → NodeState → List (NodeEvent × NodeReply) → List RunEvent → NodeState → Type 0
 Follows run old [] more new = (more ≡ run) × (new ≡ old)
 Follows run old (entry ∷ entries) more new =
     (mid : NodeState) × EventFits entry.0.event × NodeMoves old entry.0 entry.1 mid × Follows (after_outcome run entry.0 (outcome_of entry.1)) mid entries more new
 
--- The node is at the end of the run, or has met a fault in one step more: then a crash leaves the state before that step
--- or after it.
+-- The node is at the end of the run, or has met a fault: then a crash leaves the records of the run, or of that one.
 pub record Stands (run maybe : List RunEvent) (n : NodeState) : Type 0 where
   pub works : n.journal.is_broken ≡ false → IsAt run n
-  pub leaves : (files : Files) → told n.journal ≡ Some files → LeavesOpened (OpensAsEither (reached run) (reached maybe)) files
+  pub fits : RunFits run × RunFits maybe
+  pub leaves : (files : Files) → told n.journal ≡ Some files → LeavesOpened (LeftByEither run maybe) files
 
+-- after any list of steps a crash leaves the records of the steps that were done, perhaps with the one that met a fault
 abbrev pub StandsAfter : Type 0
-StandsAfter = (run more : List RunEvent) (old new : NodeState) (entries : List (NodeEvent × NodeReply)) → IsAt run old → Follows run old entries more new → (maybe : List RunEvent) × Stands more maybe new
+StandsAfter = (run more : List RunEvent) (old new : NodeState) (entries : List (NodeEvent × NodeReply)) → IsAt run old → Follows run old entries more new → Stands more (run_at_fault run entries) new
 
 -- ---- versions
 
@@ -125,3 +148,12 @@ TellsLast =
 -- above it, no version is used twice.
 abbrev pub VersionsRise : Type 0
 VersionsRise = (run more : List RunEvent) (space : List ℕ) → last_version (room_of (reached run) space) ≤ last_version (room_of (reached (run ++ more)) space)
+
+-- A version that is told after a restart is above every one that was told in its space before it, whatever came before,
+-- between and after.
+abbrev pub VersionsAbove : Type 0
+VersionsAbove =
+    (run between more : List RunEvent) (now : ℕ) (first later : NodeEvent) (before after : NodeReply) (a b c d : NodeState) (v w : ℕ)
+    → IsAt run a → NodeMoves a first before b → version_told before ≡ Some v
+    → IsAt (with_restart (with_step run first ++ between) now ++ more) c → NodeMoves c later after d → version_told after ≡ Some w
+    → event_space later.event ≡ event_space first.event → v < w

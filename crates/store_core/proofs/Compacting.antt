@@ -18,7 +18,8 @@ use Rattle.store_core.specs.declared.events.CompactEnd.TheVariants.{Compacted, N
 use Rattle.store_core.specs.Contents.{contents_of, is_old, compacted_payloads, OpensWith}
 use Rattle.store_core.specs.Store.{StoreState, IsConsistent, Leaves}
 use Rattle.store_core.specs.Compacts.{end_by, refused_or, rows_refusal, compact_refusal, Keeps, IsKept, IsCompacted, HasFaulted, EndsAs, Compacts, MayAdd, IsStopped, IsRefused, Misses}
-use Rattle.store_core.proofs.Claims.{leaves_weaker, since_same, opened_now}
+use Rattle.store_core.proofs.Claims.{leaves_weaker, since_same}
+use Rattle.tx_journal.proofs.Claims.{opened_now}
 use Rattle.store_core.proofs.Stagings.{Beside, since_over, rises_then, keeps_on, kept_on, kept_then, kept_same}
 use Rattle.store_core.proofs.Foldings.{contents-today}
 use Rattle.store_core.proofs.Adding.{paired_on, err_same}

@@ -78,7 +78,7 @@ fold-push (Some g) [] p f h = let same : g ≡ f = cc in fold-nil (folded (paylo
 fold-push (Some g) (x ∷ xs) p f h = fold-push (folded (payload_reading x) g) xs p f h
 
 -- a fold that leads to tables
-folded-in : (o : Option Folded) (t : Tables) → tables_in o ≡ Some t → (f : Folded) × (o ≡ Some f) × (f.tables ≡ t)
+pub folded-in : (o : Option Folded) (t : Tables) → tables_in o ≡ Some t → (f : Folded) × (o ≡ Some f) × (f.tables ≡ t)
 folded-in None t h = absurd (cc)
 folded-in (Some f) t h = (f, refl, cc)
 

@@ -17,3 +17,4 @@ mod Replacing
 mod Paired
 mod Migrating
 mod Migrated
+mod Whole

@@ -17,7 +17,8 @@ use Rattle.store_core.specs.Store.{StoreState}
 use Rattle.store_core.specs.Compacts.{Keeps, IsKept, IsCompacted, HasFaulted}
 use Rattle.store_core.specs.Migrations.{HasNumber, IsNamed, IsRefusedFor, Rewrites}
 use Rattle.store_core.specs.Opens.{OpensStore, RefusesMigration, HasFirstName, IsOfFirstFormat, FindsOld, IsMigrated, WasOld, KeepsStore, IsStoreOpenError, RefusesStore, IsFolded, HasForm}
-use Rattle.store_core.proofs.Claims.{at_told, opened_now}
+use Rattle.store_core.proofs.Claims.{at_told}
+use Rattle.tx_journal.proofs.Claims.{opened_now}
 use Rattle.store_core.proofs.Opened.{opens-store, opened_tells}
 use Rattle.store_core.proofs.Openings.{rises_from, told_read, folded_told, form_told, number_read}
 
@@ -88,7 +89,7 @@ module _ (create : Bool) (before : Option Files) (t : Tables) (j k : JournalStat
   pub migrated_opens : Tells (OpensStore create t) before (told k)
   migrated_opens =
       tells_map (Then (OpensStore create t) (SinceOpened (OpensWith t))) (OpensStore create t) before (told k)
-      (λ f h calls. (calls.1.0, opened_now (OpensWith t) calls.0.first calls.0.second h.first h.second calls.2))
+      (λ f h calls. (calls.1.0, opened_now (OpensWith t) calls.0.first calls.0.second h.first h.second calls.2, calls.1.2))
       (tells_then (OpensStore create t) (SinceOpened (OpensWith t)) before (told j) (told k) (opened_tells create before j opens t j refl folded) keeps)
 
   module _ (crash : Tells (KeepsFiles create) before (told j)) (is_first : Bool) (form : HasForm is_first j) (old : (is_first ≡ true) ⊎ (j.format ≡ One)) (names : j.format ≡ One → (h : Files) → told k ≡ Some h → Found h) where
@@ -205,6 +206,13 @@ module _ (create : Bool) (before : Option Files) (is_first : Bool) (old new : St
   rewritten_keeps paired aged works named =
       migrated_keeps create before old.contents old.journal new.journal was.opens was.folded (rewrites_keeps r old new is) was.crash is_first was.form aged
       (λ one h tells. rewrites_named old new paired (λ d reports. named works d reports ∙ ap name one) h tells r is)
+
+  -- the file was old
+  pub rewritten_aged : is_alone new.journal.other ≡ false → (is_first ≡ true) ⊎ (old.journal.format ≡ One) → old.journal.is_broken ≡ false → IsNamed old.journal → (f h : Files) → before ≡ Some f → told new.journal ≡ Some h → WasOld create f h
+  rewritten_aged paired aged works named f h same here =
+      let on = tells_on (OpensFiles create) before (told old.journal) f was.opens same in
+      was_old create before old.contents old.journal new.journal was.opens was.folded (rewrites_keeps r old new is) was.crash is_first was.form aged
+      (λ one h tells. rewrites_named old new paired (λ d reports. named works d reports ∙ ap name one) h tells r is) f on.0 h on.2 on.1 here
 
 -- a fault in the other file is one of the first disk or of the second
 pub risen_other : (s : Bool) (live here : Side) (other after : Option Side) (first second : ℕ) (a b : Side) → is_alone other ≡ false → first ≤ (first_of s live other).faults → KeepsCount second (second_of s live other) → OtherRises other after

@@ -9,7 +9,7 @@ use Rattle.tx_journal.specs.Journal.{Rises, IsOpenError}
 use Rattle.tx_journal.specs.Calls.{Side, JournalState, told, tell_both, tell_sides, first_of, second_of, first_side, second_side, is_alone, is_making, FindsIn, OpensFiles, RefusesFiles, KeepsCount}
 use Rattle.tx_journal.specs.Pair.{Files, IsJust, read_payloads}
 use Rattle.store_core.specs.Contents.{contents_of, OpensWith}
-use Rattle.store_core.specs.Opens.{FindsTables, OpensStore, payloads_fault, IsStoreOpenError, RefusesStore, HasForm, IsFolded, IsFoldFault}
+use Rattle.store_core.specs.Opens.{FindsTables, OpensStore, payloads_fault, IsStoreOpenError, RefusesStore, RefusesAged, HasForm, IsFolded, IsFoldFault}
 use Rattle.store_core.specs.Store.{IsConsistent, IsCurrent}
 use Rattle.store_core.proofs.Claims.{at_told, leaves_weaker}
 use Rattle.store_core.proofs.Openings.{rises_from}
@@ -22,7 +22,7 @@ finds false old payloads t reads is = (payloads, reads, is)
 pub opens-store : (create : Bool) (old new : Files) (j : JournalState) (t : Tables) → told j ≡ Some new → IsFolded t j → OpensFiles create old new → OpensStore create t old new
 opens-store create old new j t tells folded opens =
     let is : contents_of opens.0 ≡ Some t = folded new tells opens.0 opens.2 in
-    (finds (is_making create old.first old.second) old opens.0 t opens.1 is, leaves_weaker (IsJust opens.0) (OpensWith t) new (λ r e. (opens.0, e, is)) opens.2.leaves)
+    (finds (is_making create old.first old.second) old opens.0 t opens.1 is, leaves_weaker (IsJust opens.0) (OpensWith t) new (λ r e. (opens.0, e, is)) opens.2.leaves, opens.3)
 
 -- a file that is made has no payload, and so no fault
 faulted : (making : Bool) (old : Files) (payloads : List (List ℕ)) (offset : ℕ) → FindsIn making old payloads → payloads_fault payloads ≡ Some offset → (making ≡ false) × (payloads : List (List ℕ)) × (read_payloads old ≡ Ok payloads) × (payloads_fault payloads ≡ Some offset)
@@ -39,6 +39,18 @@ refuses-store create old new j Reopen tells fault opens = absurd fault
 refuses-store create old new j NotStarted tells fault opens = absurd fault
 refuses-store create old new j OneDisk tells fault opens = absurd fault
 refuses-store create old new j (Spent count) tells fault opens = absurd fault
+
+-- a payload that isn't read, whatever is handed back
+unread_aged : (create : Bool) (old mid new : Files) (j : JournalState) (e : JournalError) → told j ≡ Some mid → IsFoldFault e j → OpensFiles create old mid → RefusesAged create e old new
+unread_aged create old mid new j (Damaged offset) tells fault opens = inr (inl (offset, refl, faulted (is_making create old.first old.second) old opens.0 offset opens.1 (fault mid tells opens.0 opens.2)))
+unread_aged create old mid new j DiskFault tells fault opens = inl tt
+unread_aged create old mid new j OutOfMemory tells fault opens = inl tt
+unread_aged create old mid new j (TooLong n) tells fault opens = absurd fault
+unread_aged create old mid new j (Full len) tells fault opens = absurd fault
+unread_aged create old mid new j Reopen tells fault opens = absurd fault
+unread_aged create old mid new j NotStarted tells fault opens = absurd fault
+unread_aged create old mid new j OneDisk tells fault opens = absurd fault
+unread_aged create old mid new j (Spent count) tells fault opens = absurd fault
 
 -- ---- the same of what the disks report
 
@@ -69,6 +81,11 @@ module _ (create : Bool) (before : Option Files) (j : JournalState) (opens : Tel
   refused_tells e fault files is =
       let on = tells_on (OpensFiles create) before (told j) files opens is in
       refuses-store create files on.0 j e on.1 fault on.2
+
+  pub refused_aged : (e : JournalError) → IsFoldFault e j → (files new : Files) → before ≡ Some files → RefusesAged create e files new
+  refused_aged e fault files new is =
+      let on = tells_on (OpensFiles create) before (told j) files opens is in
+      unread_aged create files on.0 new j e on.1 fault on.2
 
 -- the journal's own refusal
 pub as_store : (create : Bool) (e : JournalError) (files : Files) → RefusesFiles create e files → RefusesStore create e files

@@ -73,7 +73,7 @@ fault-behind is_first (p ∷ ps) = go (is_generation p) refl
         let place : 18 + length p ≡ 35 = omega (arith, generation-long p is) in
         rw is (ap (λ n. fault_from is_first n ps (start true)) place)
 
-fault-is : (is_first : Bool) (payloads : List (List ℕ)) → is_old payloads ≡ is_first → payloads_fault payloads ≡ fault_from is_first (first_place (is_some (first_generation payloads))) (without_generation payloads) (start (is_some (first_generation payloads)))
+pub fault-is : (is_first : Bool) (payloads : List (List ℕ)) → is_old payloads ≡ is_first → payloads_fault payloads ≡ fault_from is_first (first_place (is_some (first_generation payloads))) (without_generation payloads) (start (is_some (first_generation payloads)))
 fault-is is_first payloads form = ap (λ b. fault_behind b (first_generation payloads) payloads) form ∙ fault-behind is_first payloads
 
 -- ---- the form

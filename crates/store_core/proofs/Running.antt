@@ -24,7 +24,8 @@ use Rattle.store_core.specs.Store.{StoreState, Leaves, Risks, Rests, IsDone, Has
 use Rattle.store_core.specs.Compacts.{RisksNothing, EndsAs, compact_refusal, Compacts}
 use Rattle.store_core.specs.Events.{Allows}
 use Rattle.store_core.specs.Runs.{Entry, is_refusal, acknowledged_by, acknowledged_in, acknowledged, or_same, after_all, under_way, is_fault, maybe_left, Stands, RisksOne, RisksEach, KeepsAcknowledged}
-use Rattle.store_core.proofs.Claims.{leaves_weaker, since_opened_weaker, opened_now, since_same}
+use Rattle.store_core.proofs.Claims.{leaves_weaker, since_opened_weaker, since_same}
+use Rattle.tx_journal.proofs.Claims.{opened_now}
 use Rattle.store_core.proofs.Accepted.{accepted_plain, append_led, below_or}
 
 true_or_false : (b : Bool) → (P : Type 0) → (b ≡ true → P) → (b ≡ false → P) → P

@@ -1,5 +1,5 @@
 -- Opening a store: what it contains, why it is refused, and what a crash leaves. Own.
-use Rattle.std.specs.Prelude.{◌≡◌, ◌⊎◌, ℕ, ◌+◌, Bool, true, false, List, [], ◌∷◌, length, take, drop, Option, None, Some, Ok}
+use Rattle.std.specs.Prelude.{◌≡◌, ◌≤◌, ◌⊎◌, ℕ, ◌+◌, Bool, true, false, List, [], ◌∷◌, length, take, drop, Option, None, Some, Ok}
 use Rattle.disk_model.specs.Disk.{DiskState, Tells}
 use Rattle.store_tables.specs.Tables.{Tables, no_tables}
 use Rattle.store_payloads.specs.FirstForm.{reading_in}
@@ -7,8 +7,8 @@ use Rattle.store_payloads.specs.Folds.{Folded, folded, start}
 use Rattle.tx_journal.specs.declared.error.JournalError.{JournalError}
 use Rattle.tx_journal.specs.declared.error.JournalError.TheVariants.{DiskFault, Damaged, TooLong, Full, Reopen, NotStarted, OneDisk, Spent, OutOfMemory}
 use Rattle.tx_journal.specs.declared.format.Format.TheVariants.{One}
-use Rattle.tx_journal.specs.File.{name}
-use Rattle.tx_journal.specs.Pair.{Files, Holds, first_generation, read_payloads, LeavesOpened, SinceOpened}
+use Rattle.tx_journal.specs.File.{most_bytes, name}
+use Rattle.tx_journal.specs.Pair.{Files, Holds, first_generation, live_bytes, read_payloads, LeavesOpened, SinceOpened}
 use Rattle.tx_journal.specs.Calls.{Side, JournalState, told, next_number, is_making, FindsIn, IsNumbered, RefusesFiles, KeepsFiles}
 use Rattle.store_core.specs.Contents.{contents_of, is_old, compacted_payloads, OpensWith}
 use Rattle.store_core.specs.Store.{StoreState}
@@ -19,9 +19,10 @@ abbrev pub FindsTables : Bool → Files → Tables → Type 0
 FindsTables true files t = t ≡ no_tables
 FindsTables false files t = (payloads : List (List ℕ)) × (read_payloads files ≡ Ok payloads) × (contents_of payloads ≡ Some t)
 
--- an opening that is done; whatever a crash leaves from now on opens with the same contents
+-- an opening that is done; whatever a crash leaves from now on opens with the same contents. The live file wasn't longer
+-- than a journal takes.
 abbrev pub OpensStore : Bool → Tables → Files → Files → Type 0
-OpensStore create t old new = FindsTables (is_making create old.first old.second) old t × LeavesOpened (OpensWith t) new
+OpensStore create t old new = FindsTables (is_making create old.first old.second) old t × LeavesOpened (OpensWith t) new × (length (live_bytes old.first old.second) ≤ most_bytes)
 
 -- the offset of the first payload that has no reading where it comes, if the first one is here
 abbrev pub fault_by : Option Folded → ℕ → (Folded → Option ℕ) → Option ℕ
@@ -119,6 +120,41 @@ RefusesStore create NotStarted files = RefusesFiles create NotStarted files
 RefusesStore create OneDisk files = RefusesFiles create OneDisk files
 RefusesStore create (Spent count) files = RefusesFiles create (Spent count) files
 RefusesStore create OutOfMemory files = RefusesFiles create OutOfMemory files
+
+-- The same, with the files as they are handed back: it is the journal that refuses them, or a payload isn't read, or one
+-- of them is old (WasOld).
+abbrev pub RefusesAged : Bool → JournalError → Files → Files → Type 0
+RefusesAged create e old new = RefusesFiles create e old ⊎ ((offset : ℕ) × (e ≡ Damaged offset) × RefusesPayload create offset old) ⊎ WasOld create old new
+
+-- ---- files with contents
+
+-- payloads that lead to contents have a reading, each where it comes
+abbrev pub HaveReadings : Type 0
+HaveReadings = (payloads : List (List ℕ)) (t : Tables) → contents_of payloads ≡ Some t → payloads_fault payloads ≡ None
+
+-- why files with contents may be refused: by a disk, by want of memory, or because their compaction is
+abbrev pub MayRefuse : Bool → JournalError → Files → Type 0
+MayRefuse create DiskFault files = Unit {0}
+MayRefuse create (Damaged offset) files = RefusesMigration create (Damaged offset) files
+MayRefuse create (TooLong n) files = RefusesMigration create (TooLong n) files
+MayRefuse create (Full len) files = RefusesMigration create (Full len) files
+MayRefuse create Reopen files = ⊥
+MayRefuse create NotStarted files = ⊥
+MayRefuse create OneDisk files = ⊥
+MayRefuse create (Spent count) files = ⊥
+MayRefuse create OutOfMemory files = Unit {0}
+
+-- files with contents, of which the live one is no longer than a journal takes, are refused for nothing else
+abbrev pub RefusesContents : Type 0
+RefusesContents =
+    (t : Tables) (create : Bool) (e : JournalError) (files : Files)
+    → OpensWith t (read_payloads files) → length (live_bytes files.first files.second) ≤ most_bytes → RefusesStore create e files → MayRefuse create e files
+
+-- if none of them is old, then only by a disk or by want of memory
+abbrev pub RefusesToday : Type 0
+RefusesToday =
+    (t : Tables) (create : Bool) (e : JournalError) (old new : Files)
+    → OpensWith t (read_payloads old) → length (live_bytes old.first old.second) ≤ most_bytes → RefusesAged create e old new → (e ≡ DiskFault) ⊎ (e ≡ OutOfMemory) ⊎ WasOld create old new
 
 -- ---- reading an opened journal
 

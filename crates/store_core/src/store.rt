@@ -10,7 +10,7 @@ ghost use Rattle.tx_journal.specs.declared.format.Format.TheVariants.{Two};
 ghost use Rattle.tx_journal.specs.Journal.{Rises};
 ghost use Rattle.tx_journal.specs.Calls.{told, tell_both, is_alone, first_side, second_side, IsOpened};
 ghost use Rattle.tx_journal.specs.Pair.{Files};
-ghost use Rattle.store_core.specs.Opens.{OpensStore, IsUnchanged, IsMigrated, IsStoreOpenError, RefusesStore, KeepsStore};
+ghost use Rattle.store_core.specs.Opens.{OpensStore, IsUnchanged, IsMigrated, IsStoreOpenError, RefusesStore, RefusesAged, KeepsStore};
 ghost use Rattle.store_core.specs.Store.{refusal_by, IsCurrent, Written, Moves};
 
 use crate::ending::end;
@@ -133,6 +133,7 @@ impl<D: Disk> Store<D> {
         ensures format { IfOk result (λ s. s.journal.format ≡ Two) }
         ensures migrated { IfOk result (λ s. IsUnchanged create (tell_both (D.told first) (D.told second)) s.journal ⊎ IsMigrated create (tell_both (D.told first) (D.told second)) s) }
         ensures refused { IfErr result (λ r. IsStoreOpenError r.0 × ((files : Files) → tell_both (D.told first) (D.told second) ≡ Some files → RefusesStore create r.0 files)) }
+        ensures aged { IfErr result (λ r. (old new : Files) → tell_both (D.told first) (D.told second) ≡ Some old → tell_both (D.told r.1) (D.told r.2) ≡ Some new → RefusesAged create r.0 old new) }
         ensures crash { IfOk result (λ s. Tells (KeepsStore create) (tell_both (D.told first) (D.told second)) (told s.journal)) }
         ensures crash_refused { IfErr result (λ r. Tells (KeepsStore create) (tell_both (D.told first) (D.told second)) (tell_both (D.told r.1) (D.told r.2))) }
         ensures cause { IfErr result (λ r. r.0 ≡ JournalError.DiskFault → Rises (D.disk_faults first) (D.disk_faults r.1) ⊎ Rises (D.disk_faults second) (D.disk_faults r.2)) }

@@ -1,5 +1,5 @@
 -- Which of two files is live.
-use Rattle.std.proofs.Common.{◌≡◌, ◌≢◌, inl, inr, ℕ, ◌≤◌, Bool, true, false, cond, List, [], ◌∷◌, ◌++◌, length, take, drop, Some, None, Result, refl, sym, ◌∙◌, ap, arith, append_assoc, take-append-drop}
+use Rattle.std.proofs.Common.{◌≡◌, ◌≢◌, inl, inr, ℕ, ◌≤◌, Bool, true, false, cond, List, [], ◌∷◌, ◌++◌, length, take, drop, Some, None, refl, sym, ◌∙◌, ap, arith, append_assoc, take-append-drop}
 use Rattle.std.specs.Prelude.{not, ◌&&◌, ◌||◌, nat_lt, ◌==◌}
 use Rattle.std.specs.List.{AllByRecursion}
 use Rattle.std.specs.Int.{w32, w64, from_be_bytes, to_be_bytes}
@@ -9,8 +9,8 @@ use Rattle.std.proofs.lemmas.List.{take_at, take-take, take-append-le}
 use Rattle.std.proofs.lemmas.Nat.{from_be_bytes-to_be_bytes_4}
 use Rattle.tx_journal.specs.declared.format.Format.{Format}
 use Rattle.tx_journal.specs.declared.format.Format.TheVariants.{Two}
-use Rattle.tx_journal.specs.File.{same_bytes, framed, records, IsShort, is_made, file_payloads}
-use Rattle.tx_journal.specs.Pair.{generation_kind, is_generation, generation_in, first_generation, generation_at, file_generation, number, is_second_live, live_payloads}
+use Rattle.tx_journal.specs.File.{same_bytes, framed, records, IsShort, is_made}
+use Rattle.tx_journal.specs.Pair.{generation_kind, is_generation, generation_in, first_generation, generation_at, file_generation, number, is_second_live, live_file}
 use Rattle.tx_journal.specs.Journal.{IsAtRest}
 use Rattle.tx_journal.specs.Sound.{Yields}
 
@@ -114,31 +114,31 @@ rest_generation payloads end bytes at_rest =
 pub rest_made : {newest format : Format} (payloads : List (List ℕ)) (end : ℕ) (bytes : List ℕ) → IsAtRest newest format payloads end bytes → is_made bytes ≡ true
 rest_made payloads end bytes at_rest = ap is_made at_rest.file
 
--- the payloads of the live file, if it is known which one that is
-abbrev pub live_in : Bool → List ℕ → List ℕ → Result (List (List ℕ)) ℕ
-live_in true live other = live_payloads other live
-live_in false live other = live_payloads live other
+-- the live one of two files, in the order of the disks
+abbrev pub live_in : Bool → List ℕ → List ℕ → List ℕ
+live_in true live other = live_file other live
+live_in false live other = live_file live other
 
 -- beside a file that yields, the other is live
-pub picks : (is_second_live : Bool) (live other : List ℕ) → is_made live ≡ true → Yields is_second_live (number (file_generation live)) other → live_in is_second_live live other ≡ file_payloads Two live
+pub picks : (is_second_live : Bool) (live other : List ℕ) → is_made live ≡ true → Yields is_second_live (number (file_generation live)) other → live_in is_second_live live other ≡ live
 picks false live other made (inl unmade) =
-    ap (λ (b : Bool). file_payloads Two (cond (b && (not (is_made live) || nat_lt (number (file_generation live)) (number (file_generation other)))) other live)) unmade
+    ap (λ (b : Bool). cond (b && (not (is_made live) || nat_lt (number (file_generation live)) (number (file_generation other)))) other live) unmade
 picks false live other made (inr less) =
     let older : nat_lt (number (file_generation live)) (number (file_generation other)) ≡ false = le-ltb _ _ (omega (arith, less)) in
     let none : (is_made other && (not (is_made live) || nat_lt (number (file_generation live)) (number (file_generation other)))) ≡ false =
     ap (λ (b : Bool). is_made other && (not b || nat_lt (number (file_generation live)) (number (file_generation other)))) made ∙ ap (λ (b : Bool). is_made other && b) older ∙ and_false (is_made other) in
-    ap (λ (b : Bool). file_payloads Two (cond b other live)) none
+    ap (λ (b : Bool). cond b other live) none
 picks true live other made (inl unmade) =
     let is : (is_made live && (not (is_made other) || nat_lt (number (file_generation other)) (number (file_generation live)))) ≡ true =
     ap (λ (b : Bool). b && (not (is_made other) || nat_lt (number (file_generation other)) (number (file_generation live)))) made
     ∙ ap (λ (b : Bool). not b || nat_lt (number (file_generation other)) (number (file_generation live))) unmade in
-    ap (λ (b : Bool). file_payloads Two (cond b live other)) is
+    ap (λ (b : Bool). cond b live other) is
 picks true live other made (inr less) =
     let newer : nat_lt (number (file_generation other)) (number (file_generation live)) ≡ true = lt-ltb _ _ (omega (arith, less)) in
     let is : (is_made live && (not (is_made other) || nat_lt (number (file_generation other)) (number (file_generation live)))) ≡ true =
     ap (λ (b : Bool). b && (not (is_made other) || nat_lt (number (file_generation other)) (number (file_generation live)))) made
     ∙ ap (λ (b : Bool). not (is_made other) || b) newer ∙ or_true (not (is_made other)) in
-    ap (λ (b : Bool). file_payloads Two (cond b live other)) is
+    ap (λ (b : Bool). cond b live other) is
 
 pub yields_more : (is_second_live : Bool) (m n : ℕ) (file : List ℕ) → m ≤ n → Yields is_second_live m file → Yields is_second_live n file
 yields_more is_second_live m n file less (inl unmade) = inl unmade

@@ -11,8 +11,8 @@ use Rattle.disk_model.proofs.Stages.{Both, told_before}
 use Rattle.tx_journal.specs.declared.format.Format.{Format}
 use Rattle.tx_journal.specs.declared.format.Format.TheVariants.{Two}
 use Rattle.tx_journal.specs.declared.find.Cursor.{Cursor}
-use Rattle.tx_journal.specs.File.{file_payloads, framed, opened, IsShort}
-use Rattle.tx_journal.specs.Pair.{Files, generation_row, first_generation, file_generation, generation_in, number, SinceOpened, Holds, IsJust, IsEither}
+use Rattle.tx_journal.specs.File.{most_bytes, file_payloads, framed, opened, IsShort}
+use Rattle.tx_journal.specs.Pair.{Files, generation_row, first_generation, file_generation, generation_in, number, ReadsAs, SinceOpened, Holds, IsJust, IsEither}
 use Rattle.tx_journal.specs.Journal.{IsAtRest, IsSpelled}
 use Rattle.tx_journal.specs.Compaction.{IsShutFront, IsUnmade, StaysUnmade, IsMadeOrNot, Finishes, IsFinished, MayStart, Begins, HasFirstRow, HasBegunFile, AddsRow}
 use Rattle.tx_journal.specs.Calls.{Side, JournalState, first_of, second_of, tell_sides, next_number, staged_payloads, OtherKeeps, Keeps, Kept, HasBegun, HasRow, Replaces, Replaced}
@@ -154,14 +154,14 @@ module _ (j : JournalState) (cursor : Cursor) (is_shut : Bool) (room : ℕ) (sou
           later = later_weaker IsUnmade (Yields j.is_second_live (number j.generation)) e e_new (λ file not_made. inl not_made) (stays front).1;
         }))
 
-    module _ (payload text : List ℕ) (short : IsShort payload) (is : text ≡ 1 ∷ framed payload ++ 0 ∷ []) where
+    module _ (payload text : List ℕ) (short : IsShort payload) (is : text ≡ 1 ∷ framed payload ++ 0 ∷ []) (few : at + 5 + length payload ≤ most_bytes) where
       added_waits : (e e_new : DiskState) → Waits j.is_second_live j.generation is_shut j.staged e → StaysUnmade e e_new → AddsRow at text e e_new → Waits j.is_second_live j.generation true (Some (at + 5 + length payload)) e_new
       added_waits e e_new waits stays adds =
           let front = shut_front is_shut e waits in (
             (stays front.0).0,
             λ place same.
                 let one : at + 5 + length payload ≡ place = cc in
-                (front.1.0 ++ payload ∷ [], subst (λ k. IsAtRest Two Two (generation_row (next_number j.generation) ∷ (front.1.0 ++ payload ∷ [])) k (opened e_new.bytes)) one (adds (generation_row (next_number j.generation) ∷ front.1.0) payload front.0 front.1.1 short is)),
+                (front.1.0 ++ payload ∷ [], subst (λ k. IsAtRest Two Two (generation_row (next_number j.generation) ∷ (front.1.0 ++ payload ∷ [])) k (opened e_new.bytes)) one (adds (generation_row (next_number j.generation) ∷ front.1.0) payload front.0 front.1.1 short is few)),
           )
 
       pub row_kept : Tells (Both StaysUnmade (AddsRow at text)) side.told side_new.told → Tells Kept old new
@@ -174,7 +174,7 @@ module _ (j : JournalState) (cursor : Cursor) (is_shut : Bool) (room : ℕ) (sou
           let front = shut_front is_shut e waits in
           let before = rest_image (generation_row (next_number j.generation) ∷ front.1.0) at (opened e.bytes) front.1.1 in
           let same = same_payloads (generation_row (next_number j.generation) ∷ front.1.0) rows (sym before ∙ sym (staged_is j.is_second_live d e) ∙ reads) in
-          let after = both.1 (generation_row (next_number j.generation) ∷ front.1.0) payload front.0 front.1.1 short is in
+          let after = both.1 (generation_row (next_number j.generation) ∷ front.1.0) payload front.0 front.1.1 short is few in
           staged_is j.is_second_live d e_new ∙ rest_image ((generation_row (next_number j.generation) ∷ front.1.0) ++ payload ∷ []) (at + 5 + length payload) (opened e_new.bytes) after ∙ ap (λ (l : List (List ℕ)). Ok (l ++ payload ∷ [])) same)
 
       pub row_waits : (staged_new : ℕ) → staged_new ≡ at + 5 + length payload → Tells (Both StaysUnmade (AddsRow at text)) side.told side_new.told → (e : DiskState) → side_new.told ≡ Some e → Waits j.is_second_live j.generation is_shut (Some staged_new) e
@@ -209,14 +209,18 @@ module _ (j : JournalState) (cursor : Cursor) (is_shut : Bool) (room : ℕ) (sou
       live_turned false f g = refl
 
       -- the file that is made is live beside the old one
-      new_counts : (format : Format) (payloads rows : List (List ℕ)) (f : List ℕ) (made : List ℕ) → IsSpelled Two format payloads f → first_generation payloads ≡ j.generation → IsAtRest Two Two (generation_row (next_number j.generation) ∷ rows) at made → live_in j.is_second_live f made ≡ Ok (generation_row (next_number j.generation) ∷ rows)
+      new_counts : (format : Format) (payloads rows : List (List ℕ)) (f : List ℕ) (made : List ℕ) → IsSpelled Two format payloads f → first_generation payloads ≡ j.generation → IsAtRest Two Two (generation_row (next_number j.generation) ∷ rows) at made → ReadsAs (IsJust (generation_row (next_number j.generation) ∷ rows)) Two (live_in j.is_second_live f made)
       new_counts format payloads rows f made spells is rests =
-          sym (live_turned j.is_second_live f made)
-          ∙ live_counts (not j.is_second_live) Two (generation_row (next_number j.generation) ∷ rows) (next_number j.generation) made f (at, rests) (omega (arith, ap number (row_first rows))) (old_yields format payloads f (not j.is_second_live) spells is)
+          subst (ReadsAs (IsJust (generation_row (next_number j.generation) ∷ rows)) Two) (live_turned j.is_second_live f made)
+          (live_counts (not j.is_second_live) Two (generation_row (next_number j.generation) ∷ rows) (next_number j.generation) made f (at, rests) (omega (arith, ap number (row_first rows))) (old_yields format payloads f (not j.is_second_live) spells is))
 
-      turn_either : (live_payloads rows : List (List ℕ)) (f g made : List ℕ) (format : Format) → IsSpelled Two format live_payloads f → first_generation live_payloads ≡ j.generation → IsAtRest Two Two (generation_row (next_number j.generation) ∷ rows) at made → IsMadeOrNot made g → IsEither live_payloads (generation_row (next_number j.generation) ∷ rows) (live_in j.is_second_live f g)
-      turn_either payloads rows f g made format spells is rests (inl not_made) = inl (live_counts j.is_second_live format payloads (number j.generation) f g spells (omega (arith, ap number is)) (inl not_made))
-      turn_either payloads rows f g made format spells is rests (inr same) = inr (ap (live_in j.is_second_live f) same ∙ new_counts format payloads rows f made spells is rests)
+      turn_either : (live_payloads rows : List (List ℕ)) (f g made : List ℕ) (format : Format) → IsSpelled Two format live_payloads f → first_generation live_payloads ≡ j.generation → IsAtRest Two Two (generation_row (next_number j.generation) ∷ rows) at made → IsMadeOrNot made g → ReadsAs (IsEither live_payloads (generation_row (next_number j.generation) ∷ rows)) Two (live_in j.is_second_live f g)
+      turn_either payloads rows f g made format spells is rests (inl not_made) =
+          let counts = live_counts j.is_second_live format payloads (number j.generation) f g spells (omega (arith, ap number is)) (inl not_made) in
+          (inl counts.0, counts.1)
+      turn_either payloads rows f g made format spells is rests (inr same) =
+          let counts = subst (λ (l : List ℕ). ReadsAs (IsJust (generation_row (next_number j.generation) ∷ rows)) Two (live_in j.is_second_live f l)) (sym same) (new_counts format payloads rows f made spells is rests) in
+          (inr counts.0, counts.1)
 
       replaces : (d e e_new : DiskState) → IsLive Two j.format j.generation j.end cursor d → Waits j.is_second_live j.generation is_shut j.staged e → Finishes e e_new → Replaces j.is_second_live (files_in j.is_second_live d (Some e)) (files_in j.is_second_live d (Some e_new))
       replaces d e e_new live waits finishes payloads rows holds reads =

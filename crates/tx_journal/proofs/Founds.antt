@@ -55,7 +55,7 @@ pair d e = record { first = d; second = Some e }
 
 -- as long as nothing is written, a crash leaves the files as they are
 same_left : (making : Bool) (d e : DiskState) (f g : List ℕ) → (making ≡ true → is_made d.bytes ≡ false) → f ≡ d.bytes → g ≡ e.bytes → MayBeLeftIn making d (Some e) f (Some g)
-same_left true d e f g unmade one two = (inl (ap is_made one ∙ unmade refl), two)
+same_left true d e f g unmade one two = ((inl (ap is_made one ∙ unmade refl), λ room. omega (arith, ap length one, room)), two)
 same_left false d e f g unmade one two = (one, two)
 
 and_3 : (a b c : Bool) → (a && not b && not c) ≡ true → b ≡ false
@@ -256,6 +256,7 @@ second_opens a b create newer found d d_new e e_one e_new one two opens =
       opens.1,
       subst (λ (x : Bool). FindsIn x (pair d e) opens.1) (sym not_making) (ap (file_payloads Two) (live ∙ sym two.synced.1) ∙ reads),
       holds_two found.1 b.generation found.0 at_first e_new true (is_closed_seen a) None d_new (seen_live b create found e_one e_new two.sees opens) (second_waits a b d_new newer one.sees one.durable),
+      omega (arith, opens.5, ap length live, ap length two.synced.1),
     )
 
 -- the first file is the live one
@@ -274,7 +275,7 @@ module _ (a b : Seen) (create : Bool) (older : is_second_seen a b ≡ false) (d 
   left_in false f g left same = (left, same)
 
   same_may : (x : Bool) (f : List ℕ) → is_to_make create d.bytes ≡ x → f ≡ d.bytes → MayBeLeft Two x d.bytes f
-  same_may true f is same = inl (ap is_made same ∙ unmade_of create (is_made d.bytes) is)
+  same_may true f is same = (inl (ap is_made same ∙ unmade_of create (is_made d.bytes) is), λ room. omega (arith, ap length same, room))
     where
       unmade_of : (c m : Bool) → (c && not m) ≡ true → m ≡ false
       unmade_of true true is = absurd (let no : false ≡ true = is in cc)
@@ -315,6 +316,7 @@ module _ (a b : Seen) (create : Bool) (older : is_second_seen a b ≡ false) (d 
     opens.1,
     subst (λ (x : Bool). FindsIn x (pair d e) opens.1) (sym making_is) (finds_in (is_to_make create d.bytes) opens.1 (subst (λ (b : List ℕ). OpensAs Two (is_to_make create b) b opens.1) one.synced.1 opens.2)),
     holds_two found.1 a.generation found.0 at_first d_new false (is_closed_seen b) None e_new (seen_live a create found d_one d_new one.sees opens) (first_waits a b e_new older two.sees two.durable),
+    omega (arith, opens.5, ap length first_is, ap length one.synced.1),
   )
 
 -- the same for disks that may or may not report their states

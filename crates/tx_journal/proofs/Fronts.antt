@@ -11,11 +11,11 @@ use Rattle.disk_model.specs.declared.change.Change.TheVariants.{Over, CutTo}
 use Rattle.disk_model.proofs.Moments.{later_here, later_changed, later_then, later_weaker, leaves_durable}
 use Rattle.disk_model.proofs.Stages.{Then, Both, Stage, stage_start, stage_write, stage_sync, stage_synced, synced_durable, synced_bytes, wrote_bytes, torn_overwritten}
 use Rattle.tx_journal.specs.declared.format.Format.TheVariants.{Two}
-use Rattle.tx_journal.specs.File.{name, framed, spelled, is_made, opened}
+use Rattle.tx_journal.specs.File.{most_bytes, name, framed, spelled, is_made, opened}
 use Rattle.tx_journal.specs.Pair.{generation_row}
 use Rattle.tx_journal.specs.Journal.{IsAtRest}
 use Rattle.tx_journal.proofs.Files.{length-framed}
-use Rattle.tx_journal.proofs.Records.{spelled-push, at_rest_again}
+use Rattle.tx_journal.proofs.Records.{rest_within, spelled-push, at_rest_again}
 use Rattle.std.proofs.lemmas.List.{take_at}
 use Rattle.tx_journal.proofs.Making.{unmade}
 use Rattle.tx_journal.specs.Compaction.{IsBehind, IsShutFront, IsUnmade, StaysUnmade, IsMadeOrNot, Finishes, IsFinished, MayBeShut, Closes, IsClosed, WritesFront, HasFirstRow, Begins, HasBegunFile, AddsRow}
@@ -215,15 +215,18 @@ writes_front text x y d f calls front =
     ap opened whole ∙ ap (λ (l : List ℕ). 1 ∷ l) (append_nil text)
 
 first_row : (number : ℕ) (text : List ℕ) (e : DiskState) → text ≡ name Two ++ 1 ∷ framed (generation_row number) ++ 0 ∷ [] → opened e.bytes ≡ 1 ∷ text → HasFirstRow number e
-first_row number text e is reads = record {
-  known = refl;
-  gate = 0;
-  rest = [];
-  shut = omega arith;
-  short = (omega arith, tt);
-  file = reads ∙ ap (λ (l : List ℕ). 1 ∷ l) is;
-  end_is = refl;
-}
+first_row number text e is reads =
+    let size : length (opened e.bytes) ≡ 31 = ap length (reads ∙ ap (λ (l : List ℕ). 1 ∷ l) is) in
+    record {
+      known = refl;
+      gate = 0;
+      rest = [];
+      shut = omega arith;
+      short = (omega arith, tt);
+      file = reads ∙ ap (λ (l : List ℕ). 1 ∷ l) is;
+      end_is = refl;
+      small = omega (arith, size);
+    }
 
 -- a start on a file whose gate is closed
 pub begins_shut : (d e : DiskState) → StaysUnmade d e → Begins true d e
@@ -255,7 +258,7 @@ opened_over gate zero rest text some = absurd (omega arith)
 opened_over gate (suc at) rest text some = ap (λ (l : List ℕ). 1 ∷ ((take at rest ++ text) ++ l)) (drop_behind gate (suc at + length text) rest (omega arith))
 
 pub adds_row : {T : Type 0} (at : ℕ) (text : List ℕ) (x : T) (d e : DiskState) → 2 ≤ at → Writes (at - 1) text (Ok x) d e → AddsRow at text d e
-adds_row at text x d e some writes rows payload front rests short is =
+adds_row at text x d e some writes rows payload front rests short is few =
     let place : at - 1 ≡ length (spelled Two rows) = omega (arith, rests.end_is) in
     let before : opened d.bytes ≡ 1 ∷ front.reads.0 = ap opened front.reads.1 in
     let over : opened e.bytes ≡ overwritten (opened d.bytes) (at - 1) text =
@@ -266,7 +269,10 @@ adds_row at text x d e some writes rows payload front rests short is =
     let whole : opened e.bytes ≡ spelled Two (rows ++ payload ∷ []) ++ 0 ∷ behind =
     over ∙ ap (λ (l : List ℕ). (l ++ text) ++ behind) cut ∙ append_assoc (spelled Two rows) text behind ∙ ap (λ (l : List ℕ). spelled Two rows ++ (l ++ behind)) is
     ∙ ap (λ (l : List ℕ). spelled Two rows ++ (1 ∷ l)) (append_assoc (framed payload) (0 ∷ []) behind) ∙ sym (spelled-push Two rows payload (0 ∷ behind)) in
-    let rest = at_rest_again Two Two rests.known rows rests.gate payload behind rests.short short at (opened e.bytes) rests.end_is whole in
+    let within : at - 1 ≤ length (opened d.bytes) = omega (arith, (rest_within rows at (opened d.bytes) rests).1) in
+    let size = (torn_overwritten (opened d.bytes) text (at - 1) within).no_longer in
+    let small : length (opened e.bytes) ≤ most_bytes = omega (arith, ap length over, size, rests.small, few, some, ap length is, length-framed payload, length-append (framed payload) (0 ∷ [])) in
+    let rest = at_rest_again Two Two rests.known rows rests.gate payload behind rests.short short at (opened e.bytes) rests.end_is whole small in
     subst (λ (k : ℕ). IsAtRest Two Two (rows ++ payload ∷ []) k (opened e.bytes)) (omega (arith, length-framed payload, length-append (framed payload) (0 ∷ []))) rest
 
 pub front_long : (d : DiskState) → IsShutFront d → 1 ≤ length d.bytes

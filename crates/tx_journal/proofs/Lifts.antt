@@ -1,5 +1,5 @@
 -- From what happens to each disk to what a crash leaves of both.
-use Rattle.std.proofs.Common.{◌≡◌, inl, inr, ℕ, ◌≤◌, Bool, true, false, List, Option, Some, None, Ok, refl, sym, ◌∙◌, ap, subst, arith}
+use Rattle.std.proofs.Common.{◌≡◌, inl, inr, ℕ, ◌≤◌, Bool, true, false, List, length, Option, Some, None, refl, sym, ◌∙◌, ap, subst, arith}
 use Rattle.std.specs.Prelude.{not}
 use Rattle.disk_model.specs.Disk.{DiskState, Tells}
 use Rattle.disk_model.specs.Crash.{LeavesOnly, Since}
@@ -7,8 +7,8 @@ use Rattle.disk_model.proofs.Moments.{Facts, later_here, leaves_durable, since_w
 use Rattle.tx_journal.specs.declared.format.Format.{Format}
 use Rattle.tx_journal.specs.declared.format.Format.TheVariants.{One, Two}
 use Rattle.tx_journal.specs.declared.find.Cursor.{Cursor}
-use Rattle.tx_journal.specs.File.{is_made, journal_payloads}
-use Rattle.tx_journal.specs.Pair.{Files, Claim, first_generation, file_generation, number, read_payloads, live_payloads, LeavesOpened, SinceOpened, Holds}
+use Rattle.tx_journal.specs.File.{most_bytes, is_made, file_payloads}
+use Rattle.tx_journal.specs.Pair.{Files, Claim, first_generation, file_generation, number, live_file, live_bytes, read_payloads, ReadsAs, LeavesOpened, SinceOpened, Holds, IsJust}
 use Rattle.tx_journal.specs.Journal.{IsSpelled}
 use Rattle.tx_journal.specs.Calls.{Side, first_of, second_of, tell_one, tell_both, tell_sides}
 use Rattle.tx_journal.specs.Sound.{Yields, Waits, IsLive}
@@ -85,19 +85,23 @@ other_same (Some side) other_new same = (side, same, told_same side.told)
     told_same (Some d) = (d, refl, refl)
 
 -- what a crash leaves of both, from what it leaves of each
-pub opens_both : (s : Bool) (P : Claim) (A B : Facts) (d d_new e e_new : DiskState) → Since A d d_new → Since B e e_new → ((f g : List ℕ) → A f → B g → P (live_in s f g)) → SinceOpened P (files_in s d (Some e)) (files_in s d_new (Some e_new))
+pub opens_both : (s : Bool) (P : Claim) (A B : Facts) (d d_new e e_new : DiskState) → Since A d d_new → Since B e e_new → ((f g : List ℕ) → A f → B g → ReadsAs P Two (live_in s f g)) → SinceOpened P (files_in s d (Some e)) (files_in s d_new (Some e_new))
 opens_both false P A B d d_new e e_new a b f =
-    since_weaker A (λ x. Since (λ y. P (live_payloads x y)) e e_new) d d_new (λ x ax. since_weaker B (λ y. P (live_payloads x y)) e e_new (λ y bx. f x y ax bx) b) a
+    since_weaker A (λ x. Since (λ y. ReadsAs P Two (live_file x y)) e e_new) d d_new (λ x ax. since_weaker B (λ y. ReadsAs P Two (live_file x y)) e e_new (λ y bx. f x y ax bx) b) a
 opens_both true P A B d d_new e e_new a b f =
-    since_weaker B (λ y. Since (λ x. P (live_payloads y x)) d d_new) e e_new (λ y bx. since_weaker A (λ x. P (live_payloads y x)) d d_new (λ x ax. f x y ax bx) a) b
+    since_weaker B (λ y. Since (λ x. ReadsAs P Two (live_file y x)) d d_new) e e_new (λ y bx. since_weaker A (λ x. ReadsAs P Two (live_file y x)) d d_new (λ x ax. f x y ax bx) a) b
 
-pub leaves_both : (s : Bool) (P : Claim) (A B : Facts) (d e : DiskState) → LeavesOnly A d.instant → LeavesOnly B e.instant → ((f g : List ℕ) → A f → B g → P (live_in s f g)) → LeavesOpened P (files_in s d (Some e))
+pub leaves_both : (s : Bool) (P : Claim) (A B : Facts) (d e : DiskState) → LeavesOnly A d.instant → LeavesOnly B e.instant → ((f g : List ℕ) → A f → B g → ReadsAs P Two (live_in s f g)) → LeavesOpened P (files_in s d (Some e))
 leaves_both false P A B d e a b f = λ x image y other. f x y (a x image) (b y other)
 leaves_both true P A B d e a b f = λ y other x image. f x y (a x image) (b y other)
 
-read_in : (s : Bool) (d e : DiskState) → read_payloads (files_in s d (Some e)) ≡ live_in s d.bytes e.bytes
+read_in : (s : Bool) (d e : DiskState) → read_payloads (files_in s d (Some e)) ≡ file_payloads Two (live_in s d.bytes e.bytes)
 read_in false d e = refl
 read_in true d e = refl
+
+bytes_in : (s : Bool) (d e : DiskState) → live_bytes (files_in s d (Some e)).first (files_in s d (Some e)).second ≡ live_in s d.bytes e.bytes
+bytes_in false d e = refl
+bytes_in true d e = refl
 
 -- whatever a crash leaves of the other file yields to the live one
 pub waits_leaves : (s : Bool) (generation : Option ℕ) (is_shut : Bool) (staged : Option ℕ) (d : DiskState) → Waits s generation is_shut staged d → LeavesOnly (Yields s (number generation)) d.instant
@@ -112,9 +116,10 @@ pub same_since : (P : Facts) (d e : DiskState) → e ≡ d → LeavesOnly P d.in
 same_since P d e same leaves = subst (Since P d) (sym same) (record { start = leaves; later = later_here P d })
 
 -- whatever a crash leaves of the live file is live beside one that yields to it
-pub live_counts : (s : Bool) (format : Format) (payloads : List (List ℕ)) (n : ℕ) (f g : List ℕ) → IsSpelled Two format payloads f → n ≤ number (first_generation payloads) → Yields s n g → live_in s f g ≡ Ok payloads
+pub live_counts : (s : Bool) (format : Format) (payloads : List (List ℕ)) (n : ℕ) (f g : List ℕ) → IsSpelled Two format payloads f → n ≤ number (first_generation payloads) → Yields s n g → ReadsAs (IsJust payloads) Two (live_in s f g)
 live_counts s format payloads n f g spells less yields =
-    picks s f g (rest_made payloads spells.0 f spells.1) (yields_again (number (file_generation f)) (ap number (rest_generation payloads spells.0 f spells.1)) yields) ∙ spelled_image payloads f spells
+    let is = picks s f g (rest_made payloads spells.0 f spells.1) (yields_again (number (file_generation f)) (ap number (rest_generation payloads spells.0 f spells.1)) yields) in
+    subst (ReadsAs (IsJust payloads) Two) (sym is) (spelled_image payloads f spells, spells.1.small)
   where
     yields_again : (m : ℕ) → m ≡ number (first_generation payloads) → Yields s n g → Yields s m g
     yields_again m is (inl not_made) = inl not_made
@@ -125,15 +130,17 @@ module _ (format : Format) (generation : Option ℕ) (end : ℕ) (cursor : Curso
   pub holds_one : (is : IsLive One format generation end cursor d) → Holds is.payloads (record { first = d; second = None })
   holds_one is =
       let image = rest_image is.payloads end d.bytes is.settled.file in
-      record { reads = image; leaves = leaves_durable (λ f. journal_payloads f ≡ Ok is.payloads) d is.settled.durable image }
+      record { reads = image; small = is.settled.file.small; leaves = leaves_durable (ReadsAs (IsJust is.payloads) One) d is.settled.durable (image, is.settled.file.small) }
 
   -- and so does one of two
   pub holds_two : (s is_shut : Bool) (staged : Option ℕ) (e : DiskState) (is : IsLive Two format generation end cursor d) → Waits s generation is_shut staged e → Holds is.payloads (files_in s d (Some e))
   holds_two s is_shut staged e is waits =
       let numbered : number generation ≤ number (first_generation is.payloads) = omega (arith, ap number (is.numbered refl)) in
+      let counts = live_counts s format is.payloads (number generation) d.bytes e.bytes (end, is.settled.file) numbered (waits_reads s generation is_shut staged e waits) in
       record {
-        reads = read_in s d e ∙ live_counts s format is.payloads (number generation) d.bytes e.bytes (end, is.settled.file) numbered (waits_reads s generation is_shut staged e waits);
-        leaves = leaves_both s (λ r. r ≡ Ok is.payloads) (IsSpelled Two format is.payloads) (Yields s (number generation)) d e
+        reads = read_in s d e ∙ counts.0;
+        small = subst (λ (l : List ℕ). length l ≤ most_bytes) (sym (bytes_in s d e)) counts.1;
+        leaves = leaves_both s (IsJust is.payloads) (IsSpelled Two format is.payloads) (Yields s (number generation)) d e
             (leaves_durable (IsSpelled Two format is.payloads) d is.settled.durable (end, is.settled.file))
             (waits_leaves s generation is_shut staged e waits)
             (λ f g spells yields. live_counts s format is.payloads (number generation) f g spells numbered yields);

@@ -1,5 +1,5 @@
 -- An opening, whichever way it went.
-use Rattle.std.proofs.Common.{◌≡◌, inl, inr, ℕ, Bool, true, false, List, [], ◌∷◌, length, take, Option, Some, Result, Ok, Err, refl, sym, ◌∙◌, ap, subst}
+use Rattle.std.proofs.Common.{◌≡◌, ◌≤◌, inl, inr, ℕ, Bool, true, false, List, [], ◌∷◌, length, take, Option, Some, Result, Ok, Err, refl, sym, ◌∙◌, ap, subst}
 use Rattle.std.specs.Prelude.{IfOk, IfErr, not, ◌&&◌, is_err}
 use Rattle.actor_ports.specs.declared.port.PortError.{PortError}
 use Rattle.actor_ports.specs.declared.port.PortError.TheVariants.{Failed, OutOfMemory as port_memory}
@@ -10,7 +10,7 @@ use Rattle.disk_model.proofs.Stages.{Then, tells_map_at, tells_same, stage_synce
 use Rattle.tx_journal.specs.declared.error.JournalError.{JournalError}
 use Rattle.tx_journal.specs.declared.error.JournalError.TheVariants.{DiskFault, Damaged, TooLong, Full, Reopen, NotStarted, OneDisk, Spent, OutOfMemory}
 use Rattle.tx_journal.specs.declared.format.Format.{Format}
-use Rattle.tx_journal.specs.File.{head, is_made, file_payloads}
+use Rattle.tx_journal.specs.File.{most_bytes, head, is_made, file_payloads}
 use Rattle.tx_journal.specs.Journal.{Scans, is_to_make, MayBeLeft, KeepsFile, OpensAs, Opens, Refuses, Creates, IsCreated}
 use Rattle.tx_journal.proofs.Rests.{rest_image}
 
@@ -39,14 +39,14 @@ pub keeps_made : (newest : Format) (create : Bool) (d e : DiskState) → create 
 keeps_made newest create d e bidden unmade durable creates =
     subst (λ (b : Bool). Later (MayBeLeft newest b d.bytes) d e) (sym (to_make create d.bytes bidden unmade)) (creates durable unmade)
 
-pub opens_made : (newest : Format) (create : Bool) (d e : DiskState) → create ≡ true → is_made d.bytes ≡ false → IsDurable d → IsCreated newest d e → Opens newest create (9, newest) d e
-opens_made newest create d e bidden unmade durable created =
-    let is = created durable unmade in
-    ((λ reads. absurd (let e : true ≡ false = sym (to_make create d.bytes bidden unmade) ∙ reads in cc)), [], subst (λ (b : Bool). OpensAs newest b d.bytes []) (sym (to_make create d.bytes bidden unmade)) refl, is.0, is.1)
+pub opens_made : (newest : Format) (create : Bool) (d e : DiskState) → create ≡ true → is_made d.bytes ≡ false → IsDurable d → length d.bytes ≤ most_bytes → IsCreated newest d e → Opens newest create (9, newest) d e
+opens_made newest create d e bidden unmade durable room created =
+    let is = created durable unmade room in
+    ((λ reads. absurd (let e : true ≡ false = sym (to_make create d.bytes bidden unmade) ∙ reads in cc)), [], subst (λ (b : Bool). OpensAs newest b d.bytes []) (sym (to_make create d.bytes bidden unmade)) refl, is.0, is.1, room)
 
 opens_read : (newest format : Format) (create : Bool) (end : ℕ) (d : DiskState) → is_made d.bytes ≡ true → IsDurable d → Scans newest format (Ok end) d → Opens newest create (end, format) d d
 opens_read newest format create end d made durable scans =
-    ((λ reads. refl), scans.0, subst (λ (b : Bool). OpensAs newest b d.bytes scans.0) (sym (to_read create d.bytes made)) (rest_image scans.0 end d.bytes scans.1), scans.1, durable)
+    ((λ reads. refl), scans.0, subst (λ (b : Bool). OpensAs newest b d.bytes scans.0) (sym (to_read create d.bytes made)) (rest_image scans.0 end d.bytes scans.1), scans.1, durable, scans.1.small)
 
 module _ (newest format : Format) (create : Bool) (told after : Option DiskState) (same : after ≡ told) (front : (d : DiskState) → told ≡ Some d → take 8 d.bytes ≡ head format) (durable : (d : DiskState) → told ≡ Some d → IsDurable d) where
   pub scan_opens : (r : Result ℕ JournalError) → ((d : DiskState) → told ≡ Some d → Scans newest format r d) → IfOk r (λ end. Tells (Opens newest create (end, format)) told after)
@@ -77,7 +77,7 @@ synced_keeps newest create d e x syncs = (stage_synced (MayBeLeft newest (is_to_
     unmade_of false made is = absurd cc
 
     here : (b : Bool) → is_to_make create d.bytes ≡ b → MayBeLeft newest b d.bytes d.bytes
-    here true is = inl (unmade_of create (is_made d.bytes) is)
+    here true is = (inl (unmade_of create (is_made d.bytes) is), λ room. room)
     here false is = refl
 
 pub keeps_on : {T : Type 0} (newest : Format) (create : Bool) (x : T) (d f : DiskState) → Then (Syncs (Ok x)) (KeepsFile newest create) d f → KeepsFile newest create d f
@@ -94,6 +94,7 @@ opens_on newest create found x d f calls =
       subst (λ (b : List ℕ). OpensAs newest (is_to_make create b) b calls.2.1) same calls.2.2,
       calls.2.3,
       calls.2.4,
+      subst (λ (b : List ℕ). length b ≤ most_bytes) same calls.2.5,
     )
 
 pub refuses_on : {T : Type 0} (newest : Format) (create : Bool) (e : JournalError) (x : T) (d a : DiskState) → Syncs (Ok x) d a → Refuses newest create e a → Refuses newest create e d

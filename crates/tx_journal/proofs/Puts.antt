@@ -1,15 +1,15 @@
 -- The four calls of an append, one after the other.
-use Rattle.std.proofs.Common.{◌≡◌, inl, ℕ, ◌+◌, ◌-◌, List, [], ◌∷◌, ◌++◌, length, Result, Ok, sym, ◌∙◌, ap, subst, arith, length-append}
+use Rattle.std.proofs.Common.{◌≡◌, inl, ℕ, ◌+◌, ◌-◌, ◌≤◌, List, [], ◌∷◌, ◌++◌, length, Result, Ok, sym, ◌∙◌, ap, subst, arith, length-append}
 use Rattle.actor_ports.specs.declared.port.PortError.{PortError}
 use Rattle.disk_model.specs.Disk.{DiskState, Torn, overwritten, Writes, Syncs}
 use Rattle.disk_model.specs.Crash.{IsDurable, Since}
-use Rattle.disk_model.proofs.Stages.{Then, Stage, stage_start, stage_write, stage_sync, synced_durable, synced_bytes, wrote_bytes, since_stage}
+use Rattle.disk_model.proofs.Stages.{Then, Stage, stage_start, stage_write, stage_sync, synced_durable, synced_bytes, wrote_bytes, torn_overwritten, since_stage}
 use Rattle.tx_journal.specs.declared.format.Format.{Format}
-use Rattle.tx_journal.specs.File.{framed, spelled, IsShort}
+use Rattle.tx_journal.specs.File.{most_bytes, framed, spelled, IsShort}
 use Rattle.tx_journal.specs.Journal.{IsAtRest, RestsBeforeOrAfter, PutsRecord, HasRecord}
-use Rattle.tx_journal.proofs.Records.{rest_within, torn_behind, staged, written_behind, torn_gate, written_gate, at_rest_again}
+use Rattle.tx_journal.proofs.Records.{spelled-push, rest_within, torn_behind, staged, written_behind, torn_gate, written_gate, at_rest_again}
 
-module _ (newest format : Format) (payloads : List (List ℕ)) (payload : List ℕ) (end : ℕ) (d : DiskState) (at_rest : IsAtRest newest format payloads end d.bytes) (durable : IsDurable d) (short : IsShort payload) where
+module _ (newest format : Format) (payloads : List (List ℕ)) (payload : List ℕ) (end : ℕ) (d : DiskState) (at_rest : IsAtRest newest format payloads end d.bytes) (durable : IsDurable d) (short : IsShort payload) (room : end + length (framed payload ++ 0 ∷ []) ≤ most_bytes) where
   abbrev P : List ℕ → Type 0
   P = RestsBeforeOrAfter newest format payloads payload
 
@@ -20,7 +20,7 @@ module _ (newest format : Format) (payloads : List (List ℕ)) (payload : List �
   here = inl (end, at_rest)
 
   pub first : {T : Type 0} (r : Result T PortError) (a : DiskState) → Writes end text r d a → Stage P d a
-  first r a write = stage_write P d d a end text r (stage_start P d durable here) durable (rest_within payloads end d.bytes at_rest).1 write (λ c torn. inl (torn_behind payloads end (length text) d.bytes c at_rest torn))
+  first r a write = stage_write P d d a end text r (stage_start P d durable here) durable (rest_within payloads end d.bytes at_rest).1 write (λ c torn. inl (torn_behind payloads end (length text) d.bytes c at_rest room torn))
 
   pub second : {T : Type 0} (x : T) (r : Result T PortError) (a b : DiskState) → Writes end text (Ok x) d a → Syncs r a b → Stage P d b
   second x r a b write sync = stage_sync P d a b r (first (Ok x) a write) sync
@@ -30,6 +30,12 @@ module _ (newest format : Format) (payloads : List (List ℕ)) (payload : List �
       let w = written_behind payloads end d.bytes payload at_rest in
       (w.0, synced_bytes y a b sync ∙ wrote_bytes x end text d a write ∙ w.1)
 
+  -- the file isn't longer than before, or ends behind the record
+  staged_small : {T : Type 0} (x y : T) (a b : DiskState) → Writes end text (Ok x) d a → Syncs (Ok y) a b → length b.bytes ≤ most_bytes
+  staged_small x y a b write sync =
+      let size = (torn_overwritten d.bytes text end (rest_within payloads end d.bytes at_rest).1).no_longer in
+      omega (arith, ap length (synced_bytes y a b sync ∙ wrote_bytes x end text d a write), size, at_rest.small, room)
+
   before_gate : end - 1 ≡ length (spelled format payloads)
   before_gate = omega (arith, at_rest.end_is)
 
@@ -38,7 +44,7 @@ module _ (newest format : Format) (payloads : List (List ℕ)) (payload : List �
       let is = staged_is x y a b write sync in
       stage_write P d b e (end - 1) (1 ∷ []) r (second x (Ok y) a b write sync) (synced_durable y a b sync)
       (omega (arith, before_gate, ap length is.1, length-append (spelled format payloads) (at_rest.gate ∷ (framed payload ++ 0 ∷ is.0)))) open_
-      (λ c torn. torn_gate newest format at_rest.known payloads at_rest.gate payload is.0 at_rest.short short (end - 1) c before_gate (subst (λ (l : List ℕ). Torn (end - 1) 1 l c) is.1 torn))
+      (λ c torn. torn_gate newest format at_rest.known payloads at_rest.gate payload is.0 at_rest.short short (end - 1) c before_gate (subst (λ (l : List ℕ). length l ≤ most_bytes) is.1 (staged_small x y a b write sync)) (subst (λ (l : List ℕ). Torn (end - 1) 1 l c) is.1 torn))
 
   pub fourth : {T : Type 0} (x y z : T) (r : Result T PortError) (a b e f : DiskState) → Writes end text (Ok x) d a → Syncs (Ok y) a b → Writes (end - 1) (1 ∷ []) (Ok z) b e → Syncs r e f → Stage P d f
   fourth x y z r a b e f write sync open_ again = stage_sync P d e f r (third x y (Ok z) a b e write sync open_) again
@@ -48,7 +54,9 @@ module _ (newest format : Format) (payloads : List (List ℕ)) (payload : List �
       let is = staged_is x y a b write sync in
       let written : f.bytes ≡ spelled format (payloads ++ payload ∷ []) ++ 0 ∷ is.0 =
       synced_bytes w e f again ∙ wrote_bytes z (end - 1) (1 ∷ []) b e open_ ∙ ap (λ (l : List ℕ). overwritten l (end - 1) (1 ∷ [])) is.1 ∙ written_gate newest format at_rest.known payloads at_rest.gate payload is.0 at_rest.short short (end - 1) before_gate in
-      (at_rest_again newest format at_rest.known payloads at_rest.gate payload is.0 at_rest.short short end f.bytes at_rest.end_is written, synced_durable w e f again)
+      let small : length f.bytes ≤ most_bytes =
+      omega (arith, ap length written, ap length (spelled-push format payloads payload (0 ∷ is.0)), ap length is.1, length-append (spelled format payloads) (1 ∷ (framed payload ++ 0 ∷ is.0)), length-append (spelled format payloads) (at_rest.gate ∷ (framed payload ++ 0 ∷ is.0)), staged_small x y a b write sync) in
+      (at_rest_again newest format at_rest.known payloads at_rest.gate payload is.0 at_rest.short short end f.bytes at_rest.end_is written small, synced_durable w e f again)
 
   pub since : (e : DiskState) → Stage P d e → Since P d e
   since e stage = since_stage P d e durable here stage
@@ -56,30 +64,30 @@ module _ (newest format : Format) (payloads : List (List ℕ)) (payload : List �
 -- The same for any payloads that the disk holds, and for any payload whose record the bytes are.
 module _ (end : ℕ) (text : List ℕ) where
   pub puts_1 : {T : Type 0} (r : Result T PortError) (d a : DiskState) → Writes end text r d a → PutsRecord end text d a
-  puts_1 r d a write newest format payloads payload at_rest durable short is =
-      since newest format payloads payload end d at_rest durable short a (first newest format payloads payload end d at_rest durable short r a (subst (λ l. Writes end l r d a) is write))
+  puts_1 r d a write newest format payloads payload at_rest durable short is room =
+      since newest format payloads payload end d at_rest durable short (subst (λ (l : List ℕ). end + length l ≤ most_bytes) is room) a (first newest format payloads payload end d at_rest durable short (subst (λ (l : List ℕ). end + length l ≤ most_bytes) is room) r a (subst (λ l. Writes end l r d a) is write))
 
   pub puts_2 : {T : Type 0} (x : T) (r : Result T PortError) (d b : DiskState) → Then (Writes end text (Ok x)) (Syncs r) d b → PutsRecord end text d b
-  puts_2 x r d b calls newest format payloads payload at_rest durable short is =
-      since newest format payloads payload end d at_rest durable short b (second newest format payloads payload end d at_rest durable short x r calls.0 b (subst (λ l. Writes end l (Ok x) d calls.0) is calls.1) calls.2)
+  puts_2 x r d b calls newest format payloads payload at_rest durable short is room =
+      since newest format payloads payload end d at_rest durable short (subst (λ (l : List ℕ). end + length l ≤ most_bytes) is room) b (second newest format payloads payload end d at_rest durable short (subst (λ (l : List ℕ). end + length l ≤ most_bytes) is room) x r calls.0 b (subst (λ l. Writes end l (Ok x) d calls.0) is calls.1) calls.2)
 
   pub puts_3 : {T : Type 0} (x y : T) (r : Result T PortError) (d e : DiskState) → Then (Then (Writes end text (Ok x)) (Syncs (Ok y))) (Writes (end - 1) (1 ∷ []) r) d e → PutsRecord end text d e
-  puts_3 x y r d e calls newest format payloads payload at_rest durable short is =
+  puts_3 x y r d e calls newest format payloads payload at_rest durable short is room =
       let b = calls.0 in
       let a = calls.1.0 in
-      since newest format payloads payload end d at_rest durable short e (third newest format payloads payload end d at_rest durable short x y r a b e (subst (λ l. Writes end l (Ok x) d a) is calls.1.1) calls.1.2 calls.2)
+      since newest format payloads payload end d at_rest durable short (subst (λ (l : List ℕ). end + length l ≤ most_bytes) is room) e (third newest format payloads payload end d at_rest durable short (subst (λ (l : List ℕ). end + length l ≤ most_bytes) is room) x y r a b e (subst (λ l. Writes end l (Ok x) d a) is calls.1.1) calls.1.2 calls.2)
 
   pub puts_4 : {T : Type 0} (x y z : T) (r : Result T PortError) (d f : DiskState) → Then (Then (Then (Writes end text (Ok x)) (Syncs (Ok y))) (Writes (end - 1) (1 ∷ []) (Ok z))) (Syncs r) d f → PutsRecord end text d f
-  puts_4 x y z r d f calls newest format payloads payload at_rest durable short is =
+  puts_4 x y z r d f calls newest format payloads payload at_rest durable short is room =
       let e = calls.0 in
       let b = calls.1.0 in
       let a = calls.1.1.0 in
-      since newest format payloads payload end d at_rest durable short f (fourth newest format payloads payload end d at_rest durable short x y z r a b e f (subst (λ l. Writes end l (Ok x) d a) is calls.1.1.1) calls.1.1.2 calls.1.2 calls.2)
+      since newest format payloads payload end d at_rest durable short (subst (λ (l : List ℕ). end + length l ≤ most_bytes) is room) f (fourth newest format payloads payload end d at_rest durable short (subst (λ (l : List ℕ). end + length l ≤ most_bytes) is room) x y z r a b e f (subst (λ l. Writes end l (Ok x) d a) is calls.1.1.1) calls.1.1.2 calls.1.2 calls.2)
 
   pub puts_all : {T : Type 0} (x y z w : T) (d f : DiskState) → Then (Then (Then (Writes end text (Ok x)) (Syncs (Ok y))) (Writes (end - 1) (1 ∷ []) (Ok z))) (Syncs (Ok w)) d f → HasRecord end text d f
-  puts_all x y z w d f calls newest format payloads payload at_rest durable short is =
+  puts_all x y z w d f calls newest format payloads payload at_rest durable short is room =
       let e = calls.0 in
       let b = calls.1.0 in
       let a = calls.1.1.0 in
-      let all = done newest format payloads payload end d at_rest durable short x y z w a b e f (subst (λ l. Writes end l (Ok x) d a) is calls.1.1.1) calls.1.1.2 calls.1.2 calls.2 in
+      let all = done newest format payloads payload end d at_rest durable short (subst (λ (l : List ℕ). end + length l ≤ most_bytes) is room) x y z w a b e f (subst (λ l. Writes end l (Ok x) d a) is calls.1.1.1) calls.1.1.2 calls.1.2 calls.2 in
       (subst (λ (l : List ℕ). IsAtRest newest format (payloads ++ payload ∷ []) (end + length l) f.bytes) (sym is) all.0, all.1)

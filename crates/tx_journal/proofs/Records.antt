@@ -5,7 +5,7 @@ use Rattle.std.proofs.lemmas.List.{take_at, drop_at, drop_more, append-nil}
 use Rattle.std.specs.List.{AllByRecursion}
 use Rattle.disk_model.specs.Disk.{Torn, overwritten}
 use Rattle.tx_journal.specs.declared.format.Format.{Format}
-use Rattle.tx_journal.specs.File.{name, head, is_known, framed, records, spelled, IsShort}
+use Rattle.tx_journal.specs.File.{most_bytes, name, head, is_known, framed, records, spelled, IsShort}
 use Rattle.tx_journal.specs.Journal.{IsAtRest, IsSpelled, RestsBeforeOrAfter}
 
 records-push : (payloads : List (List ℕ)) (payload : List ℕ) → records (payloads ++ payload ∷ []) ≡ records payloads ++ (1 ∷ framed payload)
@@ -34,16 +34,16 @@ front {newest} {format} payloads end bytes at_rest =
     ∙ take_at (spelled format payloads ++ at_rest.gate ∷ []) at_rest.rest end (omega (arith, at_rest.end_is, length-append (spelled format payloads) (at_rest.gate ∷ [])))
 
 -- such a file, with a closed gate and any bytes behind it
-pub at_rest_of : (newest format : Format) (payloads : List (List ℕ)) (gate : ℕ) (rest : List ℕ) → is_known newest (name format) ≡ true → AllByRecursion IsShort payloads → gate ≢ 1 → IsSpelled newest format payloads (spelled format payloads ++ gate ∷ rest)
-at_rest_of newest format payloads gate rest known short shut =
-    (length (spelled format payloads) + 1, record { known = known; gate = gate; rest = rest; shut = shut; short = short; file = refl; end_is = refl })
+pub at_rest_of : (newest format : Format) (payloads : List (List ℕ)) (gate : ℕ) (rest : List ℕ) → is_known newest (name format) ≡ true → AllByRecursion IsShort payloads → gate ≢ 1 → length (spelled format payloads ++ gate ∷ rest) ≤ most_bytes → IsSpelled newest format payloads (spelled format payloads ++ gate ∷ rest)
+at_rest_of newest format payloads gate rest known short shut small =
+    (length (spelled format payloads) + 1, record { known = known; gate = gate; rest = rest; shut = shut; short = short; file = refl; end_is = refl; small = small })
 
 -- whatever the first write may leave still has the closed gate
-pub torn_behind : {newest format : Format} (payloads : List (List ℕ)) (end n : ℕ) (bytes c : List ℕ) → IsAtRest newest format payloads end bytes → Torn end n bytes c → IsSpelled newest format payloads c
-torn_behind {newest} {format} payloads end n bytes c at_rest torn =
+pub torn_behind : {newest format : Format} (payloads : List (List ℕ)) (end n : ℕ) (bytes c : List ℕ) → IsAtRest newest format payloads end bytes → end + n ≤ most_bytes → Torn end n bytes c → IsSpelled newest format payloads c
+torn_behind {newest} {format} payloads end n bytes c at_rest room torn =
     let whole : c ≡ spelled format payloads ++ at_rest.gate ∷ drop end c =
     sym (take-append-drop end c) ∙ ap (λ (l : List ℕ). l ++ drop end c) (torn.before ∙ front payloads end bytes at_rest) ∙ append_assoc (spelled format payloads) (at_rest.gate ∷ []) (drop end c) in
-    subst (IsSpelled newest format payloads) (sym whole) (at_rest_of newest format payloads at_rest.gate (drop end c) at_rest.known at_rest.short at_rest.shut)
+    subst (IsSpelled newest format payloads) (sym whole) (at_rest_of newest format payloads at_rest.gate (drop end c) at_rest.known at_rest.short at_rest.shut (omega (arith, ap length whole, torn.no_longer, at_rest.small, room)))
 
 -- the file with a record behind its closed gate
 abbrev pub staged : Format → List (List ℕ) → ℕ → List ℕ → List ℕ → List ℕ
@@ -61,15 +61,18 @@ written_behind {newest} {format} payloads end bytes payload at_rest =
 
 module _ (newest format : Format) (known : is_known newest (name format) ≡ true) (payloads : List (List ℕ)) (gate : ℕ) (payload rest : List ℕ) (short : AllByRecursion IsShort payloads) (fits : IsShort payload) where
   -- with a whole record behind any gate, the file has the new payload or it doesn't
-  either : (g : ℕ) → RestsBeforeOrAfter newest format payloads payload (staged format payloads g payload rest)
-  either g = elim (cases_eq g 1) [
-    | inl open_ ↦ inr (subst (IsSpelled newest format (payloads ++ payload ∷ [])) (spelled-push format payloads payload (0 ∷ rest) ∙ ap (λ (k : ℕ). staged format payloads k payload rest) (sym open_)) (at_rest_of newest format (payloads ++ payload ∷ []) 0 rest known (short-push payloads payload short fits) (omega arith)))
-    | inr shut ↦ inl (at_rest_of newest format payloads g (framed payload ++ 0 ∷ rest) known short shut)
+  either : (g : ℕ) → length (staged format payloads g payload rest) ≤ most_bytes → RestsBeforeOrAfter newest format payloads payload (staged format payloads g payload rest)
+  either g room = elim (cases_eq g 1) [
+    | inl open_ ↦ inr (subst (IsSpelled newest format (payloads ++ payload ∷ [])) (spelled-push format payloads payload (0 ∷ rest) ∙ ap (λ (k : ℕ). staged format payloads k payload rest) (sym open_)) (at_rest_of newest format (payloads ++ payload ∷ []) 0 rest known (short-push payloads payload short fits) (omega arith) pushed))
+    | inr shut ↦ inl (at_rest_of newest format payloads g (framed payload ++ 0 ∷ rest) known short shut room)
   ]
+    where
+      pushed : length (spelled format (payloads ++ payload ∷ []) ++ 0 ∷ rest) ≤ most_bytes
+      pushed = omega (arith, room, ap length (spelled-push format payloads payload (0 ∷ rest)), length-append (spelled format payloads) (1 ∷ (framed payload ++ 0 ∷ rest)), length-append (spelled format payloads) (g ∷ (framed payload ++ 0 ∷ rest)))
 
   -- whatever the second write may leave still has the whole record
-  pub torn_gate : (at : ℕ) (c : List ℕ) → at ≡ length (spelled format payloads) → Torn at 1 (staged format payloads gate payload rest) c → RestsBeforeOrAfter newest format payloads payload c
-  torn_gate at c at_is torn =
+  pub torn_gate : (at : ℕ) (c : List ℕ) → at ≡ length (spelled format payloads) → length (staged format payloads gate payload rest) ≤ most_bytes → Torn at 1 (staged format payloads gate payload rest) c → RestsBeforeOrAfter newest format payloads payload c
+  torn_gate at c at_is room torn =
       let file = staged format payloads gate payload rest in
       let size : length file ≡ length (spelled format payloads) + suc (length (framed payload ++ 0 ∷ rest)) = length-append (spelled format payloads) (gate ∷ (framed payload ++ 0 ∷ rest)) in
       let before : take at c ≡ spelled format payloads = torn.before ∙ take_at (spelled format payloads) (gate ∷ (framed payload ++ 0 ∷ rest)) at (sym at_is) in
@@ -79,7 +82,7 @@ module _ (newest format : Format) (known : is_known newest (name format) ≡ tru
       let g = get_or c at 0 in
       let tail : drop at c ≡ g ∷ (framed payload ++ 0 ∷ rest) = drop_more c at 0 (omega (arith, torn.no_shorter, size, at_is)) ∙ ap (λ (l : List ℕ). g ∷ l) behind in
       let whole : c ≡ staged format payloads g payload rest = sym (take-append-drop at c) ∙ ap (λ (l : List ℕ). l ++ drop at c) before ∙ ap (λ (l : List ℕ). spelled format payloads ++ l) tail in
-      subst (RestsBeforeOrAfter newest format payloads payload) (sym whole) (either g)
+      subst (RestsBeforeOrAfter newest format payloads payload) (sym whole) (either g (omega (arith, ap length whole, torn.no_longer, size, at_is, room)))
 
   pub written_gate : (at : ℕ) → at ≡ length (spelled format payloads) → overwritten (staged format payloads gate payload rest) at (1 ∷ []) ≡ spelled format (payloads ++ payload ∷ []) ++ 0 ∷ rest
   written_gate at at_is =
@@ -90,8 +93,8 @@ module _ (newest format : Format) (known : is_known newest (name format) ≡ tru
       ∙ append_assoc (spelled format payloads) (1 ∷ []) (framed payload ++ 0 ∷ rest)
       ∙ sym (spelled-push format payloads payload (0 ∷ rest))
 
-  pub at_rest_again : (end : ℕ) (bytes : List ℕ) → end ≡ length (spelled format payloads) + 1 → bytes ≡ spelled format (payloads ++ payload ∷ []) ++ 0 ∷ rest → IsAtRest newest format (payloads ++ payload ∷ []) (end + length (framed payload ++ 0 ∷ [])) bytes
-  at_rest_again end bytes end_is is =
+  pub at_rest_again : (end : ℕ) (bytes : List ℕ) → end ≡ length (spelled format payloads) + 1 → bytes ≡ spelled format (payloads ++ payload ∷ []) ++ 0 ∷ rest → length bytes ≤ most_bytes → IsAtRest newest format (payloads ++ payload ∷ []) (end + length (framed payload ++ 0 ∷ [])) bytes
+  at_rest_again end bytes end_is is small =
       let size : length (spelled format (payloads ++ payload ∷ [])) ≡ length (spelled format payloads) + suc (length (framed payload)) =
       ap length (sym (append-nil (spelled format (payloads ++ payload ∷ []))) ∙ spelled-push format payloads payload [] ∙ ap (λ (l : List ℕ). spelled format payloads ++ (1 ∷ l)) (append-nil (framed payload))) ∙ length-append (spelled format payloads) (1 ∷ framed payload) in
-      record { known = known; gate = 0; rest = rest; shut = omega arith; short = short-push payloads payload short fits; file = is; end_is = omega (arith, end_is, size, length-append (framed payload) (0 ∷ [])) }
+      record { known = known; gate = 0; rest = rest; shut = omega arith; short = short-push payloads payload short fits; file = is; end_is = omega (arith, end_is, size, length-append (framed payload) (0 ∷ [])); small = small }

@@ -1,37 +1,16 @@
 -- A journal over a list of calls.
-use Rattle.std.proofs.Common.{◌≡◌, inl, ℕ, ◌+◌, Bool, true, false, cond, List, [], ◌∷◌, ◌++◌, length, Option, Some, None, Result, Ok, Err, refl, sym, ◌∙◌, ap, subst}
+use Rattle.std.proofs.Common.{◌≡◌, inl, ℕ, ◌+◌, Bool, true, false, cond, List, [], ◌∷◌, ◌++◌, length, Option, Some, None, Ok, Err, refl, sym, ◌∙◌, ap, subst}
 use Rattle.std.specs.Prelude.{OnOk, nat_lt, ◌||◌}
-use Rattle.disk_model.specs.Disk.{DiskState, Tells}
-use Rattle.disk_model.specs.Crash.{Since}
-use Rattle.disk_model.proofs.Moments.{later_here, since_now, since_weaker}
+use Rattle.disk_model.specs.Disk.{Tells}
 use Rattle.disk_model.proofs.Stages.{told_before, tells_map_at, tells_same}
 use Rattle.tx_journal.specs.declared.error.JournalError.{JournalError}
 use Rattle.tx_journal.specs.declared.error.JournalError.TheVariants.{DiskFault, Damaged, TooLong, Full, Reopen, NotStarted, OneDisk, Spent, OutOfMemory}
-use Rattle.tx_journal.specs.File.{journal_payloads, longest, most_bytes}
-use Rattle.tx_journal.specs.Pair.{Files, Claim, generation_row, number, live_payloads, LeavesBoth, LeavesOpened, SinceBoth, SinceOpened, Holds, IsJust, IsEither}
+use Rattle.tx_journal.specs.File.{longest, most_bytes}
+use Rattle.tx_journal.specs.Pair.{Files, Claim, generation_row, number, LeavesOpened, SinceOpened, Holds, IsJust, IsEither}
 use Rattle.tx_journal.specs.Journal.{is_fault}
 use Rattle.tx_journal.specs.Calls.{Side, JournalState, first_of, second_of, tell_sides, told, append_refusal, Appends, Commits, Committed, is_alone, is_last, is_none, next_number, start_refusal, Starts, Keeps, Kept, HasBegun, row_refusal, add_refusal, given_up, Adds, HasRow, end_refusal, Turns, Replaces, Replaced, staged_payloads}
+use Rattle.tx_journal.proofs.Claims.{leaves_weaker, since_opened_weaker, opened_now, opened_here}
 use Rattle.tx_journal.specs.Runs.{JournalCall, Append, Begin, Add, Turn, Look, Answer, AppendMoves, BeginMoves, AddMoves, TurnMoves, LookMoves, Moves, Ledger, settled, GivenUp, outcome_of, with_row, rows_or, ledger_after, Stands, Runs, RisksOne, RisksEach}
-
--- claims that follow from claims
-leaves_weaker : (P Q : Claim) (first : DiskState) (second : Option DiskState) → ((r : Result (List (List ℕ)) ℕ) → P r → Q r) → LeavesBoth P first second → LeavesBoth Q first second
-leaves_weaker P Q first None f leaves = λ x image. f (journal_payloads x) (leaves x image)
-leaves_weaker P Q first (Some second) f leaves = λ x image y other. f (live_payloads x y) (leaves x image y other)
-
-since_opened_weaker : (P Q : Claim) (a : DiskState) (b : Option DiskState) (a_new : DiskState) (b_new : Option DiskState) → ((r : Result (List (List ℕ)) ℕ) → P r → Q r) → SinceBoth P a b a_new b_new → SinceBoth Q a b a_new b_new
-since_opened_weaker P Q a None a_new None f since = since_weaker (λ x. P (journal_payloads x)) (λ x. Q (journal_payloads x)) a a_new (λ x. f (journal_payloads x)) since
-since_opened_weaker P Q a None a_new (Some e) f since = since
-since_opened_weaker P Q a (Some d) a_new None f since = since
-since_opened_weaker P Q a (Some d) a_new (Some e) f since =
-    since_weaker (λ x. Since (λ y. P (live_payloads x y)) d e) (λ x. Since (λ y. Q (live_payloads x y)) d e) a a_new
-    (λ x. since_weaker (λ y. P (live_payloads x y)) (λ y. Q (live_payloads x y)) d e (λ y. f (live_payloads x y))) since
-
--- this moment is one of those since an earlier one
-opened_now : (P : Claim) (a : DiskState) (b : Option DiskState) (a_new : DiskState) (b_new : Option DiskState) → SinceBoth P a b a_new b_new → LeavesBoth P a_new b_new
-opened_now P a None a_new None since = since_now (λ x. P (journal_payloads x)) a a_new since
-opened_now P a None a_new (Some e) since = absurd since
-opened_now P a (Some d) a_new None since = absurd since
-opened_now P a (Some d) a_new (Some e) since = λ x image. since_now (λ y. P (live_payloads x y)) d e (since_now (λ x. Since (λ y. P (live_payloads x y)) d e) a a_new since x image)
 
 held_leaves : (held maybe : List (List ℕ)) (files : Files) → Holds held files → LeavesOpened (IsEither held maybe) files
 held_leaves held maybe files holds = leaves_weaker (IsJust held) (IsEither held maybe) files.first files.second (λ r is. inl is) holds.leaves
@@ -354,16 +333,9 @@ runs_stand l m old new (entry ∷ entries) stands runs =
     runs_stand (ledger_after (next_number old.generation) entry.0 (outcome_of entry.1) l) m runs.0 new entries (step l entry.0 entry.1 old runs.0 stands runs.1) runs.2
 
 -- what a crash leaves within one call
-since_same : (P : Claim) (first : DiskState) (second : Option DiskState) → LeavesBoth P first second → SinceBoth P first second first second
-since_same P first None leaves = record { start = leaves; later = later_here (λ x. P (journal_payloads x)) first }
-since_same P first (Some second) leaves = record {
-  start = λ x image. record { start = leaves x image; later = later_here (λ y. P (live_payloads x y)) second };
-  later = later_here (λ x. Since (λ y. P (live_payloads x y)) second second) first;
-}
-
 still : (P : Claim) (old new : JournalState) → told new ≡ told old → ((files : Files) → told old ≡ Some files → LeavesOpened P files) → Tells (SinceOpened P) (told old) (told new)
 still P old new same leaves = tells_map_at (λ f g. g ≡ f) (SinceOpened P) (told old) (told new)
-    (λ f g is also. subst (SinceOpened P f) (sym also) (since_same P f.first f.second (leaves f is)))
+    (λ f g is also. subst (SinceOpened P f) (sym also) (opened_here P f.first f.second (leaves f is)))
     (tells_same (λ f g. g ≡ f) (told old) (told new) (λ f. refl) same)
 
 risks_one : (l : Ledger) (call : JournalCall) (answer : Answer) (old new : JournalState) → Stands l old → Moves call answer old new → RisksOne l call old new

@@ -1,5 +1,5 @@
 -- An opening of one file, seen as an opening of a journal.
-use Rattle.std.proofs.Common.{◌≡◌, ℕ, Bool, true, false, List, Option, Some, None, Ok, refl, ap, subst, arith}
+use Rattle.std.proofs.Common.{◌≡◌, ℕ, Bool, true, false, List, Option, Some, None, refl, ap, subst, arith}
 use Rattle.disk_model.specs.Disk.{DiskState, Tells}
 use Rattle.disk_model.proofs.Moments.{later_weaker, leaves_durable}
 use Rattle.disk_model.proofs.Stages.{told_before}
@@ -7,8 +7,7 @@ use Rattle.tx_journal.specs.declared.error.JournalError.{JournalError}
 use Rattle.tx_journal.specs.declared.error.JournalError.TheVariants.{DiskFault, Damaged, TooLong, Full, Reopen, NotStarted, OneDisk, Spent, OutOfMemory}
 use Rattle.tx_journal.specs.declared.format.Format.{Format}
 use Rattle.tx_journal.specs.declared.format.Format.TheVariants.{One, Two}
-use Rattle.tx_journal.specs.File.{journal_payloads}
-use Rattle.tx_journal.specs.Pair.{Files}
+use Rattle.tx_journal.specs.Pair.{Files, ReadsAs, IsJust}
 use Rattle.tx_journal.specs.Journal.{is_to_make, MayBeLeft, KeepsFile, OpensAs, Opens, Refuses}
 use Rattle.tx_journal.specs.Calls.{tell_one, FindsIn, OpensFiles, MayBeLeftIn, KeepsFiles, RefusesFiles}
 use Rattle.tx_journal.specs.Found.{at_first}
@@ -27,7 +26,8 @@ opens_one create found d e opens =
     let image = rest_image opens.1 found.0 e.bytes opens.3 in (
       opens.1,
       finds_one (is_to_make create d.bytes) d opens.1 opens.2,
-      record { reads = image; leaves = leaves_durable (λ f. journal_payloads f ≡ Ok opens.1) e opens.4 image },
+      record { reads = image; small = opens.3.small; leaves = leaves_durable (ReadsAs (IsJust opens.1) One) e opens.4 (image, opens.3.small) },
+      opens.5,
     )
 
 left_one : (b : Bool) (d : DiskState) (f : List ℕ) → MayBeLeft One b d.bytes f → MayBeLeftIn b d None f None

@@ -6,7 +6,7 @@ use Rattle.disk_model.specs.Disk.{DiskState}
 use Rattle.tx_journal.specs.declared.error.JournalError.{JournalError}
 use Rattle.tx_journal.specs.declared.error.JournalError.TheVariants.{DiskFault, Damaged, TooLong, Full, Reopen, NotStarted, OneDisk, Spent, OutOfMemory}
 use Rattle.tx_journal.specs.declared.format.Format.{Format}
-use Rattle.tx_journal.specs.File.{name, is_known, head, framed, spelled, IsShort, payloads_from, file_payloads}
+use Rattle.tx_journal.specs.File.{most_bytes, name, is_known, head, framed, spelled, IsShort, payloads_from, file_payloads}
 use Rattle.tx_journal.specs.Journal.{StandsAt, Scans}
 use Rattle.tx_journal.proofs.Files.{image_split, with_fronts, fronts_fail, length-framed}
 use Rattle.tx_journal.proofs.Records.{spelled-push, short-push}
@@ -35,8 +35,8 @@ walk_more {newest} {format} gate next d walked stands =
       gate_is = omega (arith, stands.3, walked.gate_is, size, length-framed payload);
     }
 
-pub walk_end : {newest format : Format} (gate : ℕ) (d : DiskState) → Walked newest format gate d.bytes → StandsAt gate (Ok None) d → Scans newest format (Ok (gate + 1)) d
-walk_end {newest} {format} gate d walked stands = (
+pub walk_end : {newest format : Format} (gate : ℕ) (d : DiskState) → Walked newest format gate d.bytes → StandsAt gate (Ok None) d → length d.bytes ≤ most_bytes → Scans newest format (Ok (gate + 1)) d
+walk_end {newest} {format} gate d walked stands small = (
   walked.payloads,
   record {
     known = walked.known;
@@ -46,6 +46,7 @@ walk_end {newest} {format} gate d walked stands = (
     short = walked.short;
     file = walked.whole ∙ ap (λ (l : List ℕ). spelled format walked.payloads ++ l) stands.3;
     end_is = omega (arith, walked.gate_is);
+    small = small;
   },
 )
 

@@ -6,9 +6,9 @@ use Rattle.tx_journal.specs.declared.error.JournalError.{JournalError}
 use Rattle.tx_journal.specs.declared.error.JournalError.TheVariants.{DiskFault, Damaged, TooLong, Full, Reopen, NotStarted, OneDisk, Spent, OutOfMemory}
 use Rattle.tx_journal.specs.declared.format.Format.{Format}
 use Rattle.tx_journal.specs.declared.format.Format.TheVariants.{One, Two}
-use Rattle.tx_journal.specs.File.{longest, most_bytes, is_made, opened, file_length, file_payloads, IsEmptyOrUnmade}
+use Rattle.tx_journal.specs.File.{longest, most_bytes, is_made, opened, file_length, file_payloads, IsBeingMade}
 use Rattle.tx_journal.specs.Journal.{Rises}
-use Rattle.tx_journal.specs.Pair.{Files, generation_row, generation_in, without_generation, file_generation, number, live_file, read_payloads, SinceOpened, Holds, IsJust, IsEither}
+use Rattle.tx_journal.specs.Pair.{Files, generation_row, generation_in, without_generation, file_generation, number, live_bytes, read_payloads, SinceOpened, Holds, IsJust, IsEither}
 
 -- a disk of a journal: its state, if it reports it, and how often it failed
 pub record Side : Type 0 where
@@ -273,15 +273,15 @@ abbrev pub FindsIn : Bool → Files → List (List ℕ) → Type 0
 FindsIn true files payloads = payloads ≡ []
 FindsIn false files payloads = read_payloads files ≡ Ok payloads
 
--- an opening that is done
+-- an opening that is done; the live file that it found wasn't longer than a journal takes
 abbrev pub OpensFiles : Bool → Files → Files → Type 0
-OpensFiles create old new = (payloads : List (List ℕ)) × FindsIn (is_making create old.first old.second) old payloads × Holds payloads new
+OpensFiles create old new = (payloads : List (List ℕ)) × FindsIn (is_making create old.first old.second) old payloads × Holds payloads new × (length (live_bytes old.first old.second) ≤ most_bytes)
 
 -- what a crash in an opening leaves: if the first file is being made, one that isn't made or has no records; else the
 -- files as they were read
 abbrev pub MayBeLeftIn : Bool → DiskState → Option DiskState → List ℕ → Option (List ℕ) → Type 0
-MayBeLeftIn true first None f None = IsEmptyOrUnmade One f
-MayBeLeftIn true first (Some second) f (Some g) = IsEmptyOrUnmade Two f × (g ≡ second.bytes)
+MayBeLeftIn true first None f None = IsBeingMade One first.bytes f
+MayBeLeftIn true first (Some second) f (Some g) = IsBeingMade Two first.bytes f × (g ≡ second.bytes)
 MayBeLeftIn false first None f None = f ≡ first.bytes
 MayBeLeftIn false first (Some second) f (Some g) = (f ≡ first.bytes) × (g ≡ second.bytes)
 MayBeLeftIn making first None f (Some g) = ⊥
@@ -297,11 +297,6 @@ LaterBoth P first (Some second) first_new None = ⊥
 -- what a crash may leave once the first syncs of an opening are done
 abbrev pub KeepsFiles : Bool → Files → Files → Type 0
 KeepsFiles create old new = LaterBoth (MayBeLeftIn (is_making create old.first old.second) old.first old.second) old.first old.second new.first new.second
-
--- the bytes of the live file
-abbrev pub live_bytes : DiskState → Option DiskState → List ℕ
-live_bytes first None = first.bytes
-live_bytes first (Some second) = live_file first.bytes second.bytes
 
 -- the cause of a refused opening
 abbrev pub RefusesFiles : Bool → JournalError → Files → Type 0

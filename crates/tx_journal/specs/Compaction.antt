@@ -6,7 +6,7 @@ use Rattle.disk_model.specs.Crash.{IsDurable, Later, Since}
 use Rattle.disk_model.specs.declared.change.Change.{Change}
 use Rattle.disk_model.specs.declared.change.Change.TheVariants.{Over, CutTo}
 use Rattle.tx_journal.specs.declared.format.Format.TheVariants.{Two}
-use Rattle.tx_journal.specs.File.{is_made, FileMade, opened, framed, IsShort}
+use Rattle.tx_journal.specs.File.{most_bytes, is_made, FileMade, opened, framed, IsShort}
 use Rattle.tx_journal.specs.Pair.{generation_row}
 use Rattle.tx_journal.specs.Journal.{IsAtRest}
 
@@ -80,5 +80,5 @@ HasBegunFile is_shut number d e = MayStart is_shut d → IsShutFront e × HasFir
 
 -- one more row behind the others
 abbrev pub AddsRow : ℕ → List ℕ → DiskState → DiskState → Type 0
-AddsRow at bytes d e = (rows : List (List ℕ)) (payload : List ℕ) → IsShutFront d → IsAtRest Two Two rows at (opened d.bytes) → IsShort payload → bytes ≡ 1 ∷ framed payload ++ 0 ∷ []
+AddsRow at bytes d e = (rows : List (List ℕ)) (payload : List ℕ) → IsShutFront d → IsAtRest Two Two rows at (opened d.bytes) → IsShort payload → bytes ≡ 1 ∷ framed payload ++ 0 ∷ [] → at + 5 + length payload ≤ most_bytes
     → IsAtRest Two Two (rows ++ payload ∷ []) (at + 5 + length payload) (opened e.bytes)

@@ -122,3 +122,8 @@ IsBeforeOrAfter newest payloads payload file = JournalImage newest payloads file
 -- the file isn't made, or it is and has no record
 abbrev pub IsEmptyOrUnmade : Format → List ℕ → Type 0
 IsEmptyOrUnmade newest file = (is_made file ≡ false) ⊎ JournalImage newest [] file
+
+-- what a file of these bytes may become while it is made: it isn't made, or it is and has no record; and it isn't longer
+-- than a journal takes, if it wasn't before
+abbrev pub IsBeingMade : Format → List ℕ → List ℕ → Type 0
+IsBeingMade newest bytes file = IsEmptyOrUnmade newest file × (length bytes ≤ most_bytes → length file ≤ most_bytes)

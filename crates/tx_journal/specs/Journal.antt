@@ -11,10 +11,10 @@ use Rattle.tx_journal.specs.declared.format.Format.{Format}
 use Rattle.tx_journal.specs.declared.find.Cursor.{Cursor}
 use Rattle.tx_journal.specs.declared.kind.FileKind.{FileKind}
 use Rattle.tx_journal.specs.declared.kind.FileKind.TheVariants.{Unmade, Other, Journal as Journal_}
-use Rattle.tx_journal.specs.File.{name, head, framed, records, spelled, IsShort, most_bytes, payloads_from, file_payloads, is_made, FileMade, is_known, JournalImage, IsEmptyOrUnmade}
+use Rattle.tx_journal.specs.File.{name, head, framed, records, spelled, IsShort, most_bytes, payloads_from, file_payloads, is_made, FileMade, is_known, JournalImage, IsBeingMade}
 
 -- the bytes are a file of this known format and these payloads, with a closed gate just before the offset `end` and any
--- bytes behind it
+-- bytes behind it, up to the most bytes of a file
 pub record IsAtRest (newest format : Format) (payloads : List (List ℕ)) (end : ℕ) (bytes : List ℕ) : Type 0 where
   pub known : is_known newest (name format) ≡ true
   pub gate : ℕ
@@ -23,6 +23,7 @@ pub record IsAtRest (newest format : Format) (payloads : List (List ℕ)) (end :
   pub short : AllByRecursion IsShort payloads
   pub file : bytes ≡ spelled format payloads ++ gate ∷ rest
   pub end_is : end ≡ length (spelled format payloads) + 1
+  pub small : length bytes ≤ most_bytes
 
 -- the gate before the record of this index, in a file of these payloads
 pub record IsGateOf (payloads : List (List ℕ)) (index gate : ℕ) : Type 0 where
@@ -49,11 +50,11 @@ Rises before after = (before < after) ⊎ IsSpent after
 
 -- What a crash may leave in the four calls of an append, on a durable disk at rest: the payloads before or after it.
 abbrev pub PutsRecord : ℕ → List ℕ → DiskState → DiskState → Type 0
-PutsRecord end bytes d e = (newest format : Format) (payloads : List (List ℕ)) (payload : List ℕ) → IsAtRest newest format payloads end d.bytes → IsDurable d → IsShort payload → bytes ≡ framed payload ++ 0 ∷ [] → Since (RestsBeforeOrAfter newest format payloads payload) d e
+PutsRecord end bytes d e = (newest format : Format) (payloads : List (List ℕ)) (payload : List ℕ) → IsAtRest newest format payloads end d.bytes → IsDurable d → IsShort payload → bytes ≡ framed payload ++ 0 ∷ [] → end + length bytes ≤ most_bytes → Since (RestsBeforeOrAfter newest format payloads payload) d e
 
 -- what they leave if each is done
 abbrev pub HasRecord : ℕ → List ℕ → DiskState → DiskState → Type 0
-HasRecord end bytes d e = (newest format : Format) (payloads : List (List ℕ)) (payload : List ℕ) → IsAtRest newest format payloads end d.bytes → IsDurable d → IsShort payload → bytes ≡ framed payload ++ 0 ∷ [] → IsAtRest newest format (payloads ++ payload ∷ []) (end + length bytes) e.bytes × IsDurable e
+HasRecord end bytes d e = (newest format : Format) (payloads : List (List ℕ)) (payload : List ℕ) → IsAtRest newest format payloads end d.bytes → IsDurable d → IsShort payload → bytes ≡ framed payload ++ 0 ∷ [] → end + length bytes ≤ most_bytes → IsAtRest newest format (payloads ++ payload ∷ []) (end + length bytes) e.bytes × IsDurable e
 
 -- how a journal answers an error of its disk
 abbrev pub as_journal : PortError → JournalError
@@ -84,7 +85,7 @@ is_to_make create bytes = create && not (is_made bytes)
 -- what a crash in the opening leaves: if a file is being made, one that isn't made or has no records; else the file as
 -- it was read
 abbrev pub MayBeLeft : Format → Bool → List ℕ → List ℕ → Type 0
-MayBeLeft newest true bytes file = IsEmptyOrUnmade newest file
+MayBeLeft newest true bytes file = IsBeingMade newest bytes file
 MayBeLeft newest false bytes file = IsSame bytes file
 
 -- what a crash may leave once the first sync of an opening is done
@@ -96,9 +97,9 @@ abbrev pub OpensAs : Format → Bool → List ℕ → List (List ℕ) → Type 0
 OpensAs newest true bytes payloads = payloads ≡ []
 OpensAs newest false bytes payloads = JournalImage newest payloads bytes
 
--- what an opening that is done found or made
+-- what an opening that is done found or made; the file wasn't longer than the most bytes of one
 abbrev pub Opens : Format → Bool → ℕ × Format → DiskState → DiskState → Type 0
-Opens newest create found d e = (is_to_make create d.bytes ≡ false → e.bytes ≡ d.bytes) × (payloads : List (List ℕ)) × OpensAs newest (is_to_make create d.bytes) d.bytes payloads × IsAtRest newest found.1 payloads found.0 e.bytes × IsDurable e
+Opens newest create found d e = (is_to_make create d.bytes ≡ false → e.bytes ≡ d.bytes) × (payloads : List (List ℕ)) × OpensAs newest (is_to_make create d.bytes) d.bytes payloads × IsAtRest newest found.1 payloads found.0 e.bytes × IsDurable e × (length d.bytes ≤ most_bytes)
 
 -- the cause of a refused opening
 abbrev pub Refuses : Format → Bool → JournalError → DiskState → Type 0
@@ -149,27 +150,27 @@ IsShut bytes = (gate : ℕ) × (rest : List ℕ) × (gate ≢ 1) × (bytes ≡ g
 
 -- what a crash may leave while a file whose first byte isn't 1 is made
 abbrev pub Makes : Format → DiskState → DiskState → Type 0
-Makes format d e = IsDurable d → IsShut d.bytes → Later (IsEmptyOrUnmade format) d e
+Makes format d e = IsDurable d → IsShut d.bytes → Later (IsBeingMade format d.bytes) d e
 
 -- it is made, without records
 abbrev pub IsNew : Format → DiskState → DiskState → Type 0
-IsNew format d e = IsDurable d → IsShut d.bytes → IsAtRest format format [] 9 e.bytes × IsDurable e
+IsNew format d e = IsDurable d → IsShut d.bytes → length d.bytes ≤ most_bytes → IsAtRest format format [] 9 e.bytes × IsDurable e
 
 -- what a crash may leave while a file of at most one byte gets the first byte 0
 abbrev pub Shuts : Format → DiskState → DiskState → Type 0
-Shuts format d e = IsDurable d → length d.bytes ≤ 1 → Later (IsEmptyOrUnmade format) d e
+Shuts format d e = IsDurable d → length d.bytes ≤ 1 → Later (IsBeingMade format d.bytes) d e
 
--- it has a closed first byte, on the disk
+-- it is a closed first byte, on the disk
 abbrev pub WasShut : DiskState → DiskState → Type 0
-WasShut d e = IsDurable d → length d.bytes ≤ 1 → IsShut e.bytes × IsDurable e × (1 ≤ length e.bytes)
+WasShut d e = IsDurable d → length d.bytes ≤ 1 → IsShut e.bytes × IsDurable e × (1 ≤ length e.bytes) × (length e.bytes ≤ 1)
 
 -- what a crash may leave while a file that isn't made is made
 abbrev pub Creates : Format → DiskState → DiskState → Type 0
-Creates format d e = IsDurable d → is_made d.bytes ≡ false → Later (IsEmptyOrUnmade format) d e
+Creates format d e = IsDurable d → is_made d.bytes ≡ false → Later (IsBeingMade format d.bytes) d e
 
 -- it was made, without records
 abbrev pub IsCreated : Format → DiskState → DiskState → Type 0
-IsCreated format d e = IsDurable d → is_made d.bytes ≡ false → IsAtRest format format [] 9 e.bytes × IsDurable e
+IsCreated format d e = IsDurable d → is_made d.bytes ≡ false → length d.bytes ≤ most_bytes → IsAtRest format format [] 9 e.bytes × IsDurable e
 
 -- the errors of an opening, whether or not the disk reports its state
 abbrev pub IsOpenError : JournalError → Type 0

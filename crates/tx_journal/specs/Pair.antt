@@ -1,10 +1,11 @@
 -- Two files, of which one is live, and what a crash leaves of both: own.
-use Rattle.std.specs.Prelude.{◌≡◌, ◌⊎◌, ℕ, Bool, not, ◌&&◌, ◌||◌, List, [], ◌∷◌, ◌++◌, length, take, drop, Option, Some, None, Result, Ok, Err, nat_lt, ◌==◌, if◌then◌else◌}
+use Rattle.std.specs.Prelude.{◌≡◌, ◌≤◌, ◌⊎◌, ℕ, Bool, not, ◌&&◌, ◌||◌, List, [], ◌∷◌, ◌++◌, length, take, drop, Option, Some, None, Result, Ok, Err, nat_lt, ◌==◌, if◌then◌else◌}
 use Rattle.std.specs.Int.{w64, from_be_bytes, to_be_bytes}
 use Rattle.disk_model.specs.Disk.{DiskState}
 use Rattle.disk_model.specs.Crash.{LeavesOnly, Since}
-use Rattle.tx_journal.specs.declared.format.Format.TheVariants.{Two}
-use Rattle.tx_journal.specs.File.{same_bytes, is_made, is_known, file_payloads, journal_payloads}
+use Rattle.tx_journal.specs.declared.format.Format.{Format}
+use Rattle.tx_journal.specs.declared.format.Format.TheVariants.{One, Two}
+use Rattle.tx_journal.specs.File.{most_bytes, same_bytes, is_made, is_known, file_payloads, journal_payloads}
 
 -- how the payload of a Generation begins: the moment 0, the kind 128
 abbrev pub generation_kind : List ℕ
@@ -81,14 +82,23 @@ read_both first (Some second) = live_payloads first.bytes second.bytes
 abbrev pub read_payloads : Files → Result (List (List ℕ)) ℕ
 read_payloads files = read_both files.first files.second
 
+-- the bytes of the live file
+abbrev pub live_bytes : DiskState → Option DiskState → List ℕ
+live_bytes first None = first.bytes
+live_bytes first (Some second) = live_file first.bytes second.bytes
+
 -- a claim about the payloads for which files stand
 abbrev pub Claim : Type 1
 Claim = Result (List (List ℕ)) ℕ → Type 0
 
--- whatever a crash may leave now of the files opens as P says
+-- P holds of what the file stands for, and the file is no longer than a journal takes
+abbrev pub ReadsAs : Claim → Format → List ℕ → Type 0
+ReadsAs P newest file = P (file_payloads newest file) × (length file ≤ most_bytes)
+
+-- whatever a crash may leave now of the files opens as P says; the live one is no longer than a journal takes
 abbrev pub LeavesBoth : Claim → DiskState → Option DiskState → Type 0
-LeavesBoth P first None = LeavesOnly (λ f. P (journal_payloads f)) first.instant
-LeavesBoth P first (Some second) = LeavesOnly (λ f. LeavesOnly (λ g. P (live_payloads f g)) second.instant) first.instant
+LeavesBoth P first None = LeavesOnly (ReadsAs P One) first.instant
+LeavesBoth P first (Some second) = LeavesOnly (λ f. LeavesOnly (λ g. ReadsAs P Two (live_file f g)) second.instant) first.instant
 
 -- the same for the files of a journal
 abbrev pub LeavesOpened : Claim → Files → Type 0
@@ -97,18 +107,20 @@ LeavesOpened P files = LeavesBoth P files.first files.second
 -- Whatever a crash may have left at any moment since then opens as P says. The disks have no common clock, so each
 -- moment of one goes with each of the other.
 abbrev pub SinceBoth : Claim → DiskState → Option DiskState → DiskState → Option DiskState → Type 0
-SinceBoth P first None first_new None = Since (λ f. P (journal_payloads f)) first first_new
+SinceBoth P first None first_new None = Since (ReadsAs P One) first first_new
 SinceBoth P first None first_new (Some second_new) = ⊥
 SinceBoth P first (Some second) first_new None = ⊥
-SinceBoth P first (Some second) first_new (Some second_new) = Since (λ f. Since (λ g. P (live_payloads f g)) second second_new) first first_new
+SinceBoth P first (Some second) first_new (Some second_new) = Since (λ f. Since (λ g. ReadsAs P Two (live_file f g)) second second_new) first first_new
 
 -- the same for the files of a journal
 abbrev pub SinceOpened : Claim → Files → Files → Type 0
 SinceOpened P old new = SinceBoth P old.first old.second new.first new.second
 
--- the files stand for these payloads, and so does whatever a crash may leave now
+-- the files stand for these payloads, and so does whatever a crash may leave now; the live one is no longer than a
+-- journal takes
 pub record Holds (payloads : List (List ℕ)) (files : Files) : Type 0 where
   pub reads : read_payloads files ≡ Ok payloads
+  pub small : length (live_bytes files.first files.second) ≤ most_bytes
   pub leaves : LeavesOpened (λ r. r ≡ Ok payloads) files
 
 -- the payloads as they were

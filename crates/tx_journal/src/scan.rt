@@ -3,7 +3,7 @@ ghost use Rattle.std.specs.Prelude.{◌≡◌, ◌<◌, ◌≤◌, ℕ, ◌+◌,
 ghost use Rattle.std.specs.Int.{w32, to_be_bytes};
 ghost use Rattle.disk_model.specs.Disk.{DiskState};
 ghost use Rattle.tx_journal.specs.Journal.{Costs, StandsAt, Scans, IsPortFault, IsOpenError};
-ghost use Rattle.tx_journal.specs.File.{name, head, is_known};
+ghost use Rattle.tx_journal.specs.File.{most_bytes, name, head, is_known};
 ghost use Rattle.tx_journal.specs.Window.{IsShown};
 ghost use Rattle.tx_journal.specs.declared.format.Format.{Format};
 
@@ -91,6 +91,7 @@ pub(crate) fn next_gate<D: Disk>(
 pub(crate) fn scan<D: Disk>(alloc: Global, disk: &mut D, len: u64) -> Result<u64, JournalError>
     requires len { (d : DiskState) → D.told disk.old ≡ Some d → len ≡ length d.bytes }
     requires some { 8 ≤ len }
+    requires few { len ≤ most_bytes }
     ensures errors { IfErr result IsOpenError }
     ensures scanned { (d : DiskState) → D.told disk.old ≡ Some d → (newest format : Format) → is_known newest (name format) ≡ true → take 8 d.bytes ≡ head format → Scans newest format result d }
     ensures end { IfOk result (λ end. (9 ≤ end) × (end ≤ len)) }

@@ -1,4 +1,4 @@
-use Rattle.std.proofs.Common.{Ok, Err, sym, ◌∙◌, subst}
+use Rattle.std.proofs.Common.{Ok, Err, sym, ◌∙◌, subst, arith}
 use Rattle.disk_model.specs.Disk.{Tells}
 use Rattle.disk_model.proofs.Stages.{tells_map_at}
 use Rattle.tx_journal.specs.Journal.{LooksLike, Creates, IsCreated}
@@ -18,7 +18,7 @@ returns-in-Ok-clause-opened g c =
     tells_map_at (IsCreated c.args.newest) _ _ _
     (λ d e tells created.
     let r = c.requires.ready d tells in
-    opens_made c.args.newest c.args.create d e c.if-not-create.false (subst (LooksLike c.args.newest d) c.in-Unmade.is (c.in_ok-look_at.ensures.looks d tells)) r.0 created)
+    opens_made c.args.newest c.args.create d e c.if-not-create.false (subst (LooksLike c.args.newest d) c.in-Unmade.is (c.in_ok-look_at.ensures.looks d tells)) r.0 (omega (arith, r.1, c.if-len-gt-MOST_BYTES.false)) created)
     (subst (λ t. Tells (IsCreated c.args.newest) t (g.D.Disk.told c.create_file.new.disk)) c.look_at.ensures.same c.in-Ok.ensures.done)
 
 pub returns-in-Ok-clause-crash : goal.returns-in-Ok-clause-crash

@@ -27,3 +27,4 @@ pub returns-clause-scanned : goal.returns-clause-scanned
 returns-clause-scanned g c d tells newest format known front =
     walk_end c.loop-window.gate d (c.loop-window.invariant.walked d tells newest format known front)
     (subst (λ o. StandsAt c.loop-window.gate (Ok o) d) c.in_default.is (c.in_ok-next.ensures.stands d (c.loop-window.invariant.same ∙ tells)))
+    (omega (arith, c.requires.len d tells, c.requires.few))

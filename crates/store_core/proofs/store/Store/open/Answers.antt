@@ -4,8 +4,8 @@ use Rattle.tx_journal.specs.Calls.{Side, JournalState, told, tell_both, is_alone
 use Rattle.store_core.specs.Opens.{HasForm, KeepsStore}
 use Rattle.store_core.specs.Store.{StoreState}
 use Rattle.store_core.proofs.Openings.{told_read, paired_read, number_read, form_told, folded_told}
-use Rattle.store_core.proofs.Opened.{opened_tells, opened_consistent, opened_current, refused_tells, as_store, as_store_error, open_error, told_closed, risen}
-use Rattle.store_core.proofs.Migrated.{kept_keeps, migrated_is, migration_refuses, migration_error, was_opened, rewritten_opens, rewritten_keeps, fault_rises}
+use Rattle.store_core.proofs.Opened.{opened_tells, opened_consistent, opened_current, refused_tells, as_store, as_store_error, open_error, told_closed, risen, refused_aged}
+use Rattle.store_core.proofs.Migrated.{kept_keeps, migrated_is, migration_refuses, migration_error, was_opened, rewritten_opens, rewritten_keeps, rewritten_aged, fault_rises}
 use Rattle.store_core.proofs.store.Store.open.Goals as goal
 
 -- ---- the journal isn't opened
@@ -157,3 +157,25 @@ returns-in-Err-migrate-clause-cause g c is =
     let second : Side = record { told = g.D.Disk.told c.close_pair-first-in-Err-migrate.result.1; faults = g.D.Disk.disk_faults c.close_pair-first-in-Err-migrate.result.1 } in
     fault_rises c.in-Ok-read_tables.found.tables.tables c.in-Ok.journal c.read_tables.new.journal new _ _ first second c.read_tables.ensures.same c.in-Ok.ensures.state.1 c.in-Ok.ensures.count_first c.in-Ok.ensures.count_second
     (rw is at c.in-Err-migrate.ensures.rewrites) c.close_pair-first-in-Err-migrate.ensures.first (sym c.close_pair-first-in-Err-migrate.ensures.second)
+
+-- ---- what is refused for its compaction is old
+
+pub returns-in-Err-clause-aged : goal.returns-in-Err-clause-aged
+returns-in-Err-clause-aged g c before after is also = inl (c.in-Err.ensures.refused.1 before is)
+
+pub returns-in-Err-read_tables-clause-aged : goal.returns-in-Err-read_tables-clause-aged
+returns-in-Err-read_tables-clause-aged g c before after is also =
+    refused_aged c.args.create _ c.in-Ok.journal c.in-Ok.ensures.opened c.in-Err-read_tables.error c.in-Err-read_tables.ensures.fault before after is
+
+pub returns-in-Err-migrate-clause-aged : goal.returns-in-Err-migrate-clause-aged
+returns-in-Err-migrate-clause-aged g c before after is also =
+    let old : StoreState = record { contents = c.in-Ok-read_tables.found.tables.tables; journal = c.read_tables.new.journal } in
+    let new : StoreState = record { contents = c.migrate.new.tables.tables; journal = c.migrate.new.journal } in
+    let first : Side = record { told = g.D.Disk.told c.close_pair-first-in-Err-migrate.result.0; faults = g.D.Disk.disk_faults c.close_pair-first-in-Err-migrate.result.0 } in
+    let second : Side = record { told = g.D.Disk.told c.close_pair-first-in-Err-migrate.result.1; faults = g.D.Disk.disk_faults c.close_pair-first-in-Err-migrate.result.1 } in
+    inr
+    (inr
+    (rewritten_aged c.args.create _ c.in-Ok-read_tables.found.is_first old new
+    (was_opened c.args.create _ c.in-Ok-read_tables.found.tables.tables c.in-Ok-read_tables.found.is_first c.in-Ok.journal c.read_tables.new.journal c.read_tables.ensures.same c.in-Ok.ensures.opened c.in-Ok.ensures.crash c.in-Ok-read_tables.ensures.read c.in-Ok-read_tables.ensures.form c.in-Ok-read_tables.ensures.number)
+    {T = Unit {0}} (Err c.in-Err-migrate.error) c.in-Err-migrate.ensures.rewrites c.migrate.ensures.pair (c.is_up_to_date.ensures.old c.if-is_up_to_date.false) c.in-Ok-read_tables.ensures.unbroken c.is_up_to_date.ensures.named before after is
+    (told_closed c.migrate.new.journal first second c.close_pair-first-in-Err-migrate.ensures.first (sym c.close_pair-first-in-Err-migrate.ensures.second) ∙ also)))

@@ -27,7 +27,7 @@ returns-clause-kept g c =
     let text = record_is (6 + length c.args.payload.now) (5 + length c.args.payload.now + 1) _ _ _ _ _ c.deref.ensures.value (omega arith) (omega (arith, c.deref.ensures.len, c.fill.auto.buffer, c.deref_mut.ensures.len, ap length c.deref_mut.ensures.value, c.self.invariant.room_is, c.if-n-gt-LONGEST.false)) long c.fill.ensures in
     let done = ok_from_test c.add.result _ (sym c.is_err.ensures.value ∙ c.if-is_err.false) c.add.ensures.done in
     let both = tells_both _ _ _ _ c.add.ensures.crash done in
-    rw (← c.self.view_is) (row_kept _ _ _ _ c.self.invariant c.if-self.false (record { told = g.D.Disk.told c.in-Some-other.other; faults = g.D.Disk.disk_faults c.in-Some-other.other }) (record { told = g.D.Disk.told c.add.new.disk; faults = g.D.Disk.disk_faults c.add.new.disk }) (ap (option_map (λ d. record { told = g.D.Disk.told d; faults = g.D.Disk.disk_faults d })) c.in-Some-other.is) c.in-Some.at c.in-Some.is c.args.payload.now _ c.if-n-gt-LONGEST.false text both)
+    rw (← c.self.view_is) (row_kept _ _ _ _ c.self.invariant c.if-self.false (record { told = g.D.Disk.told c.in-Some-other.other; faults = g.D.Disk.disk_faults c.in-Some-other.other }) (record { told = g.D.Disk.told c.add.new.disk; faults = g.D.Disk.disk_faults c.add.new.disk }) (ap (option_map (λ d. record { told = g.D.Disk.told d; faults = g.D.Disk.disk_faults d })) c.in-Some-other.is) c.in-Some.at c.in-Some.is c.args.payload.now _ c.if-n-gt-LONGEST.false text (omega (arith, c.if-at-size-gt-MOST_BYTES.false)) both)
 
 pub returns-clause-added : goal.returns-clause-added
 returns-clause-added g c =
@@ -35,7 +35,7 @@ returns-clause-added g c =
     let text = record_is (6 + length c.args.payload.now) (5 + length c.args.payload.now + 1) _ _ _ _ _ c.deref.ensures.value (omega arith) (omega (arith, c.deref.ensures.len, c.fill.auto.buffer, c.deref_mut.ensures.len, ap length c.deref_mut.ensures.value, c.self.invariant.room_is, c.if-n-gt-LONGEST.false)) long c.fill.ensures in
     let done = ok_from_test c.add.result _ (sym c.is_err.ensures.value ∙ c.if-is_err.false) c.add.ensures.done in
     let both = tells_both _ _ _ _ c.add.ensures.crash done in
-    rw (← c.self.view_is) (row_added _ _ _ _ c.self.invariant c.if-self.false (record { told = g.D.Disk.told c.in-Some-other.other; faults = g.D.Disk.disk_faults c.in-Some-other.other }) (record { told = g.D.Disk.told c.add.new.disk; faults = g.D.Disk.disk_faults c.add.new.disk }) (ap (option_map (λ d. record { told = g.D.Disk.told d; faults = g.D.Disk.disk_faults d })) c.in-Some-other.is) c.in-Some.at c.in-Some.is c.args.payload.now _ c.if-n-gt-LONGEST.false text both)
+    rw (← c.self.view_is) (row_added _ _ _ _ c.self.invariant c.if-self.false (record { told = g.D.Disk.told c.in-Some-other.other; faults = g.D.Disk.disk_faults c.in-Some-other.other }) (record { told = g.D.Disk.told c.add.new.disk; faults = g.D.Disk.disk_faults c.add.new.disk }) (ap (option_map (λ d. record { told = g.D.Disk.told d; faults = g.D.Disk.disk_faults d })) c.in-Some-other.is) c.in-Some.at c.in-Some.is c.args.payload.now _ c.if-n-gt-LONGEST.false text (omega (arith, c.if-at-size-gt-MOST_BYTES.false)) both)
 
 pub invariant_of-self-2 : goal.invariant_of-self-2
 invariant_of-self-2 g c =
@@ -54,7 +54,7 @@ invariant_of-self-2 g c =
       live = λ works d tells. live_two _ _ _ _ c.self.invariant c.if-self.false (record { told = g.D.Disk.told c.in-Some-other.other; faults = g.D.Disk.disk_faults c.in-Some-other.other }) (record { told = g.D.Disk.told c.add.new.disk; faults = g.D.Disk.disk_faults c.add.new.disk }) (ap (option_map (λ d. record { told = g.D.Disk.told d; faults = g.D.Disk.disk_faults d })) c.in-Some-other.is) d tells;
       waits = λ works side some d tells.
           let same : (record { told = g.D.Disk.told c.add.new.disk; faults = g.D.Disk.disk_faults c.add.new.disk }) ≡ side = cc in
-          row_waits _ _ _ _ c.self.invariant c.if-self.false (record { told = g.D.Disk.told c.in-Some-other.other; faults = g.D.Disk.disk_faults c.in-Some-other.other }) (record { told = g.D.Disk.told c.add.new.disk; faults = g.D.Disk.disk_faults c.add.new.disk }) (ap (option_map (λ d. record { told = g.D.Disk.told d; faults = g.D.Disk.disk_faults d })) c.in-Some-other.is) c.in-Some.at c.in-Some.is c.args.payload.now _ c.if-n-gt-LONGEST.false text _ (omega arith) both d (ap (λ (x : Side). x.told) same ∙ tells);
+          row_waits _ _ _ _ c.self.invariant c.if-self.false (record { told = g.D.Disk.told c.in-Some-other.other; faults = g.D.Disk.disk_faults c.in-Some-other.other }) (record { told = g.D.Disk.told c.add.new.disk; faults = g.D.Disk.disk_faults c.add.new.disk }) (ap (option_map (λ d. record { told = g.D.Disk.told d; faults = g.D.Disk.disk_faults d })) c.in-Some-other.is) c.in-Some.at c.in-Some.is c.args.payload.now _ c.if-n-gt-LONGEST.false text (omega (arith, c.if-at-size-gt-MOST_BYTES.false)) _ (omega arith) both d (ap (λ (x : Side). x.told) same ∙ tells);
     }
 
 pub invariant_of-self-then-n-gt-LONGEST : goal.invariant_of-self-then-n-gt-LONGEST
