@@ -28,6 +28,7 @@ use Rattle.world_run.proofs.RingSpaces.{ring_keeps}
 use Rattle.plain_commands.specs.Scripts.{ScriptLog, Unread, SoloLog, ClusterLog, settings_of}
 use Rattle.plain_commands.specs.Replay.{ReplayRun}
 use Rattle.plain_commands.specs.Told.{TellsRun}
+use Rattle.plain_commands.proofs.BegunRuns.{run_begins}
 use Rattle.plain_commands.proofs.Named.{HasParts, named_parts}
 use Rattle.plain_commands.specs.Headline.{SoloHolds, cluster_at, room_in, ClusterHolds, HeadlineHolds}
 
@@ -93,6 +94,7 @@ cluster_holds settings events some =
       sent = λ n space version m k. run_sent ring_owner key_part space version settings (take n events) m k;
       targets = λ n space. run_targets ring_owner key_part settings (take n events) space;
       begun = λ n space. rounds_begin settings events n space;
+      begins = λ n event printed at said. run_begins ring_owner key_part ring_keeps settings events n event printed at said;
     }
 
 headline_holds : (log : ScriptLog) → HasParts log → HeadlineHolds log

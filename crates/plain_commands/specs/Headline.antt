@@ -1,6 +1,6 @@
--- What holds of the script that a replay ran: single activation, turns that never mix, and no call that waits although
--- it could run. Own: docs/cluster.md, docs/turns.md.
-use Rattle.std.specs.Prelude.{◌≡◌, ◌⊎◌, ◌<◌, ◌≤◌, ℕ, suc, List, take}
+-- What holds of the script that a replay ran: single activation, turns that never mix, no call that waits although it
+-- could run, and that the turns that it prints as begun are those. Own: docs/cluster.md, docs/turns.md.
+use Rattle.std.specs.Prelude.{◌≡◌, ◌⊎◌, ◌<◌, ◌≤◌, ℕ, suc, List, take, slice_get, Some, Result}
 use Rattle.actor_names.specs.Names.{before_slash}
 use Rattle.actor_names.specs.declared.member.Member.{Member}
 use Rattle.part_model.specs.Part.{PartState, ring_owner}
@@ -10,6 +10,8 @@ use Rattle.round_core.specs.Room.{RoomState, last_version}
 use Rattle.placement_core.specs.Placement.{room_of}
 use Rattle.world_events.specs.Solo.{SoloEvent}
 use Rattle.world_events.specs.declared.event.WorldEvent.{WorldEvent}
+use Rattle.world_events.specs.declared.outcome.Outcome.{Outcome}
+use Rattle.world_events.specs.declared.error.WorldError.{WorldError}
 use Rattle.world_events.specs.declared.settings.WorldSettings.{WorldSettings}
 use Rattle.solo_run.specs.World.{TypeDepth, depth_of}
 use Rattle.solo_run.specs.Runs.{solo_run, solo_log}
@@ -21,6 +23,7 @@ use Rattle.cluster_model.specs.Counts.{TurnsAreCounted}
 use Rattle.cluster_model.specs.Invariant.{IsActiveOnce, WasTold}
 use Rattle.cluster_model.specs.Spaces.{seen_in}
 use Rattle.cluster_model.specs.Targets.{round_targets, HasTargets, BeginsNone, BeginsOne}
+use Rattle.plain_commands.specs.Begins.{BeginsAreTold}
 use Rattle.plain_commands.specs.Scripts.{ScriptLog, Unread, SoloLog, ClusterLog, settings_of}
 
 -- Turns of one actor never mix: those that overlap carry one chain, as named by the lines that made their calls, the
@@ -37,6 +40,10 @@ cluster_at settings events n = cluster_run ring_owner key_part (opening_cluster 
 -- the calls that the first `n` events make, as their lines name them
 abbrev pub asked_at : WorldSettings → List WorldEvent → ℕ → List AskedCall
 asked_at settings events n = asked_calls (take n events) (outcomes ring_owner key_part (opening_cluster settings) (take n events))
+
+-- the lines that the events print, as outcomes
+abbrev pub printed_by : WorldSettings → List WorldEvent → List (Result Outcome WorldError)
+printed_by settings events = outcomes ring_owner key_part (opening_cluster settings) events
 
 -- the room of a space after the first `n` events
 abbrev pub room_in : WorldSettings → List WorldEvent → ℕ → List ℕ → RoomState
@@ -57,6 +64,8 @@ targets_in settings events n space version = round_targets ring_owner key_part s
 -- Each Lock, Update or Unlock message of a version went to one of the targets with which its round began. While it runs,
 -- those of them that are still members are the room's targets. An event begins no round in a space, or one whose targets
 -- are all members that the room has then.
+-- The turns that an event begins are those that its line prints, by the numbers that the script gave their calls, or for
+-- a part that opens how many they are; a poll prints `begin` for a turn that is open.
 pub record ClusterHolds (settings : WorldSettings) (events : List WorldEvent) : Type 0 where
   pub invariant : (n : ℕ) → ClusterInvariant ring_owner key_part (cluster_at settings events n)
   pub once : (n : ℕ) → IsActiveOnce (cluster_at settings events n).parts
@@ -72,6 +81,8 @@ pub record ClusterHolds (settings : WorldSettings) (events : List WorldEvent) : 
   pub targets : (n : ℕ) (space : List ℕ) → HasTargets (room_in settings events n space) (targets_in settings events n space (last_version (room_in settings events n space)))
   pub begun : (n : ℕ) (space : List ℕ) → BeginsNone (room_in settings events n space) (room_in settings events (suc n) space)
       ⊎ BeginsOne (room_in settings events n space) (room_in settings events (suc n) space) (targets_in settings events (suc n) space (last_version (room_in settings events (suc n) space)))
+  pub begins : (n : ℕ) (event : WorldEvent) (printed : Result Outcome WorldError) → slice_get events n ≡ Some event → slice_get (printed_by settings events) n ≡ Some printed
+      → BeginsAreTold key_part (cluster_at settings events n) (cluster_at settings events (suc n)) (asked_at settings events (suc n)) event printed
 
 abbrev pub HeadlineHolds : ScriptLog → Type 0
 HeadlineHolds Unread = Unit {0}

@@ -1,5 +1,6 @@
 pub mod Scripts
 pub mod Replay
+pub mod Begins
 pub mod Headline
 pub mod Told
 pub mod Status
