@@ -1,0 +1,10 @@
+mod Fitting
+mod Seeing
+mod Settings
+mod Contents
+mod Outcomes
+mod Steps
+mod Writes
+mod Resting
+mod Given
+mod Examples

@@ -1,0 +1,4 @@
+pub mod Epochs
+pub mod Fences
+pub mod Events
+pub mod Runs
