@@ -1,6 +1,6 @@
 // The server.
-ghost use Rattle.std.specs.Prelude.{◌≡◌, ◌<◌, ◌≤◌, ◌⊎◌, List, IfOk};
-ghost use Rattle.server_ports.specs.declared.accept.ServerEnd.TheVariants.{PortFault};
+ghost use Rattle.std.specs.Prelude.{◌≡◌, ◌<◌, ◌≤◌, ◌⊎◌, List, IfOk, IsSome};
+ghost use Rattle.server_ports.specs.declared.accept.ServerEnd.TheVariants.{PortFault, Served};
 ghost use Rattle.step_gate.specs.declared.view.HistoryEntry.{HistoryEntry};
 ghost use Rattle.step_gate.specs.Gates.{IsSeatOf};
 ghost use Rattle.step_gate.specs.History.{HistoryLeadsTo};
@@ -15,10 +15,9 @@ use actor_names::{Address, OutOfMemory};
 use actor_ports::{Clock, Conn, Dial, Listen};
 use disk_model::Disk;
 use placement_node::PlacementNode;
-use server_ports::{Duty, ServerEnd, serve_port, serve_ports};
+use server_ports::{Duty, Ending, ServerEnd, serve_port, serve_ports};
 use std::alloc::Global;
 use std::sync::Wait;
-use std::sync::atomic::AtomicBool;
 use std::thread::Threads;
 use step_gate::Gate;
 
@@ -49,12 +48,11 @@ fn serve_at<
     requires { IsSeatOf NodeAllows gate.now pass.seat }
     ensures never_falls { L.listen_faults port ≤ L.listen_faults result.0 }
     ensures cause { result.1 ≡ PortFault → L.listen_faults port < L.listen_faults result.0 }
+    ensures limit { result.1 ≡ Served → IsSome most }
 {
     let service = PlacementService {
         gate,
-        at,
-        state_at: None,
-        over: AtomicBool::new(false),
+        ending: Ending::new(at, None),
     };
     let shared = &service;
     let serve = |pass: Pass<D, K, N>, conn: C|
@@ -89,13 +87,12 @@ fn serve_both_at<
     requires { IsSeatOf NodeAllows gate.now pass.seat }
     ensures never_falls { L.listen_faults port ≤ L.listen_faults result.0 }
     ensures state_never_falls { L.listen_faults state ≤ L.listen_faults result.1 }
+    ensures limit { result.2 ≡ Served → IsSome most }
     ensures cause { result.2 ≡ PortFault → (L.listen_faults port < L.listen_faults result.0) ⊎ (L.listen_faults state < L.listen_faults result.1) }
 {
     let service = PlacementService {
         gate,
-        at,
-        state_at: Some(state_at),
-        over: AtomicBool::new(false),
+        ending: Ending::new(at, Some(state_at)),
     };
     let shared = &service;
     let serve = |pass: Pass<D, K, N>, conn: C|
@@ -133,6 +130,7 @@ pub fn serve_placement<
 ) -> (L, Result<PlacementServed<D>, OutOfMemory>)
     ensures never_falls { L.listen_faults port ≤ L.listen_faults result.0 }
     ensures cause { IfOk result.1 (λ s. s.end ≡ PortFault → L.listen_faults port < L.listen_faults result.0) }
+    ensures limit { IfOk result.1 (λ s. s.end ≡ Served → IsSome most) }
     ensures history { IfOk result.1 (λ s. (h : List (HistoryEntry NodeEvent NodeReply)) × HistoryLeadsTo NodeAllows node h s.node) }
 {
     let (gate, seat) = match Gate::new(alloc, node) {
@@ -175,6 +173,7 @@ pub fn serve_placement_and_state<
 ) -> (L, L, Result<PlacementServed<D>, OutOfMemory>)
     ensures never_falls { L.listen_faults port ≤ L.listen_faults result.0 }
     ensures state_never_falls { L.listen_faults state ≤ L.listen_faults result.1 }
+    ensures limit { IfOk result.2 (λ s. s.end ≡ Served → IsSome most) }
     ensures cause { IfOk result.2 (λ s. s.end ≡ PortFault → (L.listen_faults port < L.listen_faults result.0) ⊎ (L.listen_faults state < L.listen_faults result.1)) }
     ensures history { IfOk result.2 (λ s. (h : List (HistoryEntry NodeEvent NodeReply)) × HistoryLeadsTo NodeAllows node h s.node) }
 {

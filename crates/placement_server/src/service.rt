@@ -1,52 +1,27 @@
 // What the placement's threads share, and its turns.
-ghost use Rattle.std.specs.Prelude.{◌≡◌};
 ghost use Rattle.step_gate.specs.Gates.{IsSeatOf};
 ghost use Rattle.placement_node.specs.Node.{NodeAllows};
 
 use crate::pass::Pass;
-use actor_names::Address;
 use actor_ports::{Clock, Dial};
 use disk_model::Disk;
 use frame_session::AnswersFrames;
 use placement_node::{NodeEvent, PlacementNode};
 use placement_sessions::PlacementFrames;
 use round_core::PlaceEvent;
-use server_ports::{Duty, MOST_AT_ONCE, SHORT_PAUSE_MS, Service};
+use server_ports::{Duty, Ending, MOST_AT_ONCE, Service, pause_for};
 use std::sync::Wait;
-use std::sync::atomic::{AtomicBool, Ordering};
 use step_gate::Gate;
 
 // How long the server waits between two Ticks, in milliseconds.
 const PAUSE_MS: u64 = 1_000;
 
-/// What the placement's threads share: the gate of its node, the addresses at which the server listens for frames and, if
-/// it does, for HTTP, and whether the server is over.
+/// What the placement's threads share: the gate of its node, and the end of the server, which listens for frames and perhaps
+/// for HTTP.
 #[derive(Drop)]
 pub(crate) struct PlacementService<'a, D: Disk> {
     pub(crate) gate: &'a Gate<PlacementNode<D>>,
-    pub(crate) at: Address,
-    pub(crate) state_at: Option<Address>,
-    pub(crate) over: AtomicBool,
-}
-
-// Makes a connection to an address and gives it back, so that a loop that waits there goes on.
-fn knock<N: Dial>(net: &mut N, at: Address) {
-    if let Ok(link) = net.dial(at.ip, at.port) {
-        net.done(link);
-    }
-}
-
-impl<D: Disk> PlacementService<'_, D> {
-    /// Says that the server is over, ends the connections that wait for a byte, and wakes the loops that wait for a
-    /// connection.
-    pub(crate) fn stop<N: Dial>(&self, net: &mut N) {
-        self.over.store(true, Ordering::SeqCst);
-        net.end_links();
-        knock(net, self.at);
-        if let Some(at) = self.state_at {
-            knock(net, at);
-        }
-    }
+    pub(crate) ending: Ending,
 }
 
 impl<D: Disk + Drop + Send, K: Clock, N: Dial> Service<Pass<D, K, N>> for PlacementService<'_, D> {
@@ -73,11 +48,11 @@ impl<D: Disk + Drop + Send, K: Clock, N: Dial> Service<Pass<D, K, N>> for Placem
     }
 
     fn is_over(&self) -> bool {
-        self.over.load(Ordering::SeqCst)
+        self.ending.is_over()
     }
 
     fn end(&self) {
-        self.over.store(true, Ordering::SeqCst);
+        self.ending.end();
     }
 }
 
@@ -100,24 +75,7 @@ fn tick<R: Wait, D: Disk + Drop + Send, K: Clock, N: Dial>(
         Err(_) => true,
     };
     if lost {
-        service.stop(&mut pass.net);
-    }
-    pass
-}
-
-// Ends the connections that wait for a byte. Makes a connection to each port, if there are two: the loop of one may still
-// wait for one.
-fn wake<D: Disk, K: Clock, N: Dial>(
-    service: &PlacementService<'_, D>,
-    pass: Pass<D, K, N>,
-) -> Pass<D, K, N>
-    ensures { result.seat ≡ pass.seat }
-{
-    let mut pass = pass;
-    pass.net.end_links();
-    if let Some(at) = service.state_at {
-        knock(&mut pass.net, service.at);
-        knock(&mut pass.net, at);
+        service.ending.stop(&mut pass.net);
     }
     pass
 }
@@ -132,19 +90,12 @@ pub(crate) fn do_duty<R: Wait, D: Disk + Drop + Send, K: Clock, N: Dial>(
     requires { IsSeatOf NodeAllows service.now.gate.now pass.seat }
     ensures { IsSeatOf NodeAllows service.now.gate.now result.seat }
 {
+    let mut pass = pass;
+    pause_for(&mut pass.clock, duty, PAUSE_MS);
     match duty {
-        Duty::Turn(_) => tick(rt, service, pass),
-        Duty::Rest(_) => {
-            let mut pass = pass;
-            pass.clock.pause(PAUSE_MS);
-            pass
-        }
-        Duty::Pause => {
-            let mut pass = pass;
-            pass.clock.pause(SHORT_PAUSE_MS);
-            pass
-        }
-        Duty::Finish(_) => pass,
-        Duty::Wake => wake(service, pass),
+        Duty::Turn(_) => return tick(rt, service, pass),
+        Duty::Wake => service.ending.wake(&mut pass.net),
+        _ => {}
     }
+    pass
 }

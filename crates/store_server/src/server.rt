@@ -16,10 +16,9 @@ use crate::session::serve_one;
 use actor_names::{Address, OutOfMemory};
 use actor_ports::{Clock, Conn, Dial, Listen};
 use disk_model::Disk;
-use server_ports::{Duty, ServerEnd, serve_port};
+use server_ports::{Duty, Ending, ServerEnd, serve_port};
 use std::alloc::Global;
 use std::sync::Wait;
-use std::sync::atomic::AtomicBool;
 use std::thread::Threads;
 use step_gate::Gate;
 use store_core::Store;
@@ -56,8 +55,7 @@ fn serve_at<
     store_crosses::<D>();
     let service = StoreService {
         gate,
-        at,
-        over: AtomicBool::new(false),
+        ending: Ending::new(at, None),
     };
     let shared = &service;
     let serve = |pass: Pass<D, K, N>, conn: C|

@@ -4,25 +4,21 @@ ghost use Rattle.store_core.specs.Events.{Allows};
 
 use crate::compacting::compact_turn;
 use crate::pass::Pass;
-use actor_names::Address;
 use actor_ports::{Clock, Dial};
 use disk_model::Disk;
-use server_ports::{Duty, MOST_AT_ONCE, SHORT_PAUSE_MS, Service};
+use server_ports::{Duty, Ending, MOST_AT_ONCE, Service, pause_for};
 use std::sync::Wait;
-use std::sync::atomic::{AtomicBool, Ordering};
 use step_gate::Gate;
 use store_core::Store;
 
 // How long the server waits between two turns, in milliseconds.
 const PAUSE_MS: u64 = 1_000;
 
-/// What the store's threads share: the gate of the store, the address at which the server listens, and whether the
-/// server is over.
+/// What the store's threads share: the gate of the store, and the end of the server.
 #[derive(Drop)]
 pub(crate) struct StoreService<'a, D: Disk> {
     pub(crate) gate: &'a Gate<Store<D>>,
-    pub(crate) at: Address,
-    pub(crate) over: AtomicBool,
+    pub(crate) ending: Ending,
 }
 
 impl<D: Disk + Drop + Send, K: Clock, N: Dial> Service<Pass<D, K, N>> for StoreService<'_, D> {
@@ -56,23 +52,11 @@ impl<D: Disk + Drop + Send, K: Clock, N: Dial> Service<Pass<D, K, N>> for StoreS
     }
 
     fn is_over(&self) -> bool {
-        self.over.load(Ordering::SeqCst)
+        self.ending.is_over()
     }
 
     fn end(&self) {
-        self.over.store(true, Ordering::SeqCst);
-    }
-}
-
-impl<D: Disk> StoreService<'_, D> {
-    /// Says that the server is over, ends the connections that wait for a byte, and wakes the loop that waits for a
-    /// connection.
-    pub(crate) fn stop<N: Dial>(&self, net: &mut N) {
-        self.over.store(true, Ordering::SeqCst);
-        net.end_links();
-        if let Ok(link) = net.dial(self.at.ip, self.at.port) {
-            net.done(link);
-        }
+        self.ending.end();
     }
 }
 
@@ -89,13 +73,12 @@ fn compact<R: Wait, D: Disk + Drop + Send, K: Clock, N: Dial>(
     let now = pass.clock.now_ms();
     match compact_turn(rt, service.gate, &mut pass.seat, pass.least, now) {
         Some(least) => pass.least = least,
-        None => service.stop(&mut pass.net),
+        None => service.ending.stop(&mut pass.net),
     }
     pass
 }
 
-/// What a thread does beside the connections: the compactions are the one work. Once the server is over, the connections that
-/// wait for a byte are ended; no loop is to be woken, since there is one port.
+/// What a thread does beside the connections: the compactions are the one work.
 pub(crate) fn do_duty<R: Wait, D: Disk + Drop + Send, K: Clock, N: Dial>(
     rt: &R,
     service: &StoreService<'_, D>,
@@ -105,22 +88,12 @@ pub(crate) fn do_duty<R: Wait, D: Disk + Drop + Send, K: Clock, N: Dial>(
     requires { IsSeatOf Allows service.now.gate.now pass.seat }
     ensures { IsSeatOf Allows service.now.gate.now result.seat }
 {
+    let mut pass = pass;
+    pause_for(&mut pass.clock, duty, PAUSE_MS);
     match duty {
-        Duty::Turn(_) => compact(rt, service, pass),
-        Duty::Rest(_) => {
-            let mut pass = pass;
-            pass.clock.pause(PAUSE_MS);
-            pass
-        }
-        Duty::Pause => {
-            let mut pass = pass;
-            pass.clock.pause(SHORT_PAUSE_MS);
-            pass
-        }
-        Duty::Finish(_) => pass,
-        Duty::Wake => {
-            pass.net.end_links();
-            pass
-        }
+        Duty::Turn(_) => return compact(rt, service, pass),
+        Duty::Wake => service.ending.wake(&mut pass.net),
+        _ => {}
     }
+    pass
 }
