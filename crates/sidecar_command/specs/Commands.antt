@@ -4,6 +4,7 @@ use Rattle.actor_ports.specs.Traffic.{Place, Traffic, Returned, Dialled}
 use Rattle.server_ports.specs.Hosts.{Asked, with_place}
 use Rattle.command_words.specs.Reading.{Seating}
 use Rattle.exchanges.specs.Exchanges.{Exchange, Dialling}
+use Rattle.sidecar_server.specs.declared.watch.Parties.{Parties}
 use Rattle.sidecar_server.specs.Causes.{IsCause}
 use Rattle.sidecar_server.specs.Stopped.{NodeStopped}
 use Rattle.sidecar_start.specs.declared.end.StartEnd.{StartEnd}
@@ -52,15 +53,19 @@ unstarted_end start_ends.DialFault = ends.PortFault
 unstarted_end start_ends.OutOfMemory = ends.OutOfMemory
 unstarted_end end = ends.Unstarted end
 
--- `traffic` is what went over a link, `shown` the moment that a clock showed last
-module _ {L K : Type 0} (traffic : L → Option Traffic) (shown : K → ℕ) where
+-- whose turns with whom a stop goes back to
+abbrev pub parties_in : Seating → Started → Parties
+parties_in words started = record { member = started.host.member; placement = words.placement }
+
+-- `dialled` says what a dialler did, `traffic` is what went over a link, `shown` the moment that a clock showed last
+module _ {N L K : Type 0} (dialled : N → Option Dialled) (traffic : L → Option Traffic) (shown : K → ℕ) where
   -- How the command ends once it has started: after a stop, which has a sound cause, and if all sessions were served, all
   -- parts of the node that had started were stopped. No end then speaks of the start.
   abbrev pub IsServed : Seating → Started → SidecarEnd → Type 0
   IsServed words started ends.Done = NodeStopped started.host started.kinds (parts_in words.parts)
   IsServed words started ends.PortFault = Unit {0}
   IsServed words started (ends.Unstarted end) = ⊥
-  IsServed words started (ends.Stopped cause) = IsCause traffic shown cause × NodeStopped started.host started.kinds (parts_in words.parts)
+  IsServed words started (ends.Stopped cause) = IsCause dialled traffic shown (parties_in words started) cause × NodeStopped started.host started.kinds (parts_in words.parts)
   IsServed words started ends.OutOfMemory = Unit {0}
 
   -- how the command ends by what its start came to

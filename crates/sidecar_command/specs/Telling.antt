@@ -10,16 +10,16 @@ use Rattle.sidecar_command.specs.declared.ends.SidecarEnd.TheVariants as ends
 abbrev pub number_text : List ℕ → ℕ → List ℕ
 number_text front n = front ++ decimal n
 
--- when the placement was heard last, and when this was seen
+-- the start of the lease, and when it was seen that it had ended
 abbrev pub silent_line : ℕ → ℕ → List ℕ
-silent_line heard now = number_text (codes "stopped ") heard ++ (number_text (codes " ") now ++ codes "\n")
+silent_line start now = number_text (codes "stopped ") start ++ (number_text (codes " ") now ++ codes "\n")
 
 abbrev pub refused_line : List ℕ → ℕ → List ℕ
 refused_line front n = number_text front n ++ codes "\n"
 
 -- the number is that of the frame that refused the sidecar
 abbrev pub stop_line : StopCause → List ℕ
-stop_line (causes.Silent heard now) = silent_line heard now
+stop_line (causes.Silent start now) = silent_line start now
 stop_line (causes.Refused (replies.StaleBoot greatest)) = refused_line (codes "refused stale-boot ") greatest
 stop_line (causes.Refused (replies.NotMember greatest)) = refused_line (codes "refused not-member ") greatest
 stop_line (causes.Refused (replies.SpacesFull spaces)) = refused_line (codes "refused spaces-full ") spaces

@@ -93,7 +93,7 @@ fn serve_new<R: Threads + Wait + Sync, H: Host, N: Dial, K: Clock>(
     requires shallow { AreShallow started.kinds }
     ensures asks { AsksPorts (place_of words.now.listen) (place_of words.now.peer) (H.asked host.old) (H.asked host.new) }
     ensures port_cause { result ≡ SidecarEnd.PortFault → H.bind_faults host.old < H.bind_faults host.new }
-    ensures ends { IsServed N.Link.read_traffic K.shown (told_sidecar words.now) started result }
+    ensures ends { IsServed N.dialled N.Link.read_traffic K.shown (told_sidecar words.now) started result }
     ensures never_falls { H.bind_faults host.old ≤ H.bind_faults host.new }
     ensures ports_back { H.ports_out host.new ≡ H.ports_out host.old }
     ensures disks { (H.disks_out host.new ≡ H.disks_out host.old) × (H.open_faults host.new ≡ H.open_faults host.old) }
@@ -130,7 +130,7 @@ pub fn run_sidecar<R: Threads + Wait + Sync, H: Host, N: Dial, K: Clock>(
     // A fault is answered only if a count of such faults rose, a start that failed only by what the store and the application
     // answered, and a stop only for a sound cause, once all parts were stopped.
     ensures port_cause { result ≡ SidecarEnd.PortFault → (H.bind_faults host.old < H.bind_faults host.new) ⊎ (N.dial_faults net.old < N.dial_faults net.new) }
-    ensures ends { IsSidecarRun N.Link.read_traffic K.shown (told_sidecar words.now) (N.dialled net.old) (N.dialled net.new) (N.dial_faults net.old) (N.dial_faults net.new) result }
+    ensures ends { IsSidecarRun N.dialled N.Link.read_traffic K.shown (told_sidecar words.now) (N.dialled net.old) (N.dialled net.new) (N.dial_faults net.old) (N.dial_faults net.new) result }
     ensures never_falls { H.bind_faults host.old ≤ H.bind_faults host.new }
     // Each port is given back, and no disk is opened.
     ensures ports_back { H.ports_out host.new ≡ H.ports_out host.old }

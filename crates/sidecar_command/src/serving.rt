@@ -55,7 +55,7 @@ fn serve_bound<R: Threads + Wait + Sync, H: Host, N: Dial, K: Clock>(
     requires places { (links.app_at ≡ words.now.app_at) × (links.store_at ≡ words.now.store) }
     ensures asks { H.asked host.new ≡ H.asked host.old }
     ensures port_cause { result ≡ SidecarEnd.PortFault → H.bind_faults host.old < H.bind_faults host.new }
-    ensures ends { IsServed N.Link.read_traffic K.shown (told_sidecar words.now) (record { host = host_of node.now; kinds = kinds_of node.now }) result }
+    ensures ends { IsServed N.dialled N.Link.read_traffic K.shown (told_sidecar words.now) (record { host = host_of node.now; kinds = kinds_of node.now }) result }
     ensures never_falls { H.bind_faults host.old ≤ H.bind_faults host.new }
     ensures ports_back { H.ports_out host.old ≡ H.ports_out host.new + 2 }
     ensures disks { (H.disks_out host.new ≡ H.disks_out host.old) × (H.open_faults host.new ≡ H.open_faults host.old) }
@@ -107,7 +107,7 @@ pub(crate) fn serve_started<R: Threads + Wait + Sync, H: Host, N: Dial, K: Clock
     requires own { payload.Fits (frames.Register (host_of node.now)) }
     ensures asks { AsksPorts (place_of words.now.listen) (place_of words.now.peer) (H.asked host.old) (H.asked host.new) }
     ensures port_cause { result ≡ SidecarEnd.PortFault → H.bind_faults host.old < H.bind_faults host.new }
-    ensures ends { IsServed N.Link.read_traffic K.shown (told_sidecar words.now) (record { host = host_of node.now; kinds = kinds_of node.now }) result }
+    ensures ends { IsServed N.dialled N.Link.read_traffic K.shown (told_sidecar words.now) (record { host = host_of node.now; kinds = kinds_of node.now }) result }
     ensures never_falls { H.bind_faults host.old ≤ H.bind_faults host.new }
     ensures ports_back { H.ports_out host.new ≡ H.ports_out host.old }
     ensures disks { (H.disks_out host.new ≡ H.disks_out host.old) × (H.open_faults host.new ≡ H.open_faults host.old) }

@@ -19,10 +19,10 @@ fn push_number(text: &mut Vec<u8>, front: &[u8], n: u64) -> Result<(), AllocErro
 }
 
 // Appends the line of a silence.
-fn push_silent(text: &mut Vec<u8>, heard: u64, now: u64) -> Result<(), AllocError>
-    ensures { OnOk result (text.new.items ≡ text.old.items ++ silent_line heard now) }
+fn push_silent(text: &mut Vec<u8>, start: u64, now: u64) -> Result<(), AllocError>
+    ensures { OnOk result (text.new.items ≡ text.old.items ++ silent_line start now) }
 {
-    push_number(text, b"stopped ", heard)?;
+    push_number(text, b"stopped ", start)?;
     push_number(text, b" ", now)?;
     text.extend_from_slice(b"\n")
 }
@@ -40,7 +40,7 @@ fn push_stop(text: &mut Vec<u8>, cause: &StopCause) -> Result<(), AllocError>
     ensures { OnOk result (text.new.items ≡ text.old.items ++ stop_line cause.now) }
 {
     match cause {
-        StopCause::Silent { heard, now } => push_silent(text, *heard, *now),
+        StopCause::Silent { start, now } => push_silent(text, *start, *now),
         StopCause::Refused { reply } => match reply {
             PlaceReply::StaleBoot { greatest } => {
                 push_refused(text, b"refused stale-boot ", *greatest)

@@ -1,2 +1,5 @@
-mod Refusals
+pub mod Others
+pub mod ByClock
+pub mod Turns
+pub mod Follows
 mod Sounds

@@ -1,14 +1,14 @@
 // The turns with the placement.
 ghost use Rattle.std.specs.Prelude.{◌≡◌, IfSome};
-ghost use Rattle.placement_beats.specs.declared.book.TurnEnd.{TurnEnd};
-ghost use Rattle.round_core.specs.declared.event.PlaceReply.{PlaceReply};
+ghost use Rattle.exchanges.specs.Replies.{place_at};
 ghost use Rattle.sidecar_server.specs.Passes.{Admits};
-ghost use Rattle.sidecar_server.specs.Causes.{IsShown, IsTurnRefused};
 ghost use Rattle.sidecar_server.specs.Watch.{WatchTakes};
+ghost use Rattle.sidecar_server.specs.Works.{DoesDuty, GivesStops, LeavesTables, MayTurn, TellsWatch, left_by};
 
+use crate::link::PlacementLink;
 use crate::pass::Pass;
 use crate::service::SidecarService;
-use crate::watch::{WatchEvent, is_final};
+use crate::watch::{Parties, WatchEvent, turn_event};
 use actor_ports::{Clock, Dial, Waits};
 use placement_beats::{TurnEnd, leave_turn, placement_turn};
 use sidecar_node::stop_turn;
@@ -21,7 +21,9 @@ fn stop<R: Wait, N: Dial, K: Clock>(
     pass: Pass<N, K>,
 ) -> Pass<N, K>
     requires { Admits service.now.node.now service.now.watch.now pass.seats pass.watch }
-    ensures { Admits service.now.node.now service.now.watch.now result.seats result.watch }
+    ensures admits { Admits service.now.node.now service.now.watch.now result.seats result.watch }
+    ensures stops { GivesStops service.now.node.now pass.seats result.seats }
+    ensures watch { result.watch ≡ pass.watch }
 {
     let mut pass = pass;
     let (seats, _) = stop_turn(rt, service.node, pass.seats);
@@ -38,35 +40,19 @@ pub(crate) fn tell_watch<R: Wait, N: Dial, K: Clock>(
     event: WatchEvent,
 ) -> Pass<N, K>
     requires admits { Admits service.now.node.now service.now.watch.now pass.seats pass.watch }
-    requires event { WatchTakes N.Link.read_traffic K.shown event }
-    ensures { Admits service.now.node.now service.now.watch.now result.seats result.watch }
+    requires event { WatchTakes N.dialled N.Link.read_traffic K.shown event }
+    ensures admits { Admits service.now.node.now service.now.watch.now result.seats result.watch }
+    ensures tells { TellsWatch service.now.node.now event pass.watch result.watch pass.seats result.seats }
 {
     let mut pass = pass;
     match service.watch.call_in(rt, &mut pass.watch, event) {
         Ok(None) => pass,
-        _ => stop(rt, service, pass),
+        Ok(Some(_)) => stop(rt, service, pass),
+        Err(_) => stop(rt, service, pass),
     }
 }
 
-// What the watch is to be told of a turn that began at this moment and ended so.
-fn heard_of<N: Dial, K: Clock>(end: TurnEnd, began: u64) -> Option<WatchEvent>
-    requires began { IsShown K.shown began }
-    requires turn { (reply : PlaceReply) → end ≡ TurnEnd.Refused reply → IsTurnRefused N.Link.read_traffic K.shown reply }
-    ensures { IfSome result (WatchTakes N.Link.read_traffic K.shown) }
-{
-    match end {
-        TurnEnd::Next => Some(WatchEvent::Heard { at: began }),
-        TurnEnd::Refused { reply } => {
-            if is_final(&reply) {
-                return Some(WatchEvent::Refused { reply });
-            }
-            Some(WatchEvent::Heard { at: began })
-        }
-        _ => None,
-    }
-}
-
-// How long a link to the placement waits for a byte: within the patience of the watch, so that a silence is seen in time.
+// How long a link to the placement waits for a byte: less than a lease lasts, so that a silence is seen in time.
 const WAITS: Waits = Waits {
     quiet_ms: Some(2_000),
     message_ms: None,
@@ -80,28 +66,101 @@ const LEAVE_WAITS: Waits = Waits {
     whole_ms: Some(1_000),
 };
 
+// A new link to the placement, which waits so.
+fn dial_placement<N: Dial, K: Clock>(
+    service: &SidecarService<'_, N, K>,
+    net: &mut N,
+    waits: Waits,
+) -> Option<PlacementLink<N>>
+    ensures { IfSome result (λ l. l ≡ service.now.placement) }
+{
+    let at = service.placement;
+    match net.dial_waiting(at.ip, at.port, waits) {
+        Ok(link) => Some(PlacementLink { link, at }),
+        Err(_) => None,
+    }
+}
+
 // The link to the placement, dialled if there is none.
 fn linked<N: Dial, K: Clock>(
     service: &SidecarService<'_, N, K>,
     net: &mut N,
-    link: Option<N::Link>,
-) -> Option<N::Link> {
-    match link {
-        Some(link) => Some(link),
-        None => net
-            .dial_waiting(service.placement.ip, service.placement.port, WAITS)
-            .ok(),
+    link: Option<PlacementLink<N>>,
+) -> Option<PlacementLink<N>>
+    ensures { IfSome result (λ l. l ≡ service.now.placement) }
+{
+    if let Some(link) = link {
+        if link.at == service.placement {
+            return Some(link);
+        }
     }
+    dial_placement(service, net, WAITS)
 }
 
 // The link, if the turn over it ended well.
-fn kept_link<L: Drop>(end: TurnEnd, link: L) -> Option<L> {
+fn kept_link<L: Drop>(end: TurnEnd, link: L) -> Option<L>
+    ensures { result ≡ left_by end link }
+{
     match end {
         TurnEnd::Next => Some(link),
         _ => {
             drop(link);
             None
         }
+    }
+}
+
+// One turn over this link, and what the watch is to be told of it. The link is kept if the turn ended well.
+fn beat_over<R: Wait, N: Dial, K: Clock>(
+    rt: &R,
+    service: &SidecarService<'_, N, K>,
+    pass: Pass<N, K>,
+    link: PlacementLink<N>,
+) -> (Pass<N, K>, Option<WatchEvent>)
+    requires { Admits service.now.node.now service.now.watch.now pass.seats pass.watch }
+    ensures admits { Admits service.now.node.now service.now.watch.now result.0.seats result.0.watch }
+    ensures turn { MayTurn N.dialled N.Link.read_traffic K.shown service.now.node.now (place_at link) pass.seats result.0.seats }
+    ensures event { IfSome result.1 (WatchTakes N.dialled N.Link.read_traffic K.shown) }
+{
+    let mut pass = pass;
+    let PlacementLink { link, at } = link;
+    let mut link = link;
+    // The placement can't have heard this turn's frame before it began.
+    let sent = pass.steady.now_ms();
+    let (seats, end) = placement_turn(
+        rt,
+        service.alloc,
+        service.node,
+        pass.seats,
+        &mut pass.book,
+        &mut link,
+        &mut pass.steady,
+    );
+    pass.seats = seats;
+    let used = PlacementLink { link, at };
+    pass.link = kept_link(end, used);
+    let parties = Parties {
+        member: service.node.host().member,
+        placement: at,
+    };
+    (pass, turn_event(parties, end, sent))
+}
+
+// One turn over this link; the watch is told of it.
+fn beat_on<R: Wait, N: Dial, K: Clock>(
+    rt: &R,
+    service: &SidecarService<'_, N, K>,
+    pass: Pass<N, K>,
+    link: PlacementLink<N>,
+) -> Pass<N, K>
+    requires { Admits service.now.node.now service.now.watch.now pass.seats pass.watch }
+    ensures admits { Admits service.now.node.now service.now.watch.now result.seats result.watch }
+    ensures does { DoesDuty N.dialled N.Link.read_traffic K.shown service.now.node.now (place_at link) pass.seats result.seats }
+{
+    let (beaten, event) = beat_over(rt, service, pass, link);
+    match event {
+        None => beaten,
+        Some(event) => tell_watch(rt, service, beaten, event),
     }
 }
 
@@ -113,31 +172,34 @@ pub(crate) fn beat<R: Wait, N: Dial, K: Clock>(
     pass: Pass<N, K>,
 ) -> Pass<N, K>
     requires { Admits service.now.node.now service.now.watch.now pass.seats pass.watch }
-    ensures { Admits service.now.node.now service.now.watch.now result.seats result.watch }
+    ensures admits { Admits service.now.node.now service.now.watch.now result.seats result.watch }
+    ensures does { DoesDuty N.dialled N.Link.read_traffic K.shown service.now.node.now (place_at service.now.placement) pass.seats result.seats }
 {
     let mut pass = pass;
     let left = pass.link.take();
-    let Some(link) = linked(service, &mut pass.net, left) else {
-        return pass;
-    };
-    let mut link = link;
-    // The placement can't have heard this turn's frame before it began.
-    let began = pass.steady.now_ms();
-    let (seats, end) = placement_turn(
-        rt,
-        service.alloc,
-        service.node,
-        pass.seats,
-        &mut pass.book,
-        &mut link,
-        &mut pass.steady,
-    );
-    pass.seats = seats;
-    pass.link = kept_link(end, link);
-    match heard_of::<N, K>(end, began) {
+    match linked(service, &mut pass.net, left) {
         None => pass,
-        Some(event) => tell_watch(rt, service, pass, event),
+        Some(link) => beat_on(rt, service, pass, link),
     }
+}
+
+// Leaves the placement over this link; the parts are stopped once more.
+fn leave_over<R: Wait, N: Dial, K: Clock>(
+    rt: &R,
+    service: &SidecarService<'_, N, K>,
+    pass: Pass<N, K>,
+    link: PlacementLink<N>,
+) -> Pass<N, K>
+    requires { Admits service.now.node.now service.now.watch.now pass.seats pass.watch }
+    ensures admits { Admits service.now.node.now service.now.watch.now result.seats result.watch }
+    ensures leaves { LeavesTables pass.seats result.seats }
+{
+    let mut pass = pass;
+    let PlacementLink { link, at: _ } = link;
+    let mut link = link;
+    let (seats, _) = leave_turn(rt, service.alloc, service.node, pass.seats, &mut link);
+    pass.seats = seats;
+    pass
 }
 
 /// Stops all parts and leaves the placement, over a new link.
@@ -147,18 +209,15 @@ pub(crate) fn leave<R: Wait, N: Dial, K: Clock>(
     pass: Pass<N, K>,
 ) -> Pass<N, K>
     requires { Admits service.now.node.now service.now.watch.now pass.seats pass.watch }
-    ensures { Admits service.now.node.now service.now.watch.now result.seats result.watch }
+    ensures admits { Admits service.now.node.now service.now.watch.now result.seats result.watch }
+    ensures does { DoesDuty N.dialled N.Link.read_traffic K.shown service.now.node.now (place_at service.now.placement) pass.seats result.seats }
 {
     let mut pass = pass;
     let (seats, _) = stop_turn(rt, service.node, pass.seats);
     pass.seats = seats;
     pass.link = None;
-    let at = service.placement;
-    let Ok(link) = pass.net.dial_waiting(at.ip, at.port, LEAVE_WAITS) else {
-        return pass;
-    };
-    let mut link = link;
-    let (seats, _) = leave_turn(rt, service.alloc, service.node, pass.seats, &mut link);
-    pass.seats = seats;
-    pass
+    match dial_placement(service, &mut pass.net, LEAVE_WAITS) {
+        None => pass,
+        Some(link) => leave_over(rt, service, pass, link),
+    }
 }

@@ -1,5 +1,6 @@
 // What a sidecar does by the clock.
 ghost use Rattle.sidecar_server.specs.Passes.{Admits};
+ghost use Rattle.sidecar_server.specs.Works.{LeavesTables};
 
 use crate::beats::tell_watch;
 use crate::pass::Pass;
@@ -10,14 +11,15 @@ use clock_turns::{closing_turn, tick_turn};
 use reminder_turns::reminder_turn;
 use std::sync::Wait;
 
-/// Looks whether the placement is still heard.
+/// Looks whether the lease has ended.
 pub(crate) fn look<R: Wait, N: Dial, K: Clock>(
     rt: &R,
     service: &SidecarService<'_, N, K>,
     pass: Pass<N, K>,
 ) -> Pass<N, K>
     requires { Admits service.now.node.now service.now.watch.now pass.seats pass.watch }
-    ensures { Admits service.now.node.now service.now.watch.now result.seats result.watch }
+    ensures admits { Admits service.now.node.now service.now.watch.now result.seats result.watch }
+    ensures leaves { LeavesTables pass.seats result.seats }
 {
     let mut pass = pass;
     let now = pass.steady.now_ms();
@@ -31,7 +33,8 @@ pub(crate) fn close_idle<R: Wait, N: Dial, K: Clock>(
     pass: Pass<N, K>,
 ) -> Pass<N, K>
     requires { Admits service.now.node.now service.now.watch.now pass.seats pass.watch }
-    ensures { Admits service.now.node.now service.now.watch.now result.seats result.watch }
+    ensures admits { Admits service.now.node.now service.now.watch.now result.seats result.watch }
+    ensures leaves { LeavesTables pass.seats result.seats }
 {
     let mut pass = pass;
     let (seats, _) = closing_turn(
@@ -53,7 +56,8 @@ pub(crate) fn run_timers<R: Wait, N: Dial, K: Clock>(
     pass: Pass<N, K>,
 ) -> Pass<N, K>
     requires { Admits service.now.node.now service.now.watch.now pass.seats pass.watch }
-    ensures { Admits service.now.node.now service.now.watch.now result.seats result.watch }
+    ensures admits { Admits service.now.node.now service.now.watch.now result.seats result.watch }
+    ensures leaves { LeavesTables pass.seats result.seats }
 {
     let mut pass = pass;
     let (seats, _) = tick_turn(
@@ -75,7 +79,8 @@ pub(crate) fn run_reminders<R: Wait, N: Dial, K: Clock>(
     pass: Pass<N, K>,
 ) -> Pass<N, K>
     requires { Admits service.now.node.now service.now.watch.now pass.seats pass.watch }
-    ensures { Admits service.now.node.now service.now.watch.now result.seats result.watch }
+    ensures admits { Admits service.now.node.now service.now.watch.now result.seats result.watch }
+    ensures leaves { LeavesTables pass.seats result.seats }
 {
     let mut pass = pass;
     let (seats, _) = reminder_turn(

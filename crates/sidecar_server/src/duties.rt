@@ -1,5 +1,7 @@
 // What a thread of a sidecar does beside the connections.
+ghost use Rattle.exchanges.specs.Replies.{place_at};
 ghost use Rattle.sidecar_server.specs.Passes.{Admits};
+ghost use Rattle.sidecar_server.specs.Works.{DoesDuty, LeavesTables};
 
 use crate::beats::{beat, leave};
 use crate::clocked::{close_idle, look, run_reminders, run_timers};
@@ -35,19 +37,17 @@ fn pause_of(work: u32) -> u64 {
     }
 }
 
-// One turn of a work.
-fn turn<R: Wait, N: Dial, K: Clock>(
+// One turn of a work by the clock.
+fn clocked_turn<R: Wait, N: Dial, K: Clock>(
     rt: &R,
     service: &SidecarService<'_, N, K>,
     work: u32,
     pass: Pass<N, K>,
 ) -> Pass<N, K>
     requires { Admits service.now.node.now service.now.watch.now pass.seats pass.watch }
-    ensures { Admits service.now.node.now service.now.watch.now result.seats result.watch }
+    ensures admits { Admits service.now.node.now service.now.watch.now result.seats result.watch }
+    ensures leaves { LeavesTables pass.seats result.seats }
 {
-    if work == BEATS {
-        return beat(rt, service, pass);
-    }
     if work == WATCH {
         return look(rt, service, pass);
     }
@@ -60,6 +60,23 @@ fn turn<R: Wait, N: Dial, K: Clock>(
     close_idle(rt, service, pass)
 }
 
+// One turn of a work.
+fn turn<R: Wait, N: Dial, K: Clock>(
+    rt: &R,
+    service: &SidecarService<'_, N, K>,
+    work: u32,
+    pass: Pass<N, K>,
+) -> Pass<N, K>
+    requires { Admits service.now.node.now service.now.watch.now pass.seats pass.watch }
+    ensures admits { Admits service.now.node.now service.now.watch.now result.seats result.watch }
+    ensures does { DoesDuty N.dialled N.Link.read_traffic K.shown service.now.node.now (place_at service.now.placement) pass.seats result.seats }
+{
+    if work == BEATS {
+        return beat(rt, service, pass);
+    }
+    clocked_turn(rt, service, work, pass)
+}
+
 /// What a thread does beside the connections. With the last of its turns the sidecar leaves the placement.
 pub(crate) fn do_duty<R: Wait, N: Dial, K: Clock>(
     rt: &R,
@@ -68,7 +85,8 @@ pub(crate) fn do_duty<R: Wait, N: Dial, K: Clock>(
     pass: Pass<N, K>,
 ) -> Pass<N, K>
     requires { Admits service.now.node.now service.now.watch.now pass.seats pass.watch }
-    ensures { Admits service.now.node.now service.now.watch.now result.seats result.watch }
+    ensures admits { Admits service.now.node.now service.now.watch.now result.seats result.watch }
+    ensures does { DoesDuty N.dialled N.Link.read_traffic K.shown service.now.node.now (place_at service.now.placement) pass.seats result.seats }
 {
     match duty {
         Duty::Turn(work) => turn(rt, service, work, pass),

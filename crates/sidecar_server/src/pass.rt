@@ -1,4 +1,5 @@
 // What a thread of a sidecar has to itself.
+use crate::link::PlacementLink;
 use crate::watch::Watch;
 use actor_ports::{Clock, Dial};
 use exchanges::Links;
@@ -18,5 +19,5 @@ pub(crate) struct Pass<N: Dial, K: Clock> {
     pub(crate) clock: K,
     pub(crate) steady: K,
     pub(crate) book: PlacementBook,
-    pub(crate) link: Option<N::Link>,
+    pub(crate) link: Option<PlacementLink<N>>,
 }

@@ -6,7 +6,9 @@ ghost use Rattle.frame_wire.specs.Frames.{payload};
 ghost use Rattle.sidecar_node.specs.Turns.{Said};
 ghost use Rattle.sidecar_node.specs.Nodes.{IsSeatsOf, StopsAll, host_of, part_gates};
 ghost use Rattle.sidecar_server.specs.Passes.{Admits};
-ghost use Rattle.sidecar_server.specs.Causes.{IsSound};
+ghost use Rattle.step_gate.specs.Gates.{IsSeatOf, opening_of};
+ghost use Rattle.sidecar_server.specs.Causes.{IsShown, IsSound};
+ghost use Rattle.sidecar_server.specs.Watch.{WatchMoves};
 ghost use Rattle.sidecar_server.specs.Stopped.{StopsParts};
 
 use crate::crossing::{node_crosses, seats_cross};
@@ -14,19 +16,18 @@ use crate::duties::do_duty;
 use crate::pass::Pass;
 use crate::service::SidecarService;
 use crate::session::serve_at;
-use crate::watch::{StopCause, Watch};
+use crate::watch::{Parties, StopCause, Watch};
 use actor_names::{Address, OutOfMemory};
 use actor_ports::{Clock, Conn, Dial, Listen};
 use actors_api::Side;
 use exchanges::Links;
 use placement_beats::PlacementBook;
-use server_ports::{Duty, ServerEnd, serve_ports};
+use server_ports::{Duty, Ending, ServerEnd, serve_ports};
 use sidecar_node::{Seats, SidecarNode, stop_turn};
 use std::alloc::Global;
 use std::sync::Wait;
-use std::sync::atomic::AtomicBool;
 use std::thread::Threads;
-use step_gate::Gate;
+use step_gate::{Gate, Seat};
 
 /// Where a sidecar listens for its callers and for other sidecars, and where the placement listens.
 #[derive(Clone, Copy)]
@@ -68,9 +69,7 @@ fn serve_watched<R: Threads + Wait + Sync, C: Conn, L: Listen<Link = C>, N: Dial
         node,
         watch,
         placement: places.placement,
-        callers: places.callers,
-        peers: places.peers,
-        over: AtomicBool::new(false),
+        ending: Ending::new(places.callers, Some(places.peers)),
     };
     let shared = &service;
     let serve = |pass: Pass<N, K>, conn: C|
@@ -88,6 +87,37 @@ fn serve_watched<R: Threads + Wait + Sync, C: Conn, L: Listen<Link = C>, N: Dial
     )
 }
 
+// The gate of a watch over this node's turns with the placement at this address, whose lease begins at this moment.
+fn new_watch<N: Dial, K: Clock>(
+    alloc: Global,
+    node: &SidecarNode,
+    placement: Address,
+    now: u64,
+) -> Result<(Gate<Watch<N, K>>, Seat<Watch<N, K>>), OutOfMemory>
+    requires { IsShown K.shown now }
+    ensures seat { IfOk result (λ g. IsSeatOf WatchMoves g.0 g.1) }
+    ensures parties { IfOk result (λ g. (opening_of g.0).parties ≡ record { member = (host_of node.now).member; placement = placement }) }
+{
+    let parties = Parties {
+        member: node.host().member,
+        placement,
+    };
+    Gate::new(alloc, Watch::new(parties, now))
+}
+
+// Why the sidecar had to stop, once nobody tells its watch anything more.
+fn closed_watch<R: Wait, N: Dial, K: Clock>(
+    rt: &R,
+    gate: Gate<Watch<N, K>>,
+    seat: Seat<Watch<N, K>>,
+) -> Option<StopCause>
+    requires { IsSeatOf WatchMoves gate seat }
+    ensures { IsSound N.dialled N.Link.read_traffic K.shown (opening_of gate).parties result }
+{
+    let watch = gate.close(rt, seat);
+    watch.stop()
+}
+
 // Gives every part of the node its StopPart.
 fn stop_all<R: Wait>(rt: &R, node: &SidecarNode, seats: Seats) -> Seats
     requires { IsSeatsOf node.now seats }
@@ -100,9 +130,9 @@ fn stop_all<R: Wait>(rt: &R, node: &SidecarNode, seats: Seats) -> Seats
 
 /// Serves a sidecar at its two ports until `most` connections of callers were served (without a limit if it is `None`), the
 /// sidecar has to stop, or a port fails. Each connection has a thread of its own. Beside them the sidecar speaks with the
-/// placement and looks whether it is heard, every 200 milliseconds; it deactivates idle actors as often, runs the timers
+/// placement and looks whether its lease has ended, every 200 milliseconds; it deactivates idle actors as often, runs the timers
 /// that are due every 100 milliseconds, and the reminders every 1,000. At the end all parts are stopped, and the sidecar
-/// leaves the placement. Whether it is heard is measured by `steady`. Its host must be one that a Register frame can carry.
+/// leaves the placement. The lease counts by `steady`. Its host must be one that a Register frame can carry.
 pub fn serve_sidecar<R: Threads + Wait + Sync, C: Conn, L: Listen<Link = C>, N: Dial, K: Clock>(
     rt: &R,
     alloc: Global,
@@ -122,7 +152,7 @@ pub fn serve_sidecar<R: Threads + Wait + Sync, C: Conn, L: Listen<Link = C>, N: 
     ensures never_falls { L.listen_faults callers ≤ L.listen_faults result.0 }
     ensures peers_never_falls { L.listen_faults peers ≤ L.listen_faults result.1 }
     ensures cause { IfOk result.2 (λ s. s.end ≡ PortFault → (L.listen_faults callers < L.listen_faults result.0) ⊎ (L.listen_faults peers < L.listen_faults result.1)) }
-    ensures stop { IfOk result.2 (λ s. IsSound N.Link.read_traffic K.shown s.stop) }
+    ensures stop { IfOk result.2 (λ s. IsSound N.dialled N.Link.read_traffic K.shown (record { member = (host_of node.now).member; placement = places.placement }) s.stop) }
     ensures stopped { IfOk result.2 (λ s. StopsParts node.now seats s.seats) }
 {
     let (seats, last) = node.split(alloc, seats);
@@ -132,7 +162,7 @@ pub fn serve_sidecar<R: Threads + Wait + Sync, C: Conn, L: Listen<Link = C>, N: 
     };
     let mut steady = steady;
     let now = steady.now_ms();
-    let (gate, seat) = match Gate::new(alloc, Watch::new(now)) {
+    let (gate, seat) = match new_watch::<N, K>(alloc, node, places.placement, now) {
         Ok(made) => made,
         Err(error) => return (callers, peers, Err(error)),
     };
@@ -154,8 +184,7 @@ pub fn serve_sidecar<R: Threads + Wait + Sync, C: Conn, L: Listen<Link = C>, N: 
     let (callers, peers, end) = serve_watched(
         rt, alloc, node, &gate, pass, callers, peers, places, most,
     );
-    let watch = gate.close(rt, seat);
-    let stop = watch.stop();
+    let stop = closed_watch(rt, gate, seat);
     // No other thread is left: nothing follows these steps.
     let seats = stop_all(rt, node, last);
     (callers, peers, Ok(SidecarServed { end, stop, seats }))

@@ -7,43 +7,30 @@ use actor_names::Address;
 use actor_ports::{Clock, Dial};
 use exchanges::Links;
 use placement_beats::PlacementBook;
-use server_ports::{MOST_AT_ONCE, Service};
+use server_ports::{Ending, MOST_AT_ONCE, Service};
 use sidecar_node::SidecarNode;
 use std::alloc::Global;
-use std::sync::atomic::{AtomicBool, Ordering};
 use step_gate::Gate;
 
 // How many works a sidecar has (`duties`): all that follow the fourth deactivate actors.
 const WORKS: u32 = 12;
 
-/// What the threads of a sidecar share: its node, the gate of the watch, the address of the placement, those at which it
-/// listens itself, and whether it is over.
+/// What the threads of a sidecar share: its node, the gate of the watch, the address of the placement, and the end of the
+/// server, which listens at two ports.
 #[derive(Drop)]
 pub(crate) struct SidecarService<'a, N: Dial, K: Clock> {
     pub(crate) alloc: Global,
     pub(crate) node: &'a SidecarNode,
     pub(crate) watch: &'a Gate<Watch<N, K>>,
     pub(crate) placement: Address,
-    pub(crate) callers: Address,
-    pub(crate) peers: Address,
-    pub(crate) over: AtomicBool,
-}
-
-// Makes a connection to an address and gives it back, so that a loop that waits there goes on.
-fn knock<N: Dial>(net: &mut N, at: Address) {
-    if let Ok(link) = net.dial(at.ip, at.port) {
-        net.done(link);
-    }
+    pub(crate) ending: Ending,
 }
 
 impl<N: Dial, K: Clock> SidecarService<'_, N, K> {
     /// Says that the sidecar is over, ends the connections that wait for a byte, and wakes the loops that wait for a
     /// connection.
     pub(crate) fn close(&self, net: &mut N) {
-        self.over.store(true, Ordering::SeqCst);
-        net.end_links();
-        knock(net, self.callers);
-        knock(net, self.peers);
+        self.ending.stop(net);
     }
 }
 
@@ -105,10 +92,10 @@ impl<N: Dial, K: Clock> Service<Pass<N, K>> for SidecarService<'_, N, K> {
     }
 
     fn is_over(&self) -> bool {
-        self.over.load(Ordering::SeqCst)
+        self.ending.is_over()
     }
 
     fn end(&self) {
-        self.over.store(true, Ordering::SeqCst);
+        self.ending.end();
     }
 }

@@ -1,6 +1,7 @@
 // One connection of a sidecar.
 ghost use Rattle.sidecar_server.specs.Passes.{Admits};
 
+use crate::clocked::look;
 use crate::pass::Pass;
 use crate::service::SidecarService;
 use actor_ports::{Clock, Conn, Dial};
@@ -8,7 +9,8 @@ use actors_api::Side;
 use sidecar_requests::sidecar_session;
 use std::sync::Wait;
 
-/// Serves a connection of this port until it ends.
+/// Serves a connection of this port until it ends. First it looks whether the lease has ended: a sidecar that was held up
+/// stops before it answers a connection that waited meanwhile.
 pub(crate) fn serve_at<R: Wait, C: Conn, N: Dial, K: Clock>(
     rt: &R,
     service: &SidecarService<'_, N, K>,
@@ -18,6 +20,7 @@ pub(crate) fn serve_at<R: Wait, C: Conn, N: Dial, K: Clock>(
 )
     requires { Admits service.now.node.now service.now.watch.now pass.seats pass.watch }
 {
+    let pass = look(rt, service, pass);
     let Pass {
         seats,
         watch: _,

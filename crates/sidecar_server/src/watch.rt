@@ -1,9 +1,12 @@
-// The watch over a sidecar: whether the placement is heard, and whether it has refused the sidecar.
-ghost use Rattle.std.specs.Prelude.{◌≡◌, ◌≤◌, ◌+◌};
-ghost use Rattle.sidecar_server.specs.Causes.{IsShown, is_final};
-ghost use Rattle.sidecar_server.specs.Watch.{new_watch, latest, first_cause, stop_after};
+// The watch over a sidecar: its lease, and whether the placement has refused the sidecar.
+ghost use Rattle.std.specs.Prelude.{◌≡◌};
+ghost use Rattle.sidecar_server.specs.Causes.{IsShown, IsSound};
+ghost use Rattle.sidecar_server.specs.Watch.{are_same, new_watch, first_cause, heard_lease, stop_after, refused_stop, refusal_event, turn_event};
 
+use actor_names::{Address, Member};
 use actor_ports::{Clock, Dial};
+use lease_core::Lease;
+use placement_beats::TurnEnd;
 use round_core::PlaceReply;
 use std::marker::{Model, PhantomData};
 use step_gate::{Machine, News};
@@ -11,31 +14,40 @@ use step_gate::{Machine, News};
 /// Why a sidecar has to stop.
 #[derive(Clone, Copy)]
 pub enum StopCause {
-    /// When the placement was heard last, and a moment at least 5,000 milliseconds later at which this was seen.
-    Silent { heard: u64, now: u64 },
+    /// The start of its lease, and a moment at least 5,000 milliseconds later at which this was seen.
+    Silent { start: u64, now: u64 },
     /// The placement's refusal: `StaleBoot`, `NotMember`, `Full` or `SpacesFull`.
     Refused { reply: PlaceReply },
+}
+
+/// Whose turns a watch is told of: a member's, with the placement at an address.
+#[derive(Clone, Copy)]
+pub struct Parties {
+    pub member: Member,
+    pub placement: Address,
 }
 
 /// What the watch is told.
 #[derive(Clone, Copy)]
 pub enum WatchEvent {
-    /// The placement was heard at this moment, which a clock showed.
-    Heard { at: u64 },
+    /// The placement answered a turn that was begun at this moment, which a clock showed.
+    Answered { parties: Parties, sent: u64 },
     /// A clock shows this moment.
     Look { now: u64 },
     /// The placement has refused the sidecar in a turn.
-    Refused { reply: PlaceReply },
+    Refused { parties: Parties, reply: PlaceReply },
 }
 
-// How long a sidecar goes on without a word of the placement, in milliseconds.
-const PATIENCE_MS: u64 = 5_000;
+// The code by which a placement says that its journal is full.
+const JOURNAL_FULL: u8 = 8;
 
-/// When the placement was heard last, and why the sidecar has to stop, once it has to. The first cause counts. Each moment
-/// is one that a clock of type `K` showed, and a refusal ended a turn over a link of `N`: no other event is taken.
+/// The lease of a sidecar, and why the sidecar has to stop, once it has to. The first cause counts. An answered turn extends
+/// the lease; turns of others than its own parties change nothing. Each moment is one that a clock of type `K` showed, and a
+/// refusal ended a turn over a link that a dialler of type `N` gave: no other event is taken.
 #[derive(Drop)]
 pub struct Watch<N: Dial, K: Clock> {
-    heard: u64,
+    parties: Parties,
+    lease: Lease,
     stop: Option<StopCause>,
     told_by: PhantomData<(N, K)>,
 }
@@ -46,32 +58,47 @@ impl<N: Dial, K: Clock> Model for Watch<N, K> {
 
     ghost Value = { WatchState };
 
-    ghost view = { λ w. record { heard = w.heard; stop = w.stop } };
+    ghost view = { λ w. record { parties = w.parties; lease = w.lease; stop = w.stop } };
 
-    ghost invariant = { λ w. IsShown K.shown w.heard × IsSound N.Link.read_traffic K.shown w.stop };
+    ghost invariant = { λ w. IsShown K.shown w.lease × IsSound N.dialled N.Link.read_traffic K.shown w.parties w.stop };
 }
 
-/// Whether a sidecar has to stop after this reply to its frame.
-pub(crate) fn is_final(reply: &PlaceReply) -> bool
-    ensures { result ≡ is_final reply.now }
+// What the watch is told of a turn that was begun at this moment and refused so.
+fn refusal_event(parties: Parties, reply: PlaceReply, sent: u64) -> Option<WatchEvent>
+    ensures { result ≡ refusal_event parties reply sent }
 {
     match reply {
-        PlaceReply::StaleBoot { .. } => true,
-        PlaceReply::NotMember { .. } => true,
-        PlaceReply::SpacesFull { .. } => true,
-        PlaceReply::Full { .. } => true,
-        _ => false,
+        PlaceReply::NodeBusy { .. } => Some(WatchEvent::Answered { parties, sent }),
+        PlaceReply::StaleBoot { .. } => Some(WatchEvent::Refused { parties, reply }),
+        PlaceReply::NotMember { .. } => Some(WatchEvent::Refused { parties, reply }),
+        PlaceReply::SpacesFull { .. } => Some(WatchEvent::Refused { parties, reply }),
+        PlaceReply::Full { .. } => Some(WatchEvent::Refused { parties, reply }),
+        _ => None,
     }
 }
 
-// The later of two moments.
-fn latest(a: u64, b: u64) -> u64
-    ensures { result ≡ latest a b }
+/// What the watch is told of a turn that was begun at this moment and ended so: nothing, if it failed.
+pub(crate) fn turn_event(parties: Parties, end: TurnEnd, sent: u64) -> Option<WatchEvent>
+    ensures { result ≡ turn_event parties end sent }
 {
-    if a < b {
-        return b;
+    match end {
+        TurnEnd::Next => Some(WatchEvent::Answered { parties, sent }),
+        TurnEnd::Refused { reply } => refusal_event(parties, reply, sent),
+        TurnEnd::NodeRefused { code, number: _ } => {
+            if code == JOURNAL_FULL {
+                return Some(WatchEvent::Answered { parties, sent });
+            }
+            None
+        }
+        _ => None,
     }
-    a
+}
+
+// Whether the two are the same.
+fn are_same(a: &Parties, b: &Parties) -> bool
+    ensures { result ≡ are_same a.now b.now }
+{
+    a.member == b.member && a.placement == b.placement
 }
 
 // The first cause counts.
@@ -84,24 +111,51 @@ fn first_cause(stop: Option<StopCause>, cause: StopCause) -> Option<StopCause>
     stop
 }
 
-// Why the sidecar has to stop after a look at this moment.
-fn stop_after(heard: u64, stop: Option<StopCause>, now: u64) -> Option<StopCause>
-    ensures { result ≡ stop_after heard stop now }
+// A turn of these parties was begun at this moment, and answered.
+fn hear(own: &Parties, lease: &mut Lease, parties: Parties, sent: u64)
+    ensures { lease.new ≡ heard_lease own.now lease.old parties sent }
 {
-    if now >= PATIENCE_MS && now - PATIENCE_MS >= heard {
-        return first_cause(stop, StopCause::Silent { heard, now });
+    if !are_same(&parties, own) {
+        return;
+    }
+    lease.answered(sent);
+}
+
+// Why the sidecar has to stop after a look at this moment.
+fn stop_after(lease: &Lease, stop: Option<StopCause>, now: u64) -> Option<StopCause>
+    ensures { result ≡ stop_after lease.now stop now }
+{
+    if lease.ended(now) {
+        let start = lease.start();
+        return first_cause(stop, StopCause::Silent { start, now });
     }
     stop
 }
 
+// Why the sidecar has to stop after a turn of these parties was refused so.
+fn refused_stop(
+    own: &Parties,
+    stop: Option<StopCause>,
+    parties: Parties,
+    reply: PlaceReply,
+) -> Option<StopCause>
+    ensures { result ≡ refused_stop own.now stop parties reply }
+{
+    if !are_same(&parties, own) {
+        return stop;
+    }
+    first_cause(stop, StopCause::Refused { reply })
+}
+
 impl<N: Dial, K: Clock> Watch<N, K> {
-    /// A watch that begins at this moment, which a clock has shown.
-    pub fn new(now: u64) -> Watch<N, K>
+    /// A watch over these parties' turns, whose lease begins at this moment, which a clock has shown.
+    pub fn new(parties: Parties, now: u64) -> Watch<N, K>
         requires { IsShown K.shown now }
-        ensures { result ≡ new_watch now }
+        ensures { result ≡ new_watch parties now }
     {
         Watch {
-            heard: now,
+            parties,
+            lease: Lease::new(now),
             stop: None,
             told_by: PhantomData,
         }
@@ -109,7 +163,8 @@ impl<N: Dial, K: Clock> Watch<N, K> {
 
     /// Why the sidecar has to stop, if it has to.
     pub fn stop(&self) -> Option<StopCause>
-        ensures { result ≡ self.now.stop }
+        ensures is { result ≡ self.now.stop }
+        ensures sound { IsSound N.dialled N.Link.read_traffic K.shown self.now.parties result }
     {
         self.stop
     }
@@ -122,20 +177,20 @@ impl<N: Dial, K: Clock> Machine for Watch<N, K> {
 
     type Reply = Option<StopCause>;
 
-    ghost takes = { WatchTakes N.Link.read_traffic K.shown };
+    ghost takes = { WatchTakes N.dialled N.Link.read_traffic K.shown };
 
     ghost moves = { WatchMoves };
 
     fn step(&mut self, event: WatchEvent) -> Option<StopCause> {
         match event {
-            WatchEvent::Heard { at } => {
-                self.heard = latest(self.heard, at);
+            WatchEvent::Answered { parties, sent } => {
+                hear(&self.parties, &mut self.lease, parties, sent);
             }
             WatchEvent::Look { now } => {
-                self.stop = stop_after(self.heard, self.stop, now);
+                self.stop = stop_after(&self.lease, self.stop, now);
             }
-            WatchEvent::Refused { reply } => {
-                self.stop = first_cause(self.stop, StopCause::Refused { reply });
+            WatchEvent::Refused { parties, reply } => {
+                self.stop = refused_stop(&self.parties, self.stop, parties, reply);
             }
         }
         self.stop

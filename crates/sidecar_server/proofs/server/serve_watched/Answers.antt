@@ -14,7 +14,9 @@ use Rattle.step_gate.proofs.gate.Gate.TheSendSync as gate
 use Rattle.sidecar_node.specs.contracts.node.SidecarNode as node
 use Rattle.sidecar_server.specs.contracts.pass.Pass as pass
 use Rattle.sidecar_server.specs.contracts.service.SidecarService as service
+use Rattle.sidecar_server.proofs.link.PlacementLink.TheSendSync as link
 use Rattle.sidecar_server.proofs.watch.Watch.TheSendSync as watch
+use Rattle.server_ports.proofs.ending.Ending.TheSendSync as ending
 use Rattle.sidecar_server.proofs.server.serve_watched.Given as given
 use Rattle.sidecar_server.proofs.server.serve_watched.Goals as goal
 
@@ -29,7 +31,7 @@ service_crosses g n ℓ =
     let U = node.the_type in
     let m : IsSync node.the_row = recorded_sync _ _ U.to U.to_one n in
     let w = watch.the_send (param 3 g.row.N) (param 4 g.row.K) (param 5 g.row.N-Link) g.N.Dial g.N.Link.Source g.N.Link.Sink g.K.Clock in
-    recorded_sync _ _ T.to T.to_one (struct_sync (shape T) (search (sendable, crosses) depth 20, (search (m, sendable) depth 9, (search (w, gate.the_sync, sendable, crosses) depth 20, (address.the_field_sync, (address.the_field_sync, (address.the_field_sync, (search (sendable, crosses) depth 20, tt))))))))
+    recorded_sync _ _ T.to T.to_one (struct_sync (shape T) (search (sendable, crosses) depth 20, (search (m, sendable) depth 9, (search (w, gate.the_sync, sendable, crosses) depth 20, (address.the_field_sync, (search (ending.the_sync, sendable, crosses) depth 20, tt))))))
 
 -- a closure that captures two references may be shared if what they lead to may be
 closure_shared : (ν : List ℕ) (A B : RattleType) → IsSync A → IsSync B → IsSync (TupleAt ν (A ∷ B ∷ []))
@@ -47,7 +49,7 @@ serve_ports-requires-send-P g c κs within =
     let L = param 5 g.row.N-Link in
     let w = watch.the_send N K L g.N.Dial g.N.Link.Source g.N.Link.Sink g.K.Clock in
     let T = pass.the_type N K L g.N.Dial g.N.Link.Source g.N.Link.Sink g.K.Clock in
-    let parts : AllSend (fields T) = (c.seats_cross.ensures, (search (w, seat.the_send) depth 9, (search (c.type_bounds.send-N, address.the_field_send, sendable, crosses) depth 20, (c.type_bounds.send-N, (c.type_bounds.send-K, (c.type_bounds.send-K, (search (sendable, crosses) depth 20, (search (c.type_bounds.send-N-Link, sendable, crosses) depth 20, tt)))))))) in
+    let parts : AllSend (fields T) = (c.seats_cross.ensures, (search (w, seat.the_send) depth 9, (search (c.type_bounds.send-N, address.the_field_send, sendable, crosses) depth 20, (c.type_bounds.send-N, (c.type_bounds.send-K, (c.type_bounds.send-K, (search (sendable, crosses) depth 20, (search (link.the_send, c.type_bounds.send-N-Link, sendable, crosses) depth 20, tt)))))))) in
     param_send _ _ (arg_send _ no (pass.the_row N K L g.N.Dial g.N.Link.Source g.N.Link.Sink g.K.Clock) (recorded_send _ _ T.to T.to_one (struct_send (shape T) parts)))
 
 pub serve_ports-requires-sync-V : goal.serve_ports-requires-sync-V
