@@ -5,9 +5,10 @@ use Rattle.actor_names.specs.declared.address.Address.{Address}
 use Rattle.actor_ports.specs.Traffic.{Place, Dialled}
 use Rattle.server_ports.specs.Hosts.{Asked, nothing_handed, place_of}
 use Rattle.server_ports.proofs.Handed.{hands_nothing}
-use Rattle.command_words.specs.Reading.{Hosting}
+use Rattle.command_words.specs.Reading.{Hosting, Placing}
+use Rattle.placement_command.specs.declared.command.PlacementEnd.TheVariants as places
 use Rattle.store_command.specs.declared.command.StoreEnd.TheVariants as stores
-use Rattle.actors_top.specs.Ran.{HostTold, RanStore}
+use Rattle.actors_top.specs.Ran.{HostTold, RanPlacement, RanStore}
 use Rattle.placement_command.specs.Commands.{AsksOnly}
 use Rattle.store_command.specs.Commands.{AsksOnly as AsksStore}
 use Rattle.sidecar_command.specs.Commands.{AsksPorts, DialsOnly}
@@ -17,7 +18,7 @@ pub nothing_written : (held : Option (List ℕ)) → WritesNothing held held
 nothing_written None = tt
 nothing_written (Some held) = refl
 
-pub nothing_asked_for : (path : List ℕ) (at : Place) (state : Option Address) (asked : Option Asked) → AsksOnly path at state asked asked
+nothing_asked_for : (path : List ℕ) (at : Place) (state : Option Address) (asked : Option Asked) → AsksOnly path at state asked asked
 nothing_asked_for path at state None = tt
 nothing_asked_for path at state (Some a) = inl refl
 
@@ -36,9 +37,23 @@ nothing_dialled store app (Some d) = ([], [], tt, same d)
     same : (d : Dialled) → Some d ≡ Some (record { places = d.places ++ []; links = d.links ++ [] })
     same d = rw (append-nil d.places, append-nil d.links) refl
 
--- an end by want of memory isn't a store that is done
+-- an end by want of memory isn't a server that is done
+placement_not_done : {P : Type 0} → places.OutOfMemory ≡ places.Done → P
+placement_not_done is = cc
+
 store_not_done : {P : Type 0} → stores.OutOfMemory ≡ stores.Done → P
 store_not_done is = cc
+
+pub no_placement : (p : Placing) (now : ℕ) (h : HostTold) → RanPlacement p now places.OutOfMemory h h
+no_placement p now h = record {
+  asks = nothing_asked_for p.server.journal (place_of p.server.listen) p.http h.asked;
+  given = nothing_handed;
+  hands = hands_nothing h.handed h.handed refl;
+  ran = inl (refl, inr refl);
+  limit = placement_not_done;
+  bound = placement_not_done;
+  sound = placement_not_done;
+}
 
 pub no_store : (p : Hosting) (h : HostTold) → RanStore p stores.OutOfMemory h h
 no_store p h = record {

@@ -1,7 +1,11 @@
--- What a store did to its host, by the words and by how it ended. Own.
+-- What a server did to its host, by the words and by how it ended. Own.
 use Rattle.std.specs.Prelude.{◌≡◌, ℕ, Option, IsSome}
-use Rattle.command_words.specs.Reading.{Hosting}
+use Rattle.command_words.specs.Reading.{Hosting, Placing}
 use Rattle.server_ports.specs.Hosts.{Asked, Handed, Hands, place_of}
+use Rattle.placement_command.specs.declared.command.PlacementEnd.{PlacementEnd}
+use Rattle.placement_command.specs.declared.command.PlacementEnd.TheVariants as places
+use Rattle.placement_command.specs.Commands.{AsksOnly, AsksAll}
+use Rattle.placement_command.specs.Runs.{RunsPlacement}
 use Rattle.store_command.specs.declared.command.StoreEnd.{StoreEnd}
 use Rattle.store_command.specs.declared.command.StoreEnd.TheVariants as stores
 use Rattle.store_command.specs.Commands.{AsksOnly as AsksStore, AsksAll as AsksStoreAll}
@@ -35,3 +39,15 @@ pub record RanStore (p : Hosting) (end : StoreEnd) (old new : HostTold) : Type 0
   pub limit : end ≡ stores.Done → IsSome p.sessions
   pub bound : end ≡ stores.Done → AsksStoreAll p.journal (place_of p.listen) old.asked new.asked
   pub sound : end ≡ stores.Done → NoneFailed old new
+
+-- The placement of these words, opened at the moment that the clock showed: the same of its one disk and of its ports. Its
+-- one legal history is that of the node's steps; if the file held the records of a run, whatever a crash leaves at any
+-- moment of a step has the records of the run before the step, or with it.
+pub record RanPlacement (p : Placing) (now : ℕ) (end : PlacementEnd) (old new : HostTold) : Type 0 where
+  pub asks : AsksOnly p.server.journal (place_of p.server.listen) p.http old.asked new.asked
+  pub given : Handed
+  pub hands : Hands old.handed given new.handed
+  pub ran : RunsPlacement p.server.journal p.server.is_new now end given
+  pub limit : end ≡ places.Done → IsSome p.server.sessions
+  pub bound : end ≡ places.Done → AsksAll p.server.journal (place_of p.server.listen) p.http old.asked new.asked
+  pub sound : end ≡ places.Done → NoneFailed old new

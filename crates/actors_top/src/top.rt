@@ -2,7 +2,7 @@
 ghost use Rattle.std.specs.Prelude.{◌≡◌, ◌≢◌, ◌<◌, ◌≤◌, ◌⊎◌, ◌∷◌, [], true, None, Some, map, codes, string_bytes};
 ghost use Rattle.server_ports.specs.Hosts.{place_of};
 ghost use Rattle.exchanges.specs.Replies.{place_at};
-ghost use Rattle.command_words.specs.Told.{told_server, told_sidecar};
+ghost use Rattle.command_words.specs.Told.{told_placement, told_server, told_sidecar};
 ghost use Rattle.command_words.specs.Reading.{Asking, Schedule, Drilling, Drill, Hosting, Placing, Placement, Store, Seating, Sidecar, has_options, reading};
 ghost use Rattle.plain_commands.specs.Drilled.{DrillEnds, DrillsHonestly};
 ghost use Rattle.plain_commands.specs.Status.{code_of};
@@ -10,11 +10,10 @@ ghost use Rattle.plain_commands.specs.ReplayTold.{Replays};
 ghost use Rattle.plain_commands.specs.Schedule.{schedule_of, ScheduleEnds};
 ghost use Rattle.plain_commands.specs.declared.status.Status.{Status};
 ghost use Rattle.placement_command.specs.declared.command.PlacementEnd.{PlacementEnd};
-ghost use Rattle.placement_command.specs.Commands.{AsksOnly};
 ghost use Rattle.store_command.specs.declared.command.StoreEnd.{StoreEnd};
 ghost use Rattle.sidecar_command.specs.declared.ends.SidecarEnd.{SidecarEnd};
 ghost use Rattle.sidecar_command.specs.Commands.{AsksPorts, DialsOnly, IsSidecarRun};
-ghost use Rattle.actors_top.specs.Ran.{RanStore, told_by};
+ghost use Rattle.actors_top.specs.Ran.{RanPlacement, RanStore, told_by};
 ghost use Rattle.actors_top.specs.Server.{TellsServer, placement_damage, placement_status, server_code, store_damage, store_status};
 ghost use Rattle.actors_top.specs.Sidecar.{TellsEnd, sidecar_code};
 ghost use Rattle.actors_top.specs.declared.server.ServerStatus.{ServerStatus};
@@ -64,8 +63,8 @@ fn placement<R: Threads + Wait + Sync, I: Source, W: Sink, N: Dial, T: Clock, H:
     words: &PlacementWords<'_>,
     out: &mut Outside<I, W, N, T, H>,
 ) -> ServerStatus
-    ensures asks { AsksOnly words.now.server.journal.now (place_of words.now.server.listen) words.now.http (H.asked out.old.host) (H.asked out.new.host) }
-    ensures tells { (end : PlacementEnd) × TellsServer (placement_damage end) (placement_status end) result (W.contents out.old.output) (W.contents out.new.output) }
+    ensures ran { (end : PlacementEnd) × RanPlacement (told_placement words.now) (T.shown out.new.steady) end (told_by H.asked H.handed H.open_faults H.bind_faults out.old.host) (told_by H.asked H.handed H.open_faults H.bind_faults out.new.host)
+        × TellsServer (placement_damage end) (placement_status end) result (W.contents out.old.output) (W.contents out.new.output) }
     ensures only { out.new ≡ record out.old { output = out.new.output; steady = out.new.steady; host = out.new.host } }
     ensures sink { result ≡ ServerStatus.SinkFault → W.write_faults out.old.output < W.write_faults out.new.output }
     ensures disk { result ≡ ServerStatus.DiskFault → H.open_faults out.old.host < H.open_faults out.new.host }
@@ -106,7 +105,7 @@ fn sidecar<R: Threads + Wait + Sync, I: Source, W: Sink, N: Dial, T: Clock, H: H
 ) -> SidecarStatus
     ensures asks { AsksPorts (place_of words.now.listen) (place_of words.now.peer) (H.asked out.old.host) (H.asked out.new.host) }
     ensures tells { (end : SidecarEnd)
-        × IsSidecarRun N.Link.read_traffic T.shown (told_sidecar words.now) (N.dialled out.old.net) (N.dialled out.new.net) (N.dial_faults out.old.net) (N.dial_faults out.new.net) end
+        × IsSidecarRun N.dialled N.Link.read_traffic T.shown (told_sidecar words.now) (N.dialled out.old.net) (N.dialled out.new.net) (N.dial_faults out.old.net) (N.dial_faults out.new.net) end
         × TellsEnd end result (W.contents out.old.output) (W.contents out.new.output) }
     ensures dialled { DialsOnly (place_at words.now.store) (place_at words.now.app_at) (N.dialled out.old.net) (N.dialled out.new.net) }
     ensures unread { out.new.input ≡ out.old.input }
@@ -175,10 +174,12 @@ pub fn run<R: Threads + Wait + Sync, I: Source, W: Sink, N: Dial, T: Clock, H: H
     ensures drilled { (d : Drilling) → reading (map string_bytes words.now) ≡ Some (Drill d) → (ended : Status) × (result ≡ code_of ended)
         × DrillEnds d ended (W.contents out.old.output) (W.contents out.new.output) × DrillsHonestly d × (out.new ≡ record out.old { output = out.new.output }) }
 
-    // A placement asks its host for nothing but the path and the addresses of its words, and prints nothing but the place of a
-    // damage; the status says how its run ended. Nothing else of the outside is used but the steady clock.
+    // A placement opens nothing but the path of its words, and binds the addresses. Over a host that tells of its disks it
+    // served the node that was opened from this one, or says why not: 0 and 9 have their causes. If the file held the records
+    // of a run, what a crash leaves at any moment of a step has the records of the run before the step, or with it. It prints
+    // nothing but the place of a damage, and nothing else of the outside is used but the steady clock.
     ensures placed { (p : Placing) → reading (map string_bytes words.now) ≡ Some (Placement p) → (end : PlacementEnd) × (ended : ServerStatus) × (result ≡ server_code ended)
-        × AsksOnly p.server.journal (place_of p.server.listen) p.http (H.asked out.old.host) (H.asked out.new.host)
+        × RanPlacement p (T.shown out.new.steady) end (told_by H.asked H.handed H.open_faults H.bind_faults out.old.host) (told_by H.asked H.handed H.open_faults H.bind_faults out.new.host)
         × TellsServer (placement_damage end) (placement_status end) ended (W.contents out.old.output) (W.contents out.new.output)
         × (out.new ≡ record out.old { output = out.new.output; steady = out.new.steady; host = out.new.host }) }
 
@@ -193,10 +194,10 @@ pub fn run<R: Threads + Wait + Sync, I: Source, W: Sink, N: Dial, T: Clock, H: H
 
     // A sidecar asks for nothing but the two addresses of its words, and leaves the source unread. It starts by exchanges with
     // the store and the application of its words, and says that either refused it only by what those answered. It says that
-    // it had to stop only if the placement wasn't heard for 5,000 milliseconds, or refused it; after this, and after status 0,
-    // all parts of the node that it had started were stopped.
+    // it had to stop only if its lease had ended by clocks of this run, or the placement of its words refused its member; after
+    // this, and after status 0, all parts of the node that it had started were stopped.
     ensures seated { (s : Seating) → reading (map string_bytes words.now) ≡ Some (Sidecar s) → (end : SidecarEnd) × (ended : SidecarStatus)
-        × IsSidecarRun N.Link.read_traffic T.shown s (N.dialled out.old.net) (N.dialled out.new.net) (N.dial_faults out.old.net) (N.dial_faults out.new.net) end
+        × IsSidecarRun N.dialled N.Link.read_traffic T.shown s (N.dialled out.old.net) (N.dialled out.new.net) (N.dial_faults out.old.net) (N.dial_faults out.new.net) end
         × (result ≡ sidecar_code ended)
         × AsksPorts (place_of s.listen) (place_of s.peer) (H.asked out.old.host) (H.asked out.new.host)
         × TellsEnd end ended (W.contents out.old.output) (W.contents out.new.output) × (out.new.input ≡ out.old.input) }

@@ -19,3 +19,13 @@ AsksOnly path at state (Some a) after =
 abbrev pub AsksPorts : Place → Option Address → Option Asked → Option Asked → Type 0
 AsksPorts at state None after = Unit {0}
 AsksPorts at state (Some a) after = (after ≡ Some a) ⊎ ((after ≡ Some (with_place a at)) ⊎ (after ≡ Some (with_state (with_place a at) state)))
+
+-- the place of the frames, and that of the state if it has one
+abbrev pub AsksBoth : Place → Option Address → Option Asked → Option Asked → Type 0
+AsksBoth at state None after = Unit {0}
+AsksBoth at state (Some a) after = after ≡ Some (with_state (with_place a at) state)
+
+-- the path, and then the same
+abbrev pub AsksAll : List ℕ → Place → Option Address → Option Asked → Option Asked → Type 0
+AsksAll path at state None after = Unit {0}
+AsksAll path at state (Some a) after = after ≡ Some (with_state (with_place (with_path a path) at) state)

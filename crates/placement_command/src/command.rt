@@ -1,13 +1,14 @@
 // The command.
-ghost use Rattle.std.specs.Prelude.{◌≡◌, ◌≢◌, ◌<◌, ◌≤◌};
-ghost use Rattle.server_ports.specs.Hosts.{place_of};
-ghost use Rattle.placement_command.specs.Commands.{AsksOnly};
+ghost use Rattle.std.specs.Prelude.{◌≡◌, ◌≢◌, ◌<◌, ◌≤◌, IsSome};
+ghost use Rattle.server_ports.specs.Hosts.{Handed, Hands, place_of};
+ghost use Rattle.placement_command.specs.Commands.{AsksAll, AsksOnly};
+ghost use Rattle.placement_command.specs.Runs.{IsUnopened, RunsPlacement};
 
 use crate::ends::end_of;
 use crate::serving::serve_node;
 use actor_ports::{Clock, Dial, PortError};
 use command_words::PlacementWords;
-use placement_node::PlacementNode;
+use placement_node::{PlacementNode, node_law};
 use server_ports::Host;
 use std::alloc::Global;
 use std::sync::Wait;
@@ -28,6 +29,17 @@ pub enum PlacementEnd {
     OutOfMemory,
 }
 
+// How the command ends if the disk isn't opened.
+fn unopened(error: PortError) -> PlacementEnd
+    ensures disk { result ≡ PlacementEnd.DiskFault → error ≡ PortError.Failed }
+    ensures either { IsUnopened result }
+{
+    match error {
+        PortError::Failed => PlacementEnd::DiskFault,
+        PortError::OutOfMemory => PlacementEnd::OutOfMemory,
+    }
+}
+
 /// Opens the placement's journal, binds its ports and serves it, until as many connections were served as the words say,
 /// or without an end. It ends earlier if the disk or a port fails.
 pub fn run_placement<R: Threads + Wait + Sync, H: Host, N: Dial, K: Clock>(
@@ -46,11 +58,18 @@ pub fn run_placement<R: Threads + Wait + Sync, H: Host, N: Dial, K: Clock>(
     // Each port and the disk are given back; if memory ran out, the disk may be lost.
     ensures ports_back { H.ports_out host.new ≡ H.ports_out host.old }
     ensures disk_back { result ≢ PlacementEnd.OutOfMemory → H.disks_out host.new ≡ H.disks_out host.old }
+    // It is done only if no disk and no port has failed, the words name a number of connections, and the ports were bound.
+    ensures done { result ≡ PlacementEnd.Done → (H.open_faults host.new ≡ H.open_faults host.old) × (H.bind_faults host.new ≡ H.bind_faults host.old) × IsSome words.now.server.sessions }
+    ensures bound { result ≡ PlacementEnd.Done → AsksAll words.now.server.journal.now (place_of words.now.server.listen) words.now.http (H.asked host.old) (H.asked host.new) }
+    // What it did to the disk, as a host that tells of its disks tells it: whether it opened it, why the node was refused at
+    // the moment that the clock showed, or one legal history of its steps, what a crash leaves at each moment of it, and the
+    // state in which the disk is given back.
+    ensures ran { (given : Handed) × Hands (H.handed host.old) given (H.handed host.new) × RunsPlacement words.now.server.journal.now words.now.server.is_new (K.shown clock.new) result given }
 {
+    node_law();
     let disk = match host.open_disk(words.server.journal, words.server.is_new) {
         Ok(disk) => disk,
-        Err(PortError::Failed) => return PlacementEnd::DiskFault,
-        Err(PortError::OutOfMemory) => return PlacementEnd::OutOfMemory,
+        Err(error) => return unopened(error),
     };
     match PlacementNode::open(alloc, disk, words.server.is_new, clock.now_ms()) {
         Ok(node) => serve_node(rt, alloc, node, words, host, net, clock),

@@ -10,7 +10,7 @@ use Rattle.world_drill.proofs.Honest.{drill_honest}
 use Rattle.placement_command.specs.declared.command.PlacementEnd.TheVariants as places
 use Rattle.store_command.specs.declared.command.StoreEnd.TheVariants as stores
 use Rattle.actors_top.specs.Ran.{told_by}
-use Rattle.actors_top.proofs.Same.{nothing_written, nothing_asked_for, no_store, no_ports_asked, nothing_dialled}
+use Rattle.actors_top.proofs.Same.{nothing_written, no_placement, no_store, no_ports_asked, nothing_dialled}
 use Rattle.actors_top.proofs.top.run.Goals as goal
 
 pub returns-in-Err-OutOfMemory-clause-scheduled : goal.returns-in-Err-OutOfMemory-clause-scheduled
@@ -20,14 +20,15 @@ pub returns-in-Err-OutOfMemory-clause-drilled : goal.returns-in-Err-OutOfMemory-
 returns-in-Err-OutOfMemory-clause-drilled g c = λ d is. (status.OutOfMemory, refl, nothing_written (g.W.Sink.contents c.args.out.now.output), drill_honest d.seed d.steps, refl)
 
 pub returns-in-Err-OutOfMemory-clause-placed : goal.returns-in-Err-OutOfMemory-clause-placed
-returns-in-Err-OutOfMemory-clause-placed g c = λ p is. (places.OutOfMemory, server.OutOfMemory, refl, nothing_asked_for p.server.journal (place_of p.server.listen) p.http (g.H.Host.asked c.args.out.now.host), (refl, nothing_written (g.W.Sink.contents c.args.out.now.output)), refl)
+returns-in-Err-OutOfMemory-clause-placed g c = λ p is.
+    (places.OutOfMemory, server.OutOfMemory, refl, no_placement p (g.T.Clock.shown c.args.out.now.steady) (told_by g.H.Host.asked g.H.Host.handed g.H.Host.open_faults g.H.Host.bind_faults c.args.out.now.host), (refl, nothing_written (g.W.Sink.contents c.args.out.now.output)), refl)
 
 pub returns-in-Err-OutOfMemory-clause-stored : goal.returns-in-Err-OutOfMemory-clause-stored
 returns-in-Err-OutOfMemory-clause-stored g c = λ p is.
     (stores.OutOfMemory, server.OutOfMemory, refl, no_store p (told_by g.H.Host.asked g.H.Host.handed g.H.Host.open_faults g.H.Host.bind_faults c.args.out.now.host), (refl, nothing_written (g.W.Sink.contents c.args.out.now.output)), refl)
 
 pub returns-in-Err-OutOfMemory-clause-seated : goal.returns-in-Err-OutOfMemory-clause-seated
-returns-in-Err-OutOfMemory-clause-seated g c = λ s is. (ends.OutOfMemory, seat.OutOfMemory, nothing_run g.N.Link.Source.read_traffic g.T.Clock.shown s (g.N.Dial.dialled c.args.out.now.net) (g.N.Dial.dial_faults c.args.out.now.net), refl, no_ports_asked (place_of s.listen) (place_of s.peer) (g.H.Host.asked c.args.out.now.host), nothing_written (g.W.Sink.contents c.args.out.now.output), refl)
+returns-in-Err-OutOfMemory-clause-seated g c = λ s is. (ends.OutOfMemory, seat.OutOfMemory, nothing_run g.N.Dial.dialled g.N.Link.Source.read_traffic g.T.Clock.shown s (g.N.Dial.dialled c.args.out.now.net) (g.N.Dial.dial_faults c.args.out.now.net), refl, no_ports_asked (place_of s.listen) (place_of s.peer) (g.H.Host.asked c.args.out.now.host), nothing_written (g.W.Sink.contents c.args.out.now.output), refl)
 
 pub returns-in-Err-OutOfMemory-clause-dialled : goal.returns-in-Err-OutOfMemory-clause-dialled
 returns-in-Err-OutOfMemory-clause-dialled g c = λ s is. nothing_dialled (place_at s.store) (place_at s.app_at) (g.N.Dial.dialled c.args.out.now.net)
