@@ -29,8 +29,10 @@ def ask(method, path, body=None):
 
 
 def read(actor, key):
-    """A number of the actor's state, 0 if there is none."""
+    """A number of the actor's state, 0 if there is none. A refusal says nothing of the state, so the call fails with it."""
     status, body = ask("GET", f"counter/{actor}/state/{key}")
+    if status not in (200, 204):
+        raise RuntimeError(f"the state wasn't read: {status} {body}")
     return json.loads(body) if status == 200 else 0
 
 
