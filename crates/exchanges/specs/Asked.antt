@@ -3,11 +3,14 @@ use Rattle.std.specs.Prelude.{◌≡◌, ◌⊎◌, ℕ, Bool, true, false, if�
 use Rattle.actor_ports.specs.Traffic.{Place}
 use Rattle.http_edge.specs.Carry.{Carried}
 use Rattle.frame_wire.specs.declared.frame.Frame.{Frame}
-use Rattle.frame_wire.specs.declared.frame.Frame.TheVariants.{Command, Answer}
+use Rattle.actor_names.specs.declared.actor_key.ActorKey.{ActorKey}
+use Rattle.state_rows.specs.declared.op.StateOp.{StateOp}
+use Rattle.frame_wire.specs.declared.frame.Frame.TheVariants.{Command, FencedTx, Answer}
+use Rattle.frame_wire.specs.declared.store_command.Stamp.{Stamp}
 use Rattle.frame_wire.specs.declared.store_command.StoreCommand.{StoreCommand}
 use Rattle.frame_wire.specs.declared.store_answer.StoreAnswer.{StoreAnswer}
 use Rattle.frame_wire.specs.Frames.{frame_bytes, IsFrame}
-use Rattle.frame_wire.specs.Store.{is_reading_of}
+use Rattle.frame_wire.specs.Store.{is_reading_of, is_reading_of_tx}
 use Rattle.exchanges.specs.declared.frame_end.FrameEnd.{FrameEnd}
 use Rattle.exchanges.specs.declared.frame_end.FrameEnd.TheVariants as ends
 use Rattle.exchanges.specs.FrameExchanges.{IsNoFrame, IsCut}
@@ -22,6 +25,7 @@ Got = Result StoreAnswer StoreEnd
 -- whether an answer fits what was sent
 abbrev pub answers : Frame → StoreAnswer → Bool
 answers (Command q) a = is_reading_of q a
+answers (FencedTx epoch s actor ops) a = is_reading_of_tx a
 answers f a = false
 
 -- the bytes are the spelling of this answer, which fits what was sent
@@ -52,6 +56,10 @@ IsFrameAsked asked at xs got = IsExchange (Err Fault) (Err OutOfMemory) (FrameCa
 -- one exchange of this command with the store at that place
 abbrev pub IsStoreExchange : StoreCommand → Place → List Exchange → Got → Type 0
 IsStoreExchange q at xs got = IsFrameAsked (Command q) at xs got
+
+-- one exchange of this transaction of an epoch with the store at that place
+abbrev pub IsFencedExchange : ℕ → Stamp → ActorKey → List StateOp → Place → List Exchange → Got → Type 0
+IsFencedExchange epoch s actor ops at xs got = IsFrameAsked (FencedTx epoch s actor ops) at xs got
 
 -- what an answer comes to
 abbrev pub fitting : Bool → StoreAnswer → Got

@@ -4,7 +4,7 @@ ghost use Rattle.exchanges.specs.Asked.{answers, answer_in};
 
 use crate::frame_end::FrameEnd;
 use crate::store_end::StoreEnd;
-use frame_wire::{Frame, StoreAnswer, is_reading_of};
+use frame_wire::{Frame, StoreAnswer, is_reading_of, is_reading_of_tx};
 
 // Whether the answer fits the command that was sent.
 fn answers(asked: &Frame, answer: &StoreAnswer) -> bool
@@ -12,6 +12,7 @@ fn answers(asked: &Frame, answer: &StoreAnswer) -> bool
 {
     match asked {
         Frame::Command { command } => is_reading_of(command, answer),
+        Frame::FencedTx { .. } => is_reading_of_tx(answer),
         _ => false,
     }
 }

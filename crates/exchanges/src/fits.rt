@@ -1,7 +1,7 @@
 // Which commands have a frame: the names, texts and numbers of one fit their fields.
 ghost use Rattle.std.specs.Prelude.{◌≡◌, OnOk};
 ghost use Rattle.wire_fields.specs.Fields.{MaybeFits};
-ghost use Rattle.wire_fields.specs.Parts.{named, member, actor};
+ghost use Rattle.wire_fields.specs.Parts.{counter, named, member, actor};
 ghost use Rattle.wire_fields.specs.Records.{text, blob, due_key};
 ghost use Rattle.frame_wire.specs.Frames.{payload};
 ghost use Rattle.frame_wire.specs.Store.{CommandFits};
@@ -171,14 +171,36 @@ fn fits_command(command: &StoreCommand) -> Result<(), Unfit>
     }
 }
 
-/// A command's frame, if its fields have the forms and ranges of the format. Names, texts and moments always have them;
-/// a count, a length, a boot or a number of seconds may not.
+// An epoch.
+#[tactic(auto, unfolding(wire_fields::specs::Parts::counter, wire_fields::specs::Fields::number64))]
+fn fits_epoch(epoch: u64) -> Result<(), Unfit>
+    ensures { OnOk result (counter.Fits epoch) }
+{
+    if epoch > MOST_BOOT {
+        return Err(Unfit);
+    }
+    Ok(())
+}
+
+/// A command's frame, with an epoch or without one, if its fields have the forms and ranges of the format. Names, texts and
+/// moments always have them; a count, a length, a boot, an epoch or a number of seconds may not.
 #[tactic(auto, unfolding(frame_wire::specs::Frames::payload))]
 pub(crate) fn fits_frame(asked: &Frame) -> Result<(), Unfit>
     ensures { OnOk result (payload.Fits asked.now) }
 {
     match asked {
         Frame::Command { command } => fits_command(command),
+        Frame::FencedTx {
+            epoch,
+            stamp,
+            actor,
+            ops,
+        } => {
+            fits_epoch(*epoch)?;
+            fits_stamp(stamp)?;
+            fits_actor(actor)?;
+            fits_ops(ops.as_slice())
+        }
         _ => Err(Unfit),
     }
 }

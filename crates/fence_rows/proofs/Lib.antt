@@ -7,4 +7,5 @@ mod Steps
 mod Writes
 mod Resting
 mod Given
+mod Apart
 mod Examples

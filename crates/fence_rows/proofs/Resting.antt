@@ -6,16 +6,16 @@ use Rattle.disk_model.specs.Crash.{Since}
 use Rattle.disk_model.proofs.Moments.{later_here}
 use Rattle.disk_model.proofs.Stages.{tells_map_at, tells_same}
 use Rattle.tx_journal.specs.declared.format.Format.TheVariants.{One, Two}
-use Rattle.tx_journal.specs.File.{file_payloads}
+use Rattle.tx_journal.specs.File.{Image, file_image}
 use Rattle.tx_journal.specs.Calls.{told}
 use Rattle.tx_journal.specs.Pair.{Files, Claim, live_file, ReadsAs, LeavesBoth, LeavesOpened, SinceBoth, SinceOpened}
 use Rattle.store_tables.specs.Tables.{Tables}
 use Rattle.store_core.specs.Contents.{OpensWith, OpensWithEither}
 use Rattle.store_core.specs.Store.{StoreState, Leaves, Risks}
 
-leaves_both : (P Q : Claim) (first : DiskState) (second : Option DiskState) → ((r : Result (List (List ℕ)) ℕ) → P r → Q r) → LeavesBoth P first second → LeavesBoth Q first second
-leaves_both P Q first None f leaves = λ x image. let l = leaves x image in (f (file_payloads One x) l.0, l.1)
-leaves_both P Q first (Some second) f leaves = λ x image y other. let l = leaves x image y other in (f (file_payloads Two (live_file x y)) l.0, l.1)
+leaves_both : (P Q : Claim) (first : DiskState) (second : Option DiskState) → ((r : Result Image ℕ) → P r → Q r) → LeavesBoth P first second → LeavesBoth Q first second
+leaves_both P Q first None f leaves = λ x image. let l = leaves x image in (f (file_image One x) l.0, l.1)
+leaves_both P Q first (Some second) f leaves = λ x image y other. let l = leaves x image y other in (f (file_image Two (live_file x y)) l.0, l.1)
 
 since_both : (P : Claim) (d : DiskState) (second : Option DiskState) → LeavesBoth P d second → SinceBoth P d second d second
 since_both P d None leaves = record { start = leaves; later = later_here (ReadsAs P One) d }

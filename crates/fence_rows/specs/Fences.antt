@@ -110,10 +110,12 @@ Follows None c old answer new = IsOfStore c old answer new
 abbrev pub FencedMoves : StoreState → FencedCommand → ℕ → FencedAnswer → StoreState → Type 0
 FencedMoves old command now answer new = RunsOut command old answer new ⊎ Follows (fence_answer command now old) (given_at command now) old answer new
 
--- an answer with the store's words can be written as a frame
+-- an answer can be written as a frame: one with the store's words fits, and a number of the fence's own has eight bytes
 abbrev pub FencedAnswerFits : FencedAnswer → Type 0
 FencedAnswerFits (Answer given) = AnswerFits given
-FencedAnswerFits answer = Unit {0}
+FencedAnswerFits (StaleEpoch seen) = seen < 2 ^ 64
+FencedAnswerFits (ReservedKey op) = op < 2 ^ 64
+FencedAnswerFits Unfenced = Unit {0}
 
 -- ---- reading the epoch
 

@@ -10,6 +10,7 @@ use Rattle.frame_wire.specs.declared.store_command.StoreCommand.{StoreCommand}
 use Rattle.frame_wire.specs.declared.store_command.StoreCommand.TheVariants.{Tx}
 use Rattle.frame_wire.specs.declared.store_command.Stamp.{Stamp}
 use Rattle.frame_wire.specs.declared.store_refusal.StoreRefusal.TheVariants.{Reopen, OutOfMemory}
+use Rattle.frame_wire.specs.declared.store_refusal.StoreRefusal.TheVariants as refusals
 use Rattle.step_gate.specs.declared.view.HistoryEntry.{HistoryEntry}
 use Rattle.step_gate.specs.History.{HistoryLeadsTo}
 use Rattle.store_tables.specs.Tables.{Tables}
@@ -111,6 +112,19 @@ RefusesEarlier =
     → Allows old (Command (fenced.Tx epoch (Tx s actor ops)) now) (Answer answer) mid → IsWritten old.contents (given_at (fenced.Tx epoch (Tx s actor ops)) now) answer
     → Runs mid between last → Allows last (Command (fenced.Tx earlier (Tx r actor more)) later) (Answer given) new
     → earlier < epoch → IsRefusedBelow epoch given × (new ≡ last)
+
+-- ---- answers as frames
+
+-- an answer with the store's words is none of the refusals by which a frame tells those of the fence
+abbrev pub IsNoneOfFence : StoreAnswer → Type 0
+IsNoneOfFence (Refused (refusals.StaleEpoch seen)) = ⊥
+IsNoneOfFence (Refused (refusals.ReservedKey op)) = ⊥
+IsNoneOfFence (Refused refusals.Unfenced) = ⊥
+IsNoneOfFence given = Unit {0}
+
+-- So whoever reads a frame knows whose answer it is.
+abbrev pub TellsApart : Type 0
+TellsApart = (old new : StoreState) (command : FencedCommand) (now : ℕ) (given : StoreAnswer) → Allows old (Command command now) (Answer (FencedAnswerIs given)) new → IsNoneOfFence given
 
 -- ---- the store within
 

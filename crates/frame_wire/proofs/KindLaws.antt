@@ -65,7 +65,7 @@ abbrev HasByte : ℕ → Kind → Type 0
 HasByte t k = byte_of k ≡ t
 
 all_bytes : AllRows HasByte kinds
-all_bytes = (refl, (refl, (refl, (refl, (refl, (refl, (refl, (refl, (refl, (refl, tt))))))))))
+all_bytes = (refl, (refl, (refl, (refl, (refl, (refl, (refl, (refl, (refl, (refl, (refl, (refl, (refl, (refl, (refl, (refl, tt))))))))))))))))
 
 store_byte : (t : ℕ) (asked : Option CommandKind) (answered : Option AnswerKind) (k : Kind) → command_kind_of t ≡ asked → answer_kind_of t ≡ answered → first_of (option_map (λ c. kind.Command c) asked) (option_map (λ a. kind.Answer a) answered) ≡ Some k → byte_of k ≡ t
 store_byte t (Some c) answered k is other e = subst (λ (j : Kind). byte_of j ≡ t) (some_is (kind.Command c) k e) (command_kind_of-byte t c is)
@@ -92,6 +92,12 @@ byte_of-kind kind.Unlock = refl
 byte_of-kind kind.Idle = refl
 byte_of-kind kind.Refused = refl
 byte_of-kind kind.Gone = refl
+byte_of-kind kind.FencedTx = refl
+byte_of-kind kind.MirrorWrite = refl
+byte_of-kind kind.MirrorCut = refl
+byte_of-kind kind.MirrorSync = refl
+byte_of-kind kind.MirrorDone = refl
+byte_of-kind kind.MirrorFault = refl
 byte_of-kind (kind.Command commands.Boot) = refl
 byte_of-kind (kind.Command commands.Tx) = refl
 byte_of-kind (kind.Command commands.Get) = refl

@@ -21,7 +21,7 @@ use Rattle.frame_wire.specs.declared.store_refusal.StoreRefusal.TheVariants as r
 use Rattle.frame_wire.specs.Kinds.{command_kinds, command_kind_of, command_byte, answer_byte}
 use Rattle.frame_wire.specs.StoreParts.{stamp_parts, stamp_of, stamp, due_limit, due_entry_parts, due_entry_of, due_entry, due_entries, and_zero, no_numbers, two_numbers, clock_parts, clock_moment, clock, store_refusal_tag, store_refusal_fields, StoreRefusalFits, store_refusal_rows, store_refusal}
 use Rattle.frame_wire.specs.Store.{command_kind, command_fields, CommandFits, command_row, command_tag, command, located, reading_of_kind, command_reading, answer_kind, answer_fields, AnswerFits, answer_row}
-use Rattle.frame_wire.specs.Laws.{ReadsCommand, SpellsCommand}
+use Rattle.frame_wire.specs.Laws.{ReadsCommand, SpellsCommand, ReadsAsTransaction}
 use Rattle.frame_wire.proofs.KindLaws.{some_is, command_kind_of-byte, byte_of-command}
 
 pub stamp_law : IsField stamp
@@ -100,7 +100,16 @@ store_refusal_takes = (
                         row_takes store_refusal_tag store_refusal_fields StoreRefusalFits 12 (λ u. refusals.OutOfMemory) none_law (λ u. refl) (λ u. refl) (λ u h. h),
                         (
                           row_takes store_refusal_tag store_refusal_fields StoreRefusalFits 13 (λ p. refusals.CommandTooLong p.0) zero_64 (λ p. refl) (λ p. refl) (λ p h. h),
-                          tt,
+                          (
+                            row_takes store_refusal_tag store_refusal_fields StoreRefusalFits 14 (λ p. refusals.StaleEpoch p.0) zero_64 (λ p. refl) (λ p. refl) (λ p h. h),
+                            (
+                              row_takes store_refusal_tag store_refusal_fields StoreRefusalFits 15 (λ p. refusals.ReservedKey p.0) zero_64 (λ p. refl) (λ p. refl) (λ p h. h),
+                              (
+                                row_takes store_refusal_tag store_refusal_fields StoreRefusalFits 16 (λ u. refusals.Unfenced) none_law (λ u. refl) (λ u. refl) (λ u h. h),
+                                tt,
+                              ),
+                            ),
+                          ),
                         ),
                       ),
                     ),
@@ -129,6 +138,9 @@ store_refusal_again refusals.DiskFault rest h = row_again (λ u. refusals.DiskFa
 store_refusal_again refusals.Reopen rest h = row_again (λ u. refusals.Reopen) none_law (tt, tt) rest h
 store_refusal_again refusals.OutOfMemory rest h = row_again (λ u. refusals.OutOfMemory) none_law (tt, tt) rest h
 store_refusal_again (refusals.CommandTooLong n) rest h = row_again (λ p. refusals.CommandTooLong p.0) zero_64 (n, tt) rest h
+store_refusal_again (refusals.StaleEpoch seen) rest h = row_again (λ p. refusals.StaleEpoch p.0) zero_64 (seen, tt) rest h
+store_refusal_again (refusals.ReservedKey op) rest h = row_again (λ p. refusals.ReservedKey p.0) zero_64 (op, tt) rest h
+store_refusal_again refusals.Unfenced rest h = row_again (λ u. refusals.Unfenced) none_law (tt, tt) rest h
 
 pub store_refusal_law : IsField store_refusal
 unfolding store_refusal
@@ -222,3 +234,15 @@ reads_command c fits =
     let all : command_row (command_kind c) (command_fields c) ≡ Ok (c, []) = ap (command_row (command_kind c)) (sym (append-nil (command_fields c))) ∙ command_again c [] fits in
     let read : whole (command_row (command_kind c)) (command_fields c) ≡ Ok c = rw all refl in
     read_by_kind (suc (length (command_fields c))) (command_tag c) (command_fields c) (command_kind_of (command_tag c)) (command_kind c) c (byte_of-command (command_kind c)) read
+
+-- ---- answers to a transaction with an epoch
+
+pub reads_as_transaction : ReadsAsTransaction
+reads_as_transaction s actor ops (Booted n) = refl
+reads_as_transaction s actor ops (Done existed) = refl
+reads_as_transaction s actor ops (Value v) = refl
+reads_as_transaction s actor ops NotThere = refl
+reads_as_transaction s actor ops (ReminderIs due period ttl payload) = refl
+reads_as_transaction s actor ops (DueList entries) = refl
+reads_as_transaction s actor ops (NextIs n) = refl
+reads_as_transaction s actor ops (Refused r) = refl

@@ -1,13 +1,18 @@
 -- Frames: the fields of each kind, the spelling of each frame, and how one is read. Own.
 use Rattle.std.specs.Prelude.{ℕ, ◌≤◌, List, [], length, option_map, Result}
-use Rattle.wire_fields.specs.Fields.{Reading, Field, number32, nothing, both, sized, made_of, row, tagged, whole}
-use Rattle.wire_fields.specs.Parts.{counter, member, host, hosts, stage}
+use Rattle.wire_fields.specs.Fields.{Reading, Field, number32, nothing, both, sized, made_of, row, tagged, whole, number64}
+use Rattle.wire_fields.specs.Parts.{counter, member, host, hosts, stage, actor}
+use Rattle.wire_fields.specs.Records.{ops_list}
 use Rattle.frame_wire.specs.declared.frame.Frame.{Frame}
-use Rattle.frame_wire.specs.declared.frame.Frame.TheVariants.{Register, Beat, Ack, Leave, Lock, Update, Unlock, Idle, Refused, Gone, Command, Answer}
+use Rattle.frame_wire.specs.declared.frame.Frame.TheVariants.{Register, Beat, Ack, Leave, Lock, Update, Unlock, Idle, Refused, Gone, FencedTx, Mirror, Mirrored, Command, Answer}
 use Rattle.frame_wire.specs.declared.kind.Kind.{Kind}
 use Rattle.frame_wire.specs.declared.kind.Kind.TheVariants as kind
 use Rattle.frame_wire.specs.Kinds.{byte_of, kind_of}
+use Rattle.frame_wire.specs.declared.mirror.MirrorCommand.TheVariants as commands
+use Rattle.frame_wire.specs.declared.mirror.MirrorAnswer.TheVariants as answers
+use Rattle.frame_wire.specs.Mirrors.{piece, mirror_kind, mirror_fields, MirrorFits, mirrored_kind}
 use Rattle.frame_wire.specs.Refusals.{refusal}
+use Rattle.frame_wire.specs.StoreParts.{stamp}
 use Rattle.frame_wire.specs.Store.{command_kind, command_fields, CommandFits, command_row, answer_kind, answer_fields, AnswerFits, answer_row}
 
 -- the kind of a frame
@@ -22,6 +27,9 @@ frame_kind (Unlock version) = kind.Unlock
 frame_kind Idle = kind.Idle
 frame_kind (Refused r) = kind.Refused
 frame_kind Gone = kind.Gone
+frame_kind (FencedTx epoch s a ops) = kind.FencedTx
+frame_kind (Mirror c) = mirror_kind c
+frame_kind (Mirrored a) = mirrored_kind a
 frame_kind (Command c) = kind.Command (command_kind c)
 frame_kind (Answer a) = kind.Answer (answer_kind a)
 
@@ -37,6 +45,9 @@ frame_fields (Unlock version) = counter.spell version
 frame_fields Idle = []
 frame_fields (Refused r) = refusal.spell r
 frame_fields Gone = []
+frame_fields (FencedTx epoch s a ops) = (both counter (both stamp (both actor ops_list))).spell (epoch, (s, (a, ops)))
+frame_fields (Mirror c) = mirror_fields c
+frame_fields (Mirrored a) = []
 frame_fields (Command c) = command_fields c
 frame_fields (Answer a) = answer_fields a
 
@@ -52,6 +63,9 @@ FieldsFit (Unlock version) = counter.Fits version
 FieldsFit Idle = Unit {0}
 FieldsFit (Refused r) = refusal.Fits r
 FieldsFit Gone = Unit {0}
+FieldsFit (FencedTx epoch s a ops) = (both counter (both stamp (both actor ops_list))).Fits (epoch, (s, (a, ops)))
+FieldsFit (Mirror c) = MirrorFits c
+FieldsFit (Mirrored a) = Unit {0}
 FieldsFit (Command c) = CommandFits c
 FieldsFit (Answer a) = AnswerFits a
 
@@ -67,6 +81,12 @@ kind_row kind.Unlock = row counter (λ n. Unlock n)
 kind_row kind.Idle = row nothing (λ u. Idle)
 kind_row kind.Refused = row refusal (λ r. Refused r)
 kind_row kind.Gone = row nothing (λ u. Gone)
+kind_row kind.FencedTx = row (both counter (both stamp (both actor ops_list))) (λ p. FencedTx p.0 p.1.0 p.1.1.0 p.1.1.1)
+kind_row kind.MirrorWrite = row (both number64 piece) (λ p. Mirror (commands.Write p.0 p.1))
+kind_row kind.MirrorCut = row number64 (λ n. Mirror (commands.Cut n))
+kind_row kind.MirrorSync = row nothing (λ u. Mirror commands.Sync)
+kind_row kind.MirrorDone = row nothing (λ u. Mirrored answers.Done)
+kind_row kind.MirrorFault = row nothing (λ u. Mirrored answers.Fault)
 kind_row (kind.Command k) = made_of (command_row k) (λ c. Command c)
 kind_row (kind.Answer k) = made_of (answer_row k) (λ a. Answer a)
 

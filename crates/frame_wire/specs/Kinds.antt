@@ -2,13 +2,13 @@
 use Rattle.std.specs.Prelude.{ℕ, List, [], ◌∷◌, Option, Some, None, option_map}
 use Rattle.wire_fields.specs.Fields.{row_of}
 use Rattle.frame_wire.specs.declared.kind.Kind.{Kind}
-use Rattle.frame_wire.specs.declared.kind.Kind.TheVariants.{Register, Beat, Ack, Leave, Lock, Update, Unlock, Idle, Refused, Gone, Command, Answer}
+use Rattle.frame_wire.specs.declared.kind.Kind.TheVariants.{Register, Beat, Ack, Leave, Lock, Update, Unlock, Idle, Refused, Gone, FencedTx, MirrorWrite, MirrorCut, MirrorSync, MirrorDone, MirrorFault, Command, Answer}
 use Rattle.frame_wire.specs.declared.store_kind.CommandKind.{CommandKind}
 use Rattle.frame_wire.specs.declared.store_kind.CommandKind.TheVariants as commands
 use Rattle.frame_wire.specs.declared.store_kind.AnswerKind.{AnswerKind}
 use Rattle.frame_wire.specs.declared.store_kind.AnswerKind.TheVariants as answers
 
--- between a member and the placement
+-- between a member and the placement, and between a placement and its standby; and a transaction with an epoch, from a member to the store
 abbrev pub kinds : List (ℕ × Kind)
 kinds =
     (1, Register)
@@ -21,9 +21,15 @@ kinds =
     ∷ (19, Idle)
     ∷ (20, Refused)
     ∷ (21, Gone)
+    ∷ (40, FencedTx)
+    ∷ (64, MirrorWrite)
+    ∷ (65, MirrorCut)
+    ∷ (66, MirrorSync)
+    ∷ (67, MirrorDone)
+    ∷ (68, MirrorFault)
     ∷ []
 
--- from a member to the store
+-- from a member to the store: the commands that a journal keeps
 abbrev pub command_kinds : List (ℕ × CommandKind)
 command_kinds =
     (32, commands.Boot)
@@ -97,5 +103,11 @@ byte_of Unlock = 18
 byte_of Idle = 19
 byte_of Refused = 20
 byte_of Gone = 21
+byte_of FencedTx = 40
+byte_of MirrorWrite = 64
+byte_of MirrorCut = 65
+byte_of MirrorSync = 66
+byte_of MirrorDone = 67
+byte_of MirrorFault = 68
 byte_of (Command k) = command_byte k
 byte_of (Answer k) = answer_byte k

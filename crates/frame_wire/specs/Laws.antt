@@ -4,8 +4,13 @@ use Rattle.frame_wire.specs.declared.error.FrameError.{FrameError}
 use Rattle.frame_wire.specs.declared.frame.Frame.{Frame}
 use Rattle.frame_wire.specs.declared.look.Found.TheVariants.{Whole}
 use Rattle.frame_wire.specs.Frames.{frame_bytes, IsFrame}
+use Rattle.actor_names.specs.declared.actor_key.ActorKey.{ActorKey}
+use Rattle.state_rows.specs.declared.op.StateOp.{StateOp}
+use Rattle.frame_wire.specs.declared.store_answer.StoreAnswer.{StoreAnswer}
+use Rattle.frame_wire.specs.declared.store_command.Stamp.{Stamp}
 use Rattle.frame_wire.specs.declared.store_command.StoreCommand.{StoreCommand}
-use Rattle.frame_wire.specs.Store.{command, command_reading}
+use Rattle.frame_wire.specs.declared.store_command.StoreCommand.TheVariants.{Tx}
+use Rattle.frame_wire.specs.Store.{command, command_reading, is_reading_of, is_reading_of_tx}
 use Rattle.frame_wire.specs.Streams.{look, place, frames_bytes, StreamOf}
 
 -- a frame that is spelled is read again, whatever follows it
@@ -40,3 +45,7 @@ ReadsCommand = (c : StoreCommand) → command.Fits c → command_reading (comman
 -- bytes that are read are the spelling of what they give, which fits
 abbrev pub SpellsCommand : Type 0
 SpellsCommand = (bytes : List ℕ) (c : StoreCommand) → IsBytes bytes → command_reading bytes ≡ Ok c → (bytes ≡ command.spell c) × command.Fits c
+
+-- an answer has a reading to a transaction exactly if it has one to the same transaction with an epoch
+abbrev pub ReadsAsTransaction : Type 0
+ReadsAsTransaction = (s : Stamp) (actor : ActorKey) (ops : List StateOp) (a : StoreAnswer) → is_reading_of (Tx s actor ops) a ≡ is_reading_of_tx a

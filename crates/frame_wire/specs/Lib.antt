@@ -1,5 +1,6 @@
 pub mod Kinds
 pub mod Refusals
+pub mod Mirrors
 pub mod StoreParts
 pub mod Store
 pub mod Frames

@@ -172,3 +172,9 @@ is_reading_of c (Refused r) = true
 
 abbrev pub IsReadingOf : StoreCommand → StoreAnswer → Type 0
 IsReadingOf c a = is_reading_of c a ≡ true
+
+-- whether an answer has a reading to the one who sent a transaction, with an epoch or without one
+abbrev pub is_reading_of_tx : StoreAnswer → Bool
+is_reading_of_tx (Done existed) = true
+is_reading_of_tx (Refused r) = true
+is_reading_of_tx a = false

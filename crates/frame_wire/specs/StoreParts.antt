@@ -74,6 +74,9 @@ store_refusal_tag refusals.DiskFault = 10
 store_refusal_tag refusals.Reopen = 11
 store_refusal_tag refusals.OutOfMemory = 12
 store_refusal_tag (refusals.CommandTooLong n) = 13
+store_refusal_tag (refusals.StaleEpoch seen) = 14
+store_refusal_tag (refusals.ReservedKey op) = 15
+store_refusal_tag refusals.Unfenced = 16
 
 abbrev pub store_refusal_fields : StoreRefusal → List ℕ
 store_refusal_fields (refusals.OtherBoot greatest) = (and_zero counter).spell (greatest, tt)
@@ -89,6 +92,9 @@ store_refusal_fields refusals.DiskFault = no_numbers.spell (tt, tt)
 store_refusal_fields refusals.Reopen = no_numbers.spell (tt, tt)
 store_refusal_fields refusals.OutOfMemory = no_numbers.spell (tt, tt)
 store_refusal_fields (refusals.CommandTooLong n) = (and_zero number64).spell (n, tt)
+store_refusal_fields (refusals.StaleEpoch seen) = (and_zero number64).spell (seen, tt)
+store_refusal_fields (refusals.ReservedKey op) = (and_zero number64).spell (op, tt)
+store_refusal_fields refusals.Unfenced = no_numbers.spell (tt, tt)
 
 abbrev pub StoreRefusalFits : StoreRefusal → Type 0
 StoreRefusalFits (refusals.OtherBoot greatest) = (and_zero counter).Fits (greatest, tt)
@@ -104,6 +110,9 @@ StoreRefusalFits refusals.DiskFault = no_numbers.Fits (tt, tt)
 StoreRefusalFits refusals.Reopen = no_numbers.Fits (tt, tt)
 StoreRefusalFits refusals.OutOfMemory = no_numbers.Fits (tt, tt)
 StoreRefusalFits (refusals.CommandTooLong n) = (and_zero number64).Fits (n, tt)
+StoreRefusalFits (refusals.StaleEpoch seen) = (and_zero number64).Fits (seen, tt)
+StoreRefusalFits (refusals.ReservedKey op) = (and_zero number64).Fits (op, tt)
+StoreRefusalFits refusals.Unfenced = no_numbers.Fits (tt, tt)
 
 abbrev pub store_refusal_rows : List (ℕ × Reading StoreRefusal)
 store_refusal_rows =
@@ -120,6 +129,9 @@ store_refusal_rows =
     ∷ (11, row no_numbers (λ u. refusals.Reopen))
     ∷ (12, row no_numbers (λ u. refusals.OutOfMemory))
     ∷ (13, row (and_zero number64) (λ p. refusals.CommandTooLong p.0))
+    ∷ (14, row (and_zero number64) (λ p. refusals.StaleEpoch p.0))
+    ∷ (15, row (and_zero number64) (λ p. refusals.ReservedKey p.0))
+    ∷ (16, row no_numbers (λ u. refusals.Unfenced))
     ∷ []
 
 -- a code, and then the two numbers that belong to it

@@ -8,15 +8,18 @@ ghost use Rattle.frame_wire.specs.declared.kind.Kind.TheVariants as kinds;
 use crate::frame::Frame;
 use crate::hosts::Hosts;
 use crate::kind::Kind;
+use crate::mirror::{MirrorAnswer, MirrorCommand};
+use crate::mirrors::{mirror_cut_at, mirror_kind, mirror_write_at, mirrored_kind, put_mirror};
 use crate::refusals::{put_refusal, refusal_at};
 use crate::store_answers::{answer_at, answer_kind, put_answer_fields};
-use crate::store_commands::{command_at, command_kind, put_command_fields};
+use crate::store_command::StateOps;
+use crate::store_commands::{command_at, command_kind, put_command_fields, put_stamp, stamp_at};
 use crate::store_kind::{AnswerKind, CommandKind};
 use lists_and_limits::OutOfMemory;
 use std::alloc::Global;
 use wire_fields::{
-    Fault, counter_at, host_at, hosts_at, member_at, put_counter, put_host, put_hosts, put_member,
-    put_stage, put_tag, stage_at,
+    Fault, actor_at, counter_at, host_at, hosts_at, member_at, ops_at, put_actor, put_counter,
+    put_host, put_hosts, put_member, put_ops, put_stage, put_tag, stage_at,
 };
 
 fn register_at(alloc: Global, rest: &mut &[u8]) -> Result<Frame, Fault>
@@ -45,6 +48,21 @@ fn update_at(alloc: Global, rest: &mut &[u8]) -> Result<Frame, Fault>
     let version = counter_at(rest)?;
     let hosts = Hosts::from_vec(hosts_at(alloc, rest)?);
     Ok(Frame::Update { version, hosts })
+}
+
+fn fenced_tx_at(alloc: Global, rest: &mut &[u8]) -> Result<Frame, Fault>
+    ensures { Gives (λ x. (x, rest.new.now)) result (kind_row kinds.FencedTx rest.old.now) }
+{
+    let epoch = counter_at(rest)?;
+    let stamp = stamp_at(rest)?;
+    let actor = actor_at(alloc, rest)?;
+    let ops = StateOps::from_vec(ops_at(alloc, rest)?);
+    Ok(Frame::FencedTx {
+        epoch,
+        stamp,
+        actor,
+        ops,
+    })
 }
 
 fn command_frame_at(alloc: Global, kind: CommandKind, rest: &mut &[u8]) -> Result<Frame, Fault>
@@ -86,6 +104,18 @@ fn fields_at(alloc: Global, kind: Kind, rest: &mut &[u8]) -> Result<Frame, Fault
             refusal: refusal_at(rest)?,
         }),
         Kind::Gone => Ok(Frame::Gone),
+        Kind::FencedTx => fenced_tx_at(alloc, rest),
+        Kind::MirrorWrite => mirror_write_at(alloc, rest),
+        Kind::MirrorCut => mirror_cut_at(rest),
+        Kind::MirrorSync => Ok(Frame::Mirror {
+            command: MirrorCommand::Sync,
+        }),
+        Kind::MirrorDone => Ok(Frame::Mirrored {
+            answer: MirrorAnswer::Done,
+        }),
+        Kind::MirrorFault => Ok(Frame::Mirrored {
+            answer: MirrorAnswer::Fault,
+        }),
         Kind::Command { kind } => command_frame_at(alloc, kind, rest),
         Kind::Answer { kind } => answer_frame_at(alloc, kind, rest),
     }
@@ -136,6 +166,9 @@ fn kind_of(frame: &Frame) -> Kind
         Frame::Idle => Kind::Idle,
         Frame::Refused { .. } => Kind::Refused,
         Frame::Gone => Kind::Gone,
+        Frame::FencedTx { .. } => Kind::FencedTx,
+        Frame::Mirror { command } => mirror_kind(command),
+        Frame::Mirrored { answer } => mirrored_kind(*answer),
         Frame::Command { command } => Kind::Command {
             kind: command_kind(command),
         },
@@ -169,6 +202,19 @@ fn put_fields(out: &mut Vec<u8>, frame: &Frame) -> Result<(), OutOfMemory>
         }
         Frame::Refused { refusal } => put_refusal(out, refusal),
         Frame::Idle | Frame::Gone => Ok(()),
+        Frame::FencedTx {
+            epoch,
+            stamp,
+            actor,
+            ops,
+        } => {
+            put_counter(out, *epoch)?;
+            put_stamp(out, stamp)?;
+            put_actor(out, actor)?;
+            put_ops(out, ops.as_slice())
+        }
+        Frame::Mirror { command } => put_mirror(out, command),
+        Frame::Mirrored { .. } => Ok(()),
         Frame::Command { command } => put_command_fields(out, command),
         Frame::Answer { answer } => put_answer_fields(out, answer),
     }

@@ -1,12 +1,13 @@
 // Frames: the messages between the processes of a cluster.
 use crate::hosts::Hosts;
+use crate::mirror::{MirrorAnswer, MirrorCommand};
 use crate::refusal::Refusal;
 use crate::store_answer::StoreAnswer;
-use crate::store_command::StoreCommand;
-use actor_names::Member;
+use crate::store_command::{Stamp, StateOps, StoreCommand};
+use actor_names::{ActorKey, Member};
 use place_table::{AckStage, HostInfo};
 
-/// A message on a connection. A boot and a version are at most 2^62.
+/// A message on a connection. A boot, a version and an epoch are at most 2^62.
 #[derive(Debug, Drop)]
 pub enum Frame {
     /// To the placement: the member of this host wants to serve actors.
@@ -49,9 +50,24 @@ pub enum Frame {
     },
     /// From the placement: the member isn't a member any more.
     Gone,
+    /// From a placement to its standby: a call on the disk.
+    Mirror {
+        command: MirrorCommand,
+    },
+    /// From a standby to its placement.
+    Mirrored {
+        answer: MirrorAnswer,
+    },
     /// To the store.
     Command {
         command: StoreCommand,
+    },
+    /// To the store: a transaction by a writer of this epoch, which is at most 2^62.
+    FencedTx {
+        epoch: u64,
+        stamp: Stamp,
+        actor: ActorKey,
+        ops: StateOps,
     },
     /// From the store.
     Answer {

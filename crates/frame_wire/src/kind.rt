@@ -18,12 +18,18 @@ pub(crate) enum Kind {
     Idle,
     Refused,
     Gone,
+    FencedTx,
+    MirrorWrite,
+    MirrorCut,
+    MirrorSync,
+    MirrorDone,
+    MirrorFault,
     Command { kind: CommandKind },
     Answer { kind: AnswerKind },
 }
 
-// The kind of a frame between a member and the placement.
-fn placement_kind_of(byte: u8) -> Option<Kind>
+// The kind of a frame that is no command that a journal keeps, and no answer of the store.
+fn plain_kind_of(byte: u8) -> Option<Kind>
     ensures { result ≡ row_of kinds byte }
 {
     match byte {
@@ -37,11 +43,17 @@ fn placement_kind_of(byte: u8) -> Option<Kind>
         19 => Some(Kind::Idle),
         20 => Some(Kind::Refused),
         21 => Some(Kind::Gone),
+        40 => Some(Kind::FencedTx),
+        64 => Some(Kind::MirrorWrite),
+        65 => Some(Kind::MirrorCut),
+        66 => Some(Kind::MirrorSync),
+        67 => Some(Kind::MirrorDone),
+        68 => Some(Kind::MirrorFault),
         _ => None,
     }
 }
 
-// The kind of a frame between a member and the store.
+// The kind of a command that a journal keeps, or of an answer of the store.
 fn store_kind_of(byte: u8) -> Option<Kind>
     ensures { result ≡ store_kind_of byte }
 {
@@ -60,7 +72,7 @@ impl Kind {
     pub(crate) fn of(byte: u8) -> Option<Kind>
         ensures { result ≡ kind_of byte }
     {
-        match placement_kind_of(byte) {
+        match plain_kind_of(byte) {
             Some(kind) => Some(kind),
             None => store_kind_of(byte),
         }
@@ -81,6 +93,12 @@ impl Kind {
             Kind::Idle => 19,
             Kind::Refused => 20,
             Kind::Gone => 21,
+            Kind::FencedTx => 40,
+            Kind::MirrorWrite => 64,
+            Kind::MirrorCut => 65,
+            Kind::MirrorSync => 66,
+            Kind::MirrorDone => 67,
+            Kind::MirrorFault => 68,
             Kind::Command { kind } => kind.byte(),
             Kind::Answer { kind } => kind.byte(),
         }

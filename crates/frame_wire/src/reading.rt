@@ -1,6 +1,6 @@
 // Which answers fit a command.
 ghost use Rattle.std.specs.Prelude.{◌≡◌};
-ghost use Rattle.frame_wire.specs.Store.{own_answer, may_miss, is_reading_of};
+ghost use Rattle.frame_wire.specs.Store.{own_answer, may_miss, is_reading_of, is_reading_of_tx};
 
 use crate::store_answer::StoreAnswer;
 use crate::store_command::StoreCommand;
@@ -57,4 +57,14 @@ pub fn is_reading_of(command: &StoreCommand, answer: &StoreAnswer) -> bool
         StoreAnswer::NextIs { .. } => AnswerKind::NextIs.byte() == asked,
         StoreAnswer::Refused { .. } => true,
     }
+}
+
+/// Whether an answer has a reading to the one who sent a transaction, with an epoch or without one: Done or Refused.
+pub fn is_reading_of_tx(answer: &StoreAnswer) -> bool
+    ensures { result ≡ is_reading_of_tx answer.now }
+{
+    matches!(
+        answer,
+        StoreAnswer::Done { .. } | StoreAnswer::Refused { .. }
+    )
 }

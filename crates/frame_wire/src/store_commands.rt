@@ -24,7 +24,7 @@ use wire_fields::{
 pub const MOST_DUE: u16 = 256;
 
 #[tactic(auto, unfolding(crate::specs::StoreParts::stamp))]
-fn stamp_at(rest: &mut &[u8]) -> Result<Stamp, Fault>
+pub(crate) fn stamp_at(rest: &mut &[u8]) -> Result<Stamp, Fault>
     ensures { Gives (λ x. (x, rest.new.now)) result (stamp.at rest.old.now) }
 {
     let member = member_at(rest)?;
@@ -182,7 +182,7 @@ pub(crate) fn command_kind(command: &StoreCommand) -> CommandKind
 }
 
 #[tactic(auto, unfolding(crate::specs::StoreParts::stamp))]
-fn put_stamp(out: &mut Vec<u8>, one: &Stamp) -> Result<(), OutOfMemory>
+pub(crate) fn put_stamp(out: &mut Vec<u8>, one: &Stamp) -> Result<(), OutOfMemory>
     requires { stamp.Fits one.now }
     ensures { OnOk result (out.new.items ≡ out.old.items ++ stamp.spell one.now) }
 {

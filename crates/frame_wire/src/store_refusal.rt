@@ -4,7 +4,7 @@ ghost use Rattle.frame_wire.specs.StoreParts.{store_refusal_tag};
 
 use schedule_text::Moment;
 
-/// Why the store refuses a command. `op` is the index of an operation, counted from 0.
+/// Why the store refuses a command. The last three are said of epochs, which only a store with a fence knows. `op` is the index of an operation, counted from 0.
 #[derive(Clone, Copy, Debug, PartialEq, Eq)]
 pub enum StoreRefusal {
     /// The boot of the stamp isn't `greatest`, the greatest one of its node, which is at most 2^62, and 0 for an
@@ -34,6 +34,12 @@ pub enum StoreRefusal {
     OutOfMemory,
     /// The command has `n` bytes in the journal, more than a record may have.
     CommandTooLong { n: u64 },
+    /// The epoch of the transaction is below `seen`, that of the actor.
+    StaleEpoch { seen: u64 },
+    /// The operation names the key at which the epoch of the actor stands.
+    ReservedKey { op: u64 },
+    /// The transaction has no epoch.
+    Unfenced,
 }
 
 impl StoreRefusal {
@@ -55,6 +61,9 @@ impl StoreRefusal {
             StoreRefusal::Reopen => 11,
             StoreRefusal::OutOfMemory => 12,
             StoreRefusal::CommandTooLong { .. } => 13,
+            StoreRefusal::StaleEpoch { .. } => 14,
+            StoreRefusal::ReservedKey { .. } => 15,
+            StoreRefusal::Unfenced => 16,
         }
     }
 }

@@ -158,6 +158,16 @@ pub(crate) fn store_refusal_at(rest: &mut &[u8]) -> Result<StoreRefusal, Fault>
         13 => Ok(StoreRefusal::CommandTooLong {
             n: number_at(rest)?,
         }),
+        14 => Ok(StoreRefusal::StaleEpoch {
+            seen: number_at(rest)?,
+        }),
+        15 => Ok(StoreRefusal::ReservedKey {
+            op: number_at(rest)?,
+        }),
+        16 => {
+            zeros_at(rest)?;
+            Ok(StoreRefusal::Unfenced)
+        }
         _ => Err(Fault::Field { left }),
     }
 }
@@ -189,6 +199,9 @@ pub(crate) fn put_store_refusal(out: &mut Vec<u8>, one: &StoreRefusal) -> Result
         StoreRefusal::Reopen => put_numbers(out, 11, 0, 0),
         StoreRefusal::OutOfMemory => put_numbers(out, 12, 0, 0),
         StoreRefusal::CommandTooLong { n } => put_numbers(out, 13, *n, 0),
+        StoreRefusal::StaleEpoch { seen } => put_numbers(out, 14, *seen, 0),
+        StoreRefusal::ReservedKey { op } => put_numbers(out, 15, *op, 0),
+        StoreRefusal::Unfenced => put_numbers(out, 16, 0, 0),
     }
 }
 

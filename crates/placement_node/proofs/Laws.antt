@@ -5,6 +5,7 @@ use Rattle.disk_model.proofs.Stages.{told_before, tells_map_at, tells_same}
 use Rattle.std.proofs.lemmas.List.{append-nil}
 use Rattle.tx_journal.specs.declared.error.JournalError.{JournalError}
 use Rattle.tx_journal.specs.Runs.{AppendMoves}
+use Rattle.tx_journal.specs.File.{Image, with_payload}
 use Rattle.tx_journal.specs.Pair.{Files, Holds, LeavesOpened, SinceOpened, IsJust, IsEither}
 use Rattle.tx_journal.specs.Calls.{JournalState, told, append_refusal, Commits, Committed}
 use Rattle.tx_journal.proofs.Claims.{leaves_weaker, since_opened_weaker, opened_here}
@@ -47,8 +48,8 @@ one_payload (e ∷ es) payload others is = let same : payload_of (e ∷ es) ≡ 
 
 module _ (run : List RunEvent) where
   -- files that hold the records of the run
-  pub held_left : (payloads : List (List ℕ)) (files : Files) → AreOfRun run payloads → Holds payloads files → LeavesOpened (LeftBy run) files
-  held_left payloads files reads holds = leaves_weaker (IsJust payloads) (LeftBy run) files.first files.second (λ r is. (payloads, is, reads)) holds.leaves
+  pub held_left : (held : Image) (files : Files) → AreOfRun run held.payloads → Holds held files → LeavesOpened (LeftBy run) files
+  held_left held files reads holds = leaves_weaker (IsJust held) (LeftBy run) files.first files.second (λ r is. (held, is, reads)) holds.leaves
 
   module _ (event : NodeEvent) (old : NodeState) (sent : EventFits event.event) (at : IsAt run old) where
     abbrev next : PlacementState
@@ -64,16 +65,16 @@ module _ (run : List RunEvent) where
     more : (payloads : List (List ℕ)) → AreOfRun run payloads → AreOfRun (with_step run event) (payloads ++ payloads_of es)
     more payloads reads = of_run_push run (Stepped event.event event.now) payloads es_fit reads
 
-    either : (payloads : List (List ℕ)) (payload : List ℕ) → payloads_of es ≡ payload ∷ [] → AreOfRun run payloads → (r : Result (List (List ℕ)) ℕ) → IsEither payloads (payloads ++ payload ∷ []) r → LeftByEither run (with_step run event) r
-    either payloads payload one reads r (inl is) = inl (payloads, is, reads)
-    either payloads payload one reads r (inr is) = inr (payloads ++ payload ∷ [], is, subst (λ (ps : List (List ℕ)). AreOfRun (with_step run event) (payloads ++ ps)) one (more payloads reads))
+    either : (held : Image) (payload : List ℕ) → payloads_of es ≡ payload ∷ [] → AreOfRun run held.payloads → (r : Result Image ℕ) → IsEither held (with_payload payload held) r → LeftByEither run (with_step run event) r
+    either held payload one reads r (inl is) = inl (held, is, reads)
+    either held payload one reads r (inr is) = inr (with_payload payload held, is, subst (λ (ps : List (List ℕ)). AreOfRun (with_step run event) (held.payloads ++ ps)) one (more held.payloads reads))
 
     -- at each moment of an append
     appends : (payload : List ℕ) (new : JournalState) → payloads_of es ≡ payload ∷ [] → Tells (Commits payload) (told old.journal) (told new) → Tells (SinceOpened (LeftByEither run (with_step run event))) (told old.journal) (told new)
     appends payload new one commits = tells_map_at (Commits payload) (SinceOpened (LeftByEither run (with_step run event))) (told old.journal) (told new)
         (λ f g is commit.
         let held = at.holds f is in
-        since_opened_weaker (IsEither held.0 (held.0 ++ payload ∷ [])) (LeftByEither run (with_step run event)) f.first f.second g.first g.second (either held.0 payload one held.2) (commit held.0 held.1))
+        since_opened_weaker (IsEither held.0 (with_payload payload held.0)) (LeftByEither run (with_step run event)) f.first f.second g.first g.second (either held.0 payload one held.2) (commit held.0 held.1))
         commits
 
     -- where nothing was written
@@ -96,7 +97,7 @@ module _ (run : List RunEvent) where
     done_at : (reply : NodeReply) (new : NodeState) → Steps old event reply new → IsAt (with_step run event) new × Tells (SinceOpened (LeftByEither run (with_step run event))) (told old.journal) (told new.journal)
     done_at reply new steps = go (payloads_of es) refl (subst (λ (ps : List (List ℕ)). Appended ps (Ok tt) old.journal new.journal) written_is steps.written)
       where
-        at_next : new.journal.is_broken ≡ false → ((files : Files) → told new.journal ≡ Some files → (payloads : List (List ℕ)) × Holds payloads files × AreOfRun (with_step run event) payloads) → IsAt (with_step run event) new
+        at_next : new.journal.is_broken ≡ false → ((files : Files) → told new.journal ≡ Some files → (held : Image) × Holds held files × AreOfRun (with_step run event) held.payloads) → IsAt (with_step run event) new
         at_next whole holds = record { works = whole; state = steps.state ∙ next_is; fits = fits_push run event at.fits sent; rooms = steps.rooms; holds = holds }
 
         taken : (payload : List ℕ) → AppendMoves payload (Ok tt) old.journal new.journal → new.journal.is_broken ≡ false
@@ -111,7 +112,7 @@ module _ (run : List RunEvent) where
           at_next (ap (λ (j : JournalState). j.is_broken) same ∙ at.works)
               (λ files is.
               let held = at.holds files (ap told (sym same) ∙ is) in
-              (held.0, held.1, subst (AreOfRun (with_step run event)) (ap (λ (ps : List (List ℕ)). held.0 ++ ps) one ∙ append-nil held.0) (more held.0 held.2))),
+              (held.0, held.1, subst (AreOfRun (with_step run event)) (ap (λ (ps : List (List ℕ)). held.0.payloads ++ ps) one ∙ append-nil held.0.payloads) (more held.0.payloads held.2))),
           rests new.journal same,
         )
         go (payload ∷ others) one moves =
@@ -120,7 +121,7 @@ module _ (run : List RunEvent) where
                   (λ files is.
                   let before = told_before (Committed payload) (told old.journal) (told new.journal) files moves.done is in
                   let held = at.holds before.0 before.1 in
-                  (held.0 ++ payload ∷ [], before.2 held.0 held.1, subst (λ (ps : List (List ℕ)). AreOfRun (with_step run event) (held.0 ++ ps)) just (more held.0 held.2))),
+                  (with_payload payload held.0, before.2 held.0 held.1, subst (λ (ps : List (List ℕ)). AreOfRun (with_step run event) (held.0.payloads ++ ps)) just (more held.0.payloads held.2))),
               appends payload new.journal just moves.crash,
             )
 

@@ -7,6 +7,7 @@ use Rattle.placement_core.specs.Placement.{SpaceRoom, PlacementState, new_placem
 use Rattle.placement_core.proofs.Ordered.{run_ordered}
 use Rattle.placement_node.specs.declared.error.PlacementOpenError.{PlacementOpenError}
 use Rattle.placement_node.specs.Found.{all_found, restart_entries, restart_payloads}
+use Rattle.placement_node.specs.Openings.{with_restart_record}
 use Rattle.placement_node.specs.Records.{payloads_of}
 use Rattle.placement_node.specs.Runs.{reached, with_restart, RunFits, AreOfRun, OpensAtEnd}
 use Rattle.placement_node.proofs.Laws.{run_fits}
@@ -36,10 +37,10 @@ fits_restart (Restarts at ∷ run) now fits = fits_restart run now fits
 pub opens_at_end : Restores → OpensAtEnd
 opens_at_end restored run create now n files fits rooms whole of_run tells =
     let opened = tells.2 in
-    let payloads = opened.0 in
-    let reads = of_run payloads opened.1 in
+    let found = opened.0 in
+    let reads = of_run found opened.1 in
     let next = state_push new_placement run (Restarts now) in
-    let both : Ok n.state ≡ Ok (placement_restarted (reached run) now) = sym opened.2 ∙ found_run restored run payloads now reads in
+    let both : Ok n.state ≡ Ok (placement_restarted (reached run) now) = sym opened.2 ∙ found_run restored run found.payloads now reads in
     let state : n.state ≡ placement_restarted (reached run) now = cc in
     record {
       works = whole;
@@ -49,5 +50,5 @@ opens_at_end restored run create now n files fits rooms whole of_run tells =
       holds = λ later is.
           let same : Some tells.0 ≡ Some later = sym tells.1 ∙ is in
           let here : tells.0 ≡ later = cc in
-          (payloads ++ restart_payloads payloads now, subst (Holds (payloads ++ restart_payloads payloads now)) here opened.3, restart_pushed restored run payloads now fits reads);
+          (with_restart_record now found, subst (Holds (with_restart_record now found)) here opened.3, restart_pushed restored run found.payloads now fits reads);
     }

@@ -7,6 +7,7 @@ use Rattle.std.proofs.lemmas.List.{append-nil, length-map}
 use Rattle.wire_fields.specs.Fields.{AllFit, number16, in_any_order}
 use Rattle.placement_payloads.specs.Payloads.{Entry, entry, entries, payload}
 use Rattle.placement_payloads.proofs.PayloadLaws.{reads_payload}
+use Rattle.tx_journal.specs.File.{Image}
 use Rattle.round_core.specs.Runs.{RunEvent}
 use Rattle.placement_core.specs.Entries.{EntryOf}
 use Rattle.placement_core.specs.Placement.{SpaceRoom, PlacementState, new_placement, placement_restarted}
@@ -124,5 +125,5 @@ found_run restored run payloads now reads =
     let rooms = run_found restored run payloads reads in
     ap (λ (r : Result (List SpaceRoom) PlacementOpenError). found.restarted_of r now) rooms.1 ∙ ap (λ (s : PlacementState). Ok s) (rooms_restarted restored run rooms.0 now rooms.2)
 
-pub opens_run : Restores → (run : List RunEvent) (payloads : List (List ℕ)) → AreOfRun run payloads → OpensAs (reached run) (Ok payloads)
-opens_run restored run payloads reads = (payloads, refl, λ now. found_run restored run payloads now reads)
+pub opens_run : Restores → (run : List RunEvent) (held : Image) → AreOfRun run held.payloads → OpensAs (reached run) (Ok held)
+opens_run restored run held reads = (held, refl, λ now. found_run restored run held.payloads now reads)

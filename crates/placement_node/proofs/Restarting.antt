@@ -8,7 +8,7 @@ use Rattle.disk_model.proofs.Moments.{later_then, later_weaker}
 use Rattle.disk_model.proofs.Stages.{Then, Both, tells_on, tells_then, tells_both, tells_map, tells_map_at, tells_same}
 use Rattle.tx_journal.specs.declared.error.JournalError.{JournalError}
 use Rattle.tx_journal.specs.declared.error.JournalError.TheVariants as faults
-use Rattle.tx_journal.specs.File.{most_bytes, longest}
+use Rattle.tx_journal.specs.File.{Image, image, most_bytes, longest}
 use Rattle.tx_journal.specs.Journal.{Rises, IsOpenError}
 use Rattle.tx_journal.specs.Pair.{Files, Holds, IsJust, IsEither, ReadsAs, SinceOpened}
 use Rattle.tx_journal.proofs.Claims.{leaves_weaker, opened_here}
@@ -22,7 +22,7 @@ use Rattle.placement_node.specs.declared.error.PlacementOpenError.TheVariants.{J
 use Rattle.placement_node.specs.declared.written.Kept.{Kept}
 use Rattle.placement_node.specs.declared.written.Kept.TheVariants.{Done, NoMemory, NoRoom, Failed}
 use Rattle.placement_node.specs.Found.{after_record, after_payload, go_on, first_offset, rooms_found, all_found, restarted_of, restart_entries, placement_found, restart_payloads, IsFault, IsPayloadError}
-use Rattle.placement_node.specs.Openings.{Finds, OpensNode, MayBeLeftBy, KeepsNode, RefusesNode, IsNodeError, CommitsRestart, CommittedRestart, RefusesRestart, NodeCosts, write_error}
+use Rattle.placement_node.specs.Openings.{Finds, with_restart_record, OpensNode, MayBeLeftBy, KeepsNode, RefusesNode, IsNodeError, CommitsRestart, CommittedRestart, RefusesRestart, NodeCosts, write_error}
 use Rattle.placement_node.specs.Records.{payload_of, payloads_of, record_in}
 use Rattle.placement_node.specs.Writes.{AllWritten}
 use Rattle.placement_node.proofs.Reading.{told_alone}
@@ -30,33 +30,33 @@ use Rattle.placement_node.proofs.Reading.{told_alone}
 -- ---- the record of a restart
 
 -- nothing was written
-since_held : (payloads others : List (List ℕ)) (files : Files) → Holds payloads files → SinceOpened (IsEither payloads others) files files
-since_held payloads others files holds = opened_here (IsEither payloads others) files.first files.second (leaves_weaker (IsJust payloads) (IsEither payloads others) files.first files.second (λ r is. inl is) holds.leaves)
+since_held : (held other : Image) (files : Files) → Holds held files → SinceOpened (IsEither held other) files files
+since_held held other files holds = opened_here (IsEither held other) files.first files.second (leaves_weaker (IsJust held) (IsEither held other) files.first files.second (λ r is. inl is) holds.leaves)
 
 pub rests : (now : ℕ) (old new : JournalState) → told new ≡ told old → Tells (CommitsRestart now) (told old) (told new)
-rests now old new same = tells_same (CommitsRestart now) (told old) (told new) (λ files payloads holds. since_held payloads (payloads ++ restart_payloads payloads now) files holds) same
+rests now old new same = tells_same (CommitsRestart now) (told old) (told new) (λ files held holds. since_held held (with_restart_record now held) files holds) same
 
 -- what the restart has to write is this record
 abbrev pub RestartIs : ℕ → List EntryOf → JournalState → Type 0
-RestartIs now recent old = (files : Files) → told old ≡ Some files → (payloads : List (List ℕ)) → Holds payloads files → restart_payloads payloads now ≡ payloads_of recent
+RestartIs now recent old = (files : Files) → told old ≡ Some files → (held : Image) → Holds held files → restart_payloads held.payloads now ≡ payloads_of recent
 
 pub commits_done : (now : ℕ) (recent : List EntryOf) (old new : JournalState) → RestartIs now recent old → AllWritten (payloads_of recent) Done old new → Tells (CommitsRestart now) (told old) (told new)
 commits_done now [] old new is written = rests now old new (ap told written)
 commits_done now (e ∷ es) old new is written = tells_map_at (Commits (payload_of (e ∷ es))) (CommitsRestart now) (told old) (told new)
-    (λ f g at commits payloads holds. subst (λ (ps : List (List ℕ)). SinceOpened (IsEither payloads (payloads ++ ps)) f g) (sym (is f at payloads holds)) (commits payloads holds))
+    (λ f g at commits held holds. subst (λ (ps : List (List ℕ)). SinceOpened (IsEither held (image held.format (held.payloads ++ ps))) f g) (sym (is f at held holds)) (commits held holds))
     written.crash
 
 pub commits_failed : (now : ℕ) (recent : List EntryOf) (old new : JournalState) → RestartIs now recent old → AllWritten (payloads_of recent) Failed old new → Tells (CommitsRestart now) (told old) (told new)
 commits_failed now recent old new is written = tells_map_at (Commits written.0) (CommitsRestart now) (told old) (told new)
-    (λ f g at commits payloads holds. subst (λ (ps : List (List ℕ)). SinceOpened (IsEither payloads (payloads ++ ps)) f g) (sym (is f at payloads holds ∙ written.1)) (commits payloads holds))
+    (λ f g at commits held holds. subst (λ (ps : List (List ℕ)). SinceOpened (IsEither held (image held.format (held.payloads ++ ps))) f g) (sym (is f at held holds ∙ written.1)) (commits held holds))
     written.2.crash
 
 pub committed_done : (now : ℕ) (recent : List EntryOf) (old new : JournalState) → RestartIs now recent old → AllWritten (payloads_of recent) Done old new → Tells (CommittedRestart now) (told old) (told new)
 committed_done now [] old new is written = tells_map_at (λ f g. f ≡ g) (CommittedRestart now) (told old) (told new)
-    (λ f g at same payloads holds. subst (λ (ps : List (List ℕ)). Holds (payloads ++ ps) g) (sym (is f at payloads holds)) (subst (λ (ps : List (List ℕ)). Holds ps g) (sym (append-nil payloads)) (subst (Holds payloads) same holds)))
+    (λ f g at same held holds. subst (λ (ps : List (List ℕ)). Holds (image held.format (held.payloads ++ ps)) g) (sym (is f at held holds)) (subst (λ (ps : List (List ℕ)). Holds (image held.format ps) g) (sym (append-nil held.payloads)) (subst (Holds held) same holds)))
     (tells_same (λ f g. f ≡ g) (told old) (told new) (λ f. refl) (ap told written))
 committed_done now (e ∷ es) old new is written = tells_map_at (Committed (payload_of (e ∷ es))) (CommittedRestart now) (told old) (told new)
-    (λ f g at committed payloads holds. subst (λ (ps : List (List ℕ)). Holds (payloads ++ ps) g) (sym (is f at payloads holds)) (committed payloads holds))
+    (λ f g at committed held holds. subst (λ (ps : List (List ℕ)). Holds (image held.format (held.payloads ++ ps)) g) (sym (is f at held holds)) (committed held holds))
     written.done
 
 -- ---- what was found in the payloads
@@ -113,13 +113,13 @@ full_refusal j payload len is =
     (ltb-true most_bytes (j.end + 5 + length payload) full.0, full.1)
 
 module _ (now : ℕ) (old mid new : JournalState) (start rooms : List SpaceRoom) (recent : List EntryOf)
-    (begins : start ≡ new_placement.rooms) (found : (files : Files) → told old ≡ Some files → (payloads : List (List ℕ)) → Holds payloads files → rooms_found 0 first_offset start payloads ≡ Ok rooms)
+    (begins : start ≡ new_placement.rooms) (found : (files : Files) → told old ≡ Some files → (held : Image) → Holds held files → rooms_found 0 first_offset start held.payloads ≡ Ok rooms)
     (recent_is : recent ≡ placement_restart_record (record { rooms = rooms }) now) (here : told mid ≡ told old) where
-  pub all_are : (files : Files) → told old ≡ Some files → (payloads : List (List ℕ)) → Holds payloads files → all_found payloads ≡ Ok rooms
-  all_are files is payloads holds = ap (λ (s : List SpaceRoom). rooms_found 0 first_offset s payloads) (sym begins) ∙ found files is payloads holds
+  pub all_are : (files : Files) → told old ≡ Some files → (held : Image) → Holds held files → all_found held.payloads ≡ Ok rooms
+  all_are files is held holds = ap (λ (s : List SpaceRoom). rooms_found 0 first_offset s held.payloads) (sym begins) ∙ found files is held holds
 
   record_is : RestartIs now recent mid
-  record_is files is payloads holds = ap payloads_of (ap (λ (r : Result (List SpaceRoom) PlacementOpenError). restart_entries r now) (all_are files (sym here ∙ is) payloads holds) ∙ sym recent_is)
+  record_is files is held holds = ap payloads_of (ap (λ (r : Result (List SpaceRoom) PlacementOpenError). restart_entries r now) (all_are files (sym here ∙ is) held holds) ∙ sym recent_is)
 
   commits_by : (kept : Kept) → AllWritten (payloads_of recent) kept mid new → Tells (CommitsRestart now) (told mid) (told new)
   commits_by Done written = commits_done now recent mid new record_is written
@@ -140,22 +140,22 @@ module _ (now : ℕ) (old mid new : JournalState) (start rooms : List SpaceRoom)
   restart_committed kept u is written = subst (λ (x : Option Files). Tells (CommittedRestart now) x (told new)) here (committed_by kept u is written)
 
   abbrev Refused : PlacementOpenError → Type 0
-  Refused e = IsNodeError e × ((files : Files) → told old ≡ Some files → (payloads : List (List ℕ)) → Holds payloads files → RefusesRestart now e payloads)
+  Refused e = IsNodeError e × ((files : Files) → told old ≡ Some files → (held : Image) → Holds held files → RefusesRestart now e held.payloads)
 
   no_room : (len : ℕ) → AllWritten (payloads_of recent) (NoRoom len) mid new → IsMeasured mid → mid.is_broken ≡ false → Refused (Journal (faults.Full len))
   no_room len written measured whole =
       let full = full_refusal mid written.0 len written.2 in (
         tt,
-        λ files is payloads holds.
+        λ files is held holds.
             let at : told mid ≡ Some files = here ∙ is in
-            (written.0, record_is files at payloads holds ∙ written.1, sym full.1 ∙ measured whole files at payloads holds, subst (λ (n : ℕ). most_bytes < n + 5 + length written.0) full.1 full.0),
+            (written.0, record_is files at held holds ∙ written.1, sym full.1 ∙ measured whole files at held holds, subst (λ (n : ℕ). most_bytes < n + 5 + length written.0) full.1 full.0),
       )
 
   pub restart_unwritten : (kept : Kept) (e : PlacementOpenError) → write_error kept ≡ Err e → AllWritten (payloads_of recent) kept mid new → IsMeasured mid → mid.is_broken ≡ false → Refused e
   restart_unwritten Done e is written measured whole = absurd (let no : Ok tt ≡ Err e = is in cc)
-  restart_unwritten NoMemory e is written measured whole = let same : Journal faults.OutOfMemory ≡ e = cc in subst Refused same (tt, λ files is payloads holds. tt)
+  restart_unwritten NoMemory e is written measured whole = let same : Journal faults.OutOfMemory ≡ e = cc in subst Refused same (tt, λ files is held holds. tt)
   restart_unwritten (NoRoom len) e is written measured whole = let same : Journal (faults.Full len) ≡ e = cc in subst Refused same (no_room len written measured whole)
-  restart_unwritten Failed e is written measured whole = let same : Journal faults.DiskFault ≡ e = cc in subst Refused same (tt, λ files is payloads holds. tt)
+  restart_unwritten Failed e is written measured whole = let same : Journal faults.DiskFault ≡ e = cc in subst Refused same (tt, λ files is held holds. tt)
 
 -- ---- the opening
 
@@ -173,7 +173,7 @@ keeps_in create now d None e None f None alone opened keeps commits =
     let old : Files = record { first = d; second = None } in
     later_then (λ x. MayBeLeftBy create now old x None) d e f
     (later_weaker (λ x. MayBeLeftIn (is_making create d None) d None x None) (λ x. MayBeLeftBy create now old x None) d e (λ x left. inl left) keeps)
-    (later_weaker (ReadsAs (IsEither opened.0 (opened.0 ++ restart_payloads opened.0 now)) One) (λ x. MayBeLeftBy create now old x None) e f (λ x reads. inr (opened.0, opened.1, reads)) (commits opened.0 opened.2).later)
+    (later_weaker (ReadsAs (IsEither opened.0 (with_restart_record now opened.0)) One) (λ x. MayBeLeftBy create now old x None) e f (λ x reads. inr (opened.0, opened.1, reads)) (commits opened.0 opened.2).later)
 
 -- what a crash leaves of an opening that read the journal
 pub keeps_node : (create : Bool) (now : ℕ) (a : Option DiskState) (b c : Option Files) → Tells (OpensFiles create) (tell_one a) b → Tells (KeepsFiles create) (tell_one a) b → Tells (CommitsRestart now) b c → Tells (KeepsNode create now) (tell_one a) c
@@ -193,7 +193,7 @@ left_in create now d None e None alone keeps =
 pub keeps_refused : (create : Bool) (now : ℕ) (a : Option DiskState) (b : Option Files) → Tells (KeepsFiles create) (tell_one a) b → Tells (KeepsNode create now) (tell_one a) b
 keeps_refused create now a b keeps = tells_map_at (KeepsFiles create) (KeepsNode create now) (tell_one a) b (λ d e at kept. left_in create now d.first d.second e.first e.second (alone_second a d at) kept) keeps
 
-pub opens_node : (create : Bool) (now : ℕ) (s : PlacementState) (a : Option DiskState) (b c : Option Files) → Tells (OpensFiles create) (tell_one a) b → ((files : Files) → b ≡ Some files → (payloads : List (List ℕ)) → Holds payloads files → placement_found payloads now ≡ Ok s) → Tells (CommittedRestart now) b c → Tells (OpensNode create now s) (tell_one a) c
+pub opens_node : (create : Bool) (now : ℕ) (s : PlacementState) (a : Option DiskState) (b c : Option Files) → Tells (OpensFiles create) (tell_one a) b → ((files : Files) → b ≡ Some files → (held : Image) → Holds held files → placement_found held.payloads now ≡ Ok s) → Tells (CommittedRestart now) b c → Tells (OpensNode create now s) (tell_one a) c
 opens_node create now s a b c opened found committed =
     tells_map (Then (Both (OpensFiles create) (λ f g. b ≡ Some g)) (CommittedRestart now)) (OpensNode create now s) (tell_one a) c
     (λ d f calls. (calls.1.0.0, calls.1.0.1, found calls.0 calls.1.1 calls.1.0.0 calls.1.0.2, calls.2 calls.1.0.0 calls.1.0.2, calls.1.0.3))
@@ -227,19 +227,19 @@ journal_refused create now faults.OneDisk files refuses = refuses
 journal_refused create now (faults.Spent count) files refuses = refuses
 journal_refused create now faults.OutOfMemory files refuses = tt
 
-restart_cause : (create : Bool) (now : ℕ) (e : PlacementOpenError) (files : Files) (payloads : List (List ℕ)) → Finds create files payloads → RefusesRestart now e payloads → RefusesNode create now e files
-restart_cause create now (BadRecord index offset) files payloads finds refuses = (payloads, finds, refuses)
-restart_cause create now (Journal faults.DiskFault) files payloads finds refuses = tt
-restart_cause create now (Journal (faults.Damaged offset)) files payloads finds refuses = inr (payloads, finds, refuses)
-restart_cause create now (Journal (faults.TooLong n)) files payloads finds refuses = refuses
-restart_cause create now (Journal (faults.Full len)) files payloads finds refuses = inr (payloads, refuses.0, finds, refuses.1, refuses.2, refuses.3)
-restart_cause create now (Journal faults.Reopen) files payloads finds refuses = refuses
-restart_cause create now (Journal faults.NotStarted) files payloads finds refuses = refuses
-restart_cause create now (Journal faults.OneDisk) files payloads finds refuses = refuses
-restart_cause create now (Journal (faults.Spent count)) files payloads finds refuses = refuses
-restart_cause create now (Journal faults.OutOfMemory) files payloads finds refuses = tt
+restart_cause : (create : Bool) (now : ℕ) (e : PlacementOpenError) (files : Files) (found : Image) → Finds create files found → RefusesRestart now e found.payloads → RefusesNode create now e files
+restart_cause create now (BadRecord index offset) files found finds refuses = (found, finds, refuses)
+restart_cause create now (Journal faults.DiskFault) files found finds refuses = tt
+restart_cause create now (Journal (faults.Damaged offset)) files found finds refuses = inr (found, finds, refuses)
+restart_cause create now (Journal (faults.TooLong n)) files found finds refuses = refuses
+restart_cause create now (Journal (faults.Full len)) files found finds refuses = inr (found, refuses.0, finds, refuses.1, refuses.2, refuses.3)
+restart_cause create now (Journal faults.Reopen) files found finds refuses = refuses
+restart_cause create now (Journal faults.NotStarted) files found finds refuses = refuses
+restart_cause create now (Journal faults.OneDisk) files found finds refuses = refuses
+restart_cause create now (Journal (faults.Spent count)) files found finds refuses = refuses
+restart_cause create now (Journal faults.OutOfMemory) files found finds refuses = tt
 
-pub restart_refused : (create : Bool) (now : ℕ) (e : PlacementOpenError) (a : Option DiskState) (b : Option Files) → Tells (OpensFiles create) (tell_one a) b → ((files : Files) → b ≡ Some files → (payloads : List (List ℕ)) → Holds payloads files → RefusesRestart now e payloads) → (files : Files) → tell_one a ≡ Some files → RefusesNode create now e files
+pub restart_refused : (create : Bool) (now : ℕ) (e : PlacementOpenError) (a : Option DiskState) (b : Option Files) → Tells (OpensFiles create) (tell_one a) b → ((files : Files) → b ≡ Some files → (held : Image) → Holds held files → RefusesRestart now e held.payloads) → (files : Files) → tell_one a ≡ Some files → RefusesNode create now e files
 restart_refused create now e a b opened refuses files is =
     let mid = tells_on (OpensFiles create) (tell_one a) b files opened is in
     restart_cause create now e files mid.2.0 mid.2.1 (refuses mid.0 mid.1 mid.2.0 mid.2.2)

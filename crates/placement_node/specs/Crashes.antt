@@ -4,7 +4,7 @@ use Rattle.disk_model.specs.Disk.{Tells, MayLeave}
 use Rattle.tx_journal.specs.declared.error.JournalError.TheVariants as faults
 use Rattle.tx_journal.specs.declared.format.Format.TheVariants.{One}
 use Rattle.tx_journal.specs.File.{most_bytes}
-use Rattle.tx_journal.specs.Pair.{Files, live_bytes, read_payloads, ReadsAs}
+use Rattle.tx_journal.specs.Pair.{Files, live_bytes, read_files, ReadsAs}
 use Rattle.tx_journal.specs.Calls.{told}
 use Rattle.round_core.specs.Runs.{RunEvent}
 use Rattle.placement_core.specs.Runs.{AreRooms}
@@ -28,13 +28,13 @@ IsShortEnough files = length (live_bytes files.first files.second) ≤ most_byte
 abbrev pub CrashLeaves : Type 0
 CrashLeaves =
     (run maybe : List RunEvent) (n : NodeState) (files left : Files)
-    → Stands run maybe n → told n.journal ≡ Some files → IsLeftOf files left → LeftByEither run maybe (read_payloads left) × IsShortEnough left
+    → Stands run maybe n → told n.journal ≡ Some files → IsLeftOf files left → LeftByEither run maybe (read_files left) × IsShortEnough left
 
 -- a node that is opened on a file of a run's records is at the end of the run with this restart
 abbrev pub OpensAtLeft : Type 0
 OpensAtLeft =
     (run : List RunEvent) (create : Bool) (now : ℕ) (n : NodeState) (files : Files)
-    → RunFits run → LeftBy run (read_payloads files) → AreRooms n.state.rooms → n.journal.is_broken ≡ false
+    → RunFits run → LeftBy run (read_files files) → AreRooms n.state.rooms → n.journal.is_broken ≡ false
     → Tells (OpensNode create now n.state) (Some files) (told n.journal) → IsAt (with_restart run now) n
 
 -- why such a file may be refused all the same: by the disk, by want of memory, or if the record of the restart has no
@@ -54,11 +54,11 @@ MayRefuse create now (BadRecord index offset) files = ⊥
 abbrev pub RefusesLeft : Type 0
 RefusesLeft =
     (run : List RunEvent) (create : Bool) (now : ℕ) (e : PlacementOpenError) (files : Files)
-    → LeftBy run (read_payloads files) → IsShortEnough files → RefusesNode create now e files → MayRefuse create now e files
+    → LeftBy run (read_files files) → IsShortEnough files → RefusesNode create now e files → MayRefuse create now e files
 
 -- a crash in the opening of such a file leaves the records of the run, with this restart or without it
 abbrev pub OpeningLeaves : Type 0
 OpeningLeaves =
     (run : List RunEvent) (create : Bool) (now : ℕ) (files : Files) (left : List ℕ)
-    → files.second ≡ None → RunFits run → LeftBy run (read_payloads files) → IsShortEnough files
+    → files.second ≡ None → RunFits run → LeftBy run (read_files files) → IsShortEnough files
     → MayBeLeftBy create now files left None → ReadsAs (LeftByEither run (with_restart run now)) One left

@@ -2,7 +2,7 @@
 use Rattle.std.specs.Prelude.{◌≡◌, ◌<◌, ◌⊎◌, ℕ, ◌+◌, Bool, List, [], ◌∷◌, ◌++◌, length, Option, None, Some, Result, Ok, Err, ◌≤◌}
 use Rattle.tx_journal.specs.declared.error.JournalError.TheVariants as faults
 use Rattle.tx_journal.specs.declared.format.Format.TheVariants.{One}
-use Rattle.tx_journal.specs.File.{most_bytes, file_length}
+use Rattle.tx_journal.specs.File.{most_bytes, file_length, Image, image}
 use Rattle.tx_journal.specs.Journal.{Rises}
 use Rattle.tx_journal.specs.Pair.{Files, live_bytes, ReadsAs, SinceOpened, Holds, IsEither}
 use Rattle.tx_journal.specs.Calls.{is_making, FindsIn, MayBeLeftIn, LaterBoth, RefusesFiles}
@@ -13,19 +13,23 @@ use Rattle.placement_node.specs.declared.written.Kept.{Kept}
 use Rattle.placement_node.specs.declared.written.Kept.TheVariants.{Done, NoMemory, NoRoom, Failed}
 use Rattle.placement_node.specs.Found.{placement_found, restart_payloads}
 
--- the payloads that an opening finds: none if it makes the file
-abbrev pub Finds : Bool → Files → List (List ℕ) → Type 0
-Finds create files payloads = FindsIn (is_making create files.first files.second) files payloads
+-- what an opening finds: no payloads if it makes the file
+abbrev pub Finds : Bool → Files → Image → Type 0
+Finds create files found = FindsIn (is_making create files.first files.second) files found
+
+-- the same with the record of the restart behind it, if there is one
+abbrev pub with_restart_record : ℕ → Image → Image
+with_restart_record now found = image found.format (found.payloads ++ restart_payloads found.payloads now)
 
 -- An opening that is done: the placement is the restart of the records that the file had, and the record of that
 -- restart, if there is one, is on the disk. The file wasn't longer than a journal takes.
 abbrev pub OpensNode : Bool → ℕ → PlacementState → Files → Files → Type 0
-OpensNode create now s old new = (payloads : List (List ℕ)) × Finds create old payloads × (placement_found payloads now ≡ Ok s) × Holds (payloads ++ restart_payloads payloads now) new × (length (live_bytes old.first old.second) ≤ most_bytes)
+OpensNode create now s old new = (found : Image) × Finds create old found × (placement_found found.payloads now ≡ Ok s) × Holds (with_restart_record now found) new × (length (live_bytes old.first old.second) ≤ most_bytes)
 
 -- the file stands for the payloads that were found, or for these and the record of the restart, and is no longer than a
 -- journal takes
 abbrev pub IsRestarting : Bool → ℕ → Files → List ℕ → Type 0
-IsRestarting create now files file = (payloads : List (List ℕ)) × Finds create files payloads × ReadsAs (IsEither payloads (payloads ++ restart_payloads payloads now)) One file
+IsRestarting create now files file = (found : Image) × Finds create files found × ReadsAs (IsEither found (with_restart_record now found)) One file
 
 -- what a crash in the opening leaves: the file as it was, or while it is made one that isn't made or has no records; or
 -- a file of the payloads that were found, with the record of the restart or without it
@@ -39,12 +43,12 @@ KeepsNode create now old new = LaterBoth (MayBeLeftBy create now old) old.first 
 
 -- a payload that was found has no reading, or holds a bad record
 abbrev pub HasFault : Bool → ℕ → PlacementOpenError → Files → Type 0
-HasFault create now e files = (payloads : List (List ℕ)) × Finds create files payloads × (placement_found payloads now ≡ Err e)
+HasFault create now e files = (found : Image) × Finds create files found × (placement_found found.payloads now ≡ Err e)
 
 -- the journal, which has this length, has no room for the record of the restart
 abbrev pub HasNoRoom : Bool → ℕ → ℕ → Files → Type 0
 HasNoRoom create now len files =
-    (payloads : List (List ℕ)) × (payload : List ℕ) × Finds create files payloads × (restart_payloads payloads now ≡ payload ∷ []) × (len ≡ file_length payloads) × (most_bytes < len + 5 + length payload)
+    (found : Image) × (payload : List ℕ) × Finds create files found × (restart_payloads found.payloads now ≡ payload ∷ []) × (len ≡ file_length found.payloads) × (most_bytes < len + 5 + length payload)
 
 -- the cause of a refused opening: structure comes first, then the earliest payload without a reading or with a bad record
 abbrev pub RefusesNode : Bool → ℕ → PlacementOpenError → Files → Type 0
@@ -73,11 +77,11 @@ NodeCosts before after (Err e) = before ≤ after
 -- a restart of a journal's records: whatever a crash leaves at any moment of it stands for the payloads that the journal
 -- held, or for these and the record of the restart
 abbrev pub CommitsRestart : ℕ → Files → Files → Type 0
-CommitsRestart now old new = (payloads : List (List ℕ)) → Holds payloads old → SinceOpened (IsEither payloads (payloads ++ restart_payloads payloads now)) old new
+CommitsRestart now old new = (held : Image) → Holds held old → SinceOpened (IsEither held (with_restart_record now held)) old new
 
 -- once it is done, the journal holds that record too
 abbrev pub CommittedRestart : ℕ → Files → Files → Type 0
-CommittedRestart now old new = (payloads : List (List ℕ)) → Holds payloads old → Holds (payloads ++ restart_payloads payloads now) new
+CommittedRestart now old new = (held : Image) → Holds held old → Holds (with_restart_record now held) new
 
 -- why a journal of these payloads isn't restarted
 abbrev pub RefusesRestart : ℕ → PlacementOpenError → List (List ℕ) → Type 0

@@ -2,6 +2,7 @@
 use Rattle.std.specs.Prelude.{◌≡◌, ◌<◌, ◌≤◌, ◌⊎◌, ℕ, Bool, false, List, [], ◌∷◌, ◌++◌, Option, None, Some, Result, Ok}
 use Rattle.disk_model.specs.Disk.{Tells}
 use Rattle.frame_wire.specs.declared.frame.Frame.TheVariants as frames
+use Rattle.tx_journal.specs.File.{Image}
 use Rattle.tx_journal.specs.Pair.{Files, Claim, Holds, LeavesOpened, SinceOpened}
 use Rattle.tx_journal.specs.Calls.{told}
 use Rattle.round_core.specs.Room.{last_version}
@@ -43,11 +44,11 @@ AreOfRun run payloads = records_in payloads ≡ Some (run_records new_placement 
 
 -- a file of these payloads opens, at any moment, as the restart of this state
 abbrev pub OpensAs : PlacementState → Claim
-OpensAs s r = (payloads : List (List ℕ)) × (r ≡ Ok payloads) × ((now : ℕ) → placement_found payloads now ≡ Ok (placement_restarted s now))
+OpensAs s r = (held : Image) × (r ≡ Ok held) × ((now : ℕ) → placement_found held.payloads now ≡ Ok (placement_restarted s now))
 
 -- the file has the records that this run leaves
 abbrev pub LeftBy : List RunEvent → Claim
-LeftBy run r = (payloads : List (List ℕ)) × (r ≡ Ok payloads) × AreOfRun run payloads
+LeftBy run r = (held : Image) × (r ≡ Ok held) × AreOfRun run held.payloads
 
 -- those of this run or of that one
 abbrev pub LeftByEither : List RunEvent → List RunEvent → Claim
@@ -55,7 +56,7 @@ LeftByEither run other r = LeftBy run r ⊎ LeftBy other r
 
 -- such a file opens, at any moment, as the restart of the state to which the run leads
 abbrev pub OpensLeft : Type 0
-OpensLeft = (run : List RunEvent) (r : Result (List (List ℕ)) ℕ) → LeftBy run r → OpensAs (reached run) r
+OpensLeft = (run : List RunEvent) (r : Result Image ℕ) → LeftBy run r → OpensAs (reached run) r
 
 -- ---- a node at the end of a run
 
@@ -65,7 +66,7 @@ pub record IsAt (run : List RunEvent) (n : NodeState) : Type 0 where
   pub state : n.state ≡ reached run
   pub fits : RunFits run
   pub rooms : AreRooms n.state.rooms
-  pub holds : (files : Files) → told n.journal ≡ Some files → (payloads : List (List ℕ)) × Holds payloads files × AreOfRun run payloads
+  pub holds : (files : Files) → told n.journal ≡ Some files → (held : Image) × Holds held files × AreOfRun run held.payloads
 
 -- What a step does at the end of a run: whatever a crash leaves at any moment of it has the records of the run, with this
 -- step or without it; once the step is done, the node is at the end of the run with this step.
@@ -77,7 +78,7 @@ pub record StepHolds (run : List RunEvent) (event : NodeEvent) (reply : NodeRepl
 abbrev pub OpensAtEnd : Type 0
 OpensAtEnd =
     (run : List RunEvent) (create : Bool) (now : ℕ) (n : NodeState) (files : Files)
-    → RunFits run → AreRooms n.state.rooms → n.journal.is_broken ≡ false → ((payloads : List (List ℕ)) → Finds create files payloads → AreOfRun run payloads)
+    → RunFits run → AreRooms n.state.rooms → n.journal.is_broken ≡ false → ((found : Image) → Finds create files found → AreOfRun run found.payloads)
     → Tells (OpensNode create now n.state) (Some files) (told n.journal) → IsAt (with_restart run now) n
 
 -- a step of a node at the end of a run

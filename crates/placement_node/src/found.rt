@@ -3,6 +3,7 @@ ghost use Rattle.std.specs.Prelude.{◌≡◌, ◌+◌, false, ℕ, List, None, 
 ghost use Rattle.std.specs.List.{AllByRecursion};
 ghost use Rattle.std.specs.declared.result.Result.TheVariants.{Ok};
 ghost use Rattle.tx_journal.specs.Calls.{told};
+ghost use Rattle.tx_journal.specs.File.{Image};
 ghost use Rattle.tx_journal.specs.Pair.{Files, Holds};
 ghost use Rattle.placement_node.specs.Found.{after_payload, rooms_found, first_offset, read_error, IsFault, IsPayloadError};
 ghost use Rattle.placement_node.specs.Openings.{IsNodeError, NodeCosts};
@@ -107,8 +108,8 @@ pub(crate) fn follow_all<D: Disk>(
     requires alone { journal.old.other ≡ None }
     requires fits { RoomsFit replay.old }
     ensures fits { OnOk result (RoomsFit replay.new) }
-    ensures found { OnOk result ((files : Files) → told journal.old ≡ Some files → (payloads : List (List ℕ)) → Holds payloads files → rooms_found 0 first_offset replay.old payloads ≡ Ok replay.new) }
-    ensures refused { IfErr result (λ e. (files : Files) → told journal.old ≡ Some files → (payloads : List (List ℕ)) → Holds payloads files → IsFault e (rooms_found 0 first_offset replay.old payloads)) }
+    ensures found { OnOk result ((files : Files) → told journal.old ≡ Some files → (held : Image) → Holds held files → rooms_found 0 first_offset replay.old held.payloads ≡ Ok replay.new) }
+    ensures refused { IfErr result (λ e. (files : Files) → told journal.old ≡ Some files → (held : Image) → Holds held files → IsFault e (rooms_found 0 first_offset replay.old held.payloads)) }
     ensures same { journal.new ≡ record journal.old { live = record { told = journal.old.live.told; faults = journal.new.live.faults }; is_broken = journal.new.is_broken } }
     ensures works { OnOk result (journal.new.is_broken ≡ false) }
     ensures errors { IfErr result IsNodeError }

@@ -5,6 +5,7 @@ ghost use Rattle.disk_model.specs.Disk.{Tells};
 ghost use Rattle.tx_journal.specs.declared.error.JournalError.TheVariants as faults;
 ghost use Rattle.tx_journal.specs.Calls.{first_side, told, tell_one, IsOpened};
 ghost use Rattle.tx_journal.specs.Journal.{Rises};
+ghost use Rattle.tx_journal.specs.File.{Image};
 ghost use Rattle.tx_journal.specs.Pair.{Files, Holds};
 ghost use Rattle.placement_core.specs.Runs.{AreRooms};
 ghost use Rattle.placement_node.specs.declared.error.PlacementOpenError.TheVariants.{Journal as in_journal};
@@ -80,11 +81,11 @@ fn restart<D: Disk>(
 ) -> Result<Restarted, PlacementOpenError>
     requires works { IsOpened journal.old }
     requires alone { journal.old.other ≡ None }
-    ensures opened { IfOk result (λ r. (files : Files) → told journal.old ≡ Some files → (payloads : List (List ℕ)) → Holds payloads files → placement_found payloads now ≡ Ok r.placement.state) }
+    ensures opened { IfOk result (λ r. (files : Files) → told journal.old ≡ Some files → (held : Image) → Holds held files → placement_found held.payloads now ≡ Ok r.placement.state) }
     ensures fits { IfOk result (λ r. StateFits r.placement.state × AreRooms r.placement.state.rooms) }
     ensures committed { OnOk result (Tells (CommittedRestart now) (told journal.old) (told journal.new)) }
     ensures crash { Tells (CommitsRestart now) (told journal.old) (told journal.new) }
-    ensures refused { IfErr result (λ e. IsNodeError e × ((files : Files) → told journal.old ≡ Some files → (payloads : List (List ℕ)) → Holds payloads files → RefusesRestart now e payloads)) }
+    ensures refused { IfErr result (λ e. IsNodeError e × ((files : Files) → told journal.old ≡ Some files → (held : Image) → Holds held files → RefusesRestart now e held.payloads)) }
     ensures works { OnOk result (IsOpened journal.new) }
     ensures alone { journal.new.other ≡ None }
     ensures cause { NodeCosts journal.old.live.faults journal.new.live.faults result }

@@ -1,25 +1,21 @@
 -- What a store keeps from its opening to its end.
 use Rattle.std.proofs.Common.{◌≡◌, inl, inr, ℕ, Bool, true, false, List, [], ◌∷◌, Option, Some, None, refl, sym, subst}
 use Rattle.disk_model.specs.Disk.{DiskState, Tells}
-use Rattle.step_gate.specs.declared.view.HistoryEntry.{HistoryEntry}
-use Rattle.step_gate.specs.History.{HistoryLeadsTo}
 use Rattle.tx_journal.specs.declared.error.JournalError.{JournalError}
 use Rattle.tx_journal.specs.Calls.{told, tell_both}
 use Rattle.tx_journal.specs.Pair.{Files, LeavesOpened}
 use Rattle.store_tables.specs.Tables.{Tables}
-use Rattle.store_core.specs.declared.events.StoreEvent.{StoreEvent}
-use Rattle.store_core.specs.declared.events.StoreOutcome.{StoreOutcome}
 use Rattle.store_core.specs.Contents.{OpensWith}
 use Rattle.store_core.specs.Store.{StoreState}
-use Rattle.store_core.specs.Events.{Allows}
 use Rattle.store_core.specs.Opens.{OpensStore, KeepsStore, RefusesStore, IsStoreOpenError}
-use Rattle.store_core.specs.Runs.{Entry, Runs, Stands, KeepsAcknowledged, RisksOneCommand}
+use Rattle.store_core.specs.Runs.{Stands, RisksOneCommand}
+use Rattle.fence_rows.specs.Runs.{FencedHistory, Runs, KeepsAcknowledged}
 use Rattle.server_ports.specs.Hosts.{Handed, Hands, nothing_handed, back_with}
 use Rattle.server_ports.proofs.Handed.{hands_nothing, hands_both}
 use Rattle.store_command.specs.declared.command.StoreEnd.{StoreEnd}
 use Rattle.store_command.specs.declared.command.StoreEnd.TheVariants as ends
 use Rattle.store_command.specs.Commands.{second_path}
-use Rattle.store_command.specs.Runs.{entries_of, KeepsAll, ServesStore, sides_told, IsServedEnd, EndsStore, end_of, RefusesPair, RunsPair, RunsFirst, RunsStore, IsUnopened, given_back, first_opened, second_opened}
+use Rattle.store_command.specs.Runs.{KeepsAll, ServesStore, sides_told, IsServedEnd, EndsStore, end_of, RefusesPair, RunsPair, RunsFirst, RunsStore, IsUnopened, given_back, first_opened, second_opened}
 
 -- ---- a store that was just opened
 
@@ -37,16 +33,12 @@ opened_stands create before s opened works = record {
 
 -- ---- from there on
 
-pub runs_of : (old new : StoreState) (h : List (HistoryEntry StoreEvent StoreOutcome)) → HistoryLeadsTo Allows old h new → Runs old (entries_of h) new
-runs_of old new [] leads = sym leads
-runs_of old new (e ∷ es) (mid, moves, rest) = (mid, moves, runs_of mid new es rest)
-
-keeps_all : KeepsAcknowledged → RisksOneCommand → (old new : StoreState) (h : List (HistoryEntry StoreEvent StoreOutcome)) → Stands old.contents old → HistoryLeadsTo Allows old h new → KeepsAll old (entries_of h) new
+pub keeps_all : KeepsAcknowledged → RisksOneCommand → (old new : StoreState) (h : FencedHistory) → Stands old.contents old → Runs old h new → KeepsAll old h new
 keeps_all keeps risks old new h stands leads =
-    let kept = keeps old.contents old new (entries_of h) stands (runs_of old new h leads) in
-    record { contents = kept.1; each = risks old (entries_of h); left = kept.0 }
+    let kept = keeps old.contents old new h stands leads in
+    record { kept = kept; each = risks old kept.given }
 
-pub serves : KeepsAcknowledged → RisksOneCommand → (old new : StoreState) (h : List (HistoryEntry StoreEvent StoreOutcome)) → Stands old.contents old → HistoryLeadsTo Allows old h new → ServesStore old (sides_told new.journal)
+pub serves : KeepsAcknowledged → RisksOneCommand → (old new : StoreState) (h : FencedHistory) → Stands old.contents old → Runs old h new → ServesStore old (sides_told new.journal)
 serves keeps risks old new h stands leads = record { history = h; last = new; leads = leads; keeps = keeps_all keeps risks old new h stands leads; returned = refl }
 
 -- nothing has happened to it
@@ -55,8 +47,8 @@ serves_nothing keeps risks s stands = serves keeps risks s s [] stands refl
 
 -- ---- what was handed back of an open store
 
-pub served_with : KeepsAcknowledged → RisksOneCommand → (s last : StoreState) (h : List (HistoryEntry StoreEvent StoreOutcome)) (end : StoreEnd) (before mid after : Option Handed)
-    → Stands s.contents s → HistoryLeadsTo Allows s h last → IsServedEnd end → mid ≡ before → Hands mid (given_back (sides_told last.journal)) after
+pub served_with : KeepsAcknowledged → RisksOneCommand → (s last : StoreState) (h : FencedHistory) (end : StoreEnd) (before mid after : Option Handed)
+    → Stands s.contents s → Runs s h last → IsServedEnd end → mid ≡ before → Hands mid (given_back (sides_told last.journal)) after
     → (back : List (Option DiskState)) × Hands before (given_back back) after × EndsStore s end back
 served_with keeps risks s last h end before mid after stands leads opened same hands =
     (sides_told last.journal, subst (λ (m : Option Handed). Hands m (given_back (sides_told last.journal)) after) same hands, inl (opened, serves keeps risks s last h stands leads))

@@ -2,38 +2,28 @@
 use Rattle.std.specs.Prelude.{◌≡◌, ◌⊎◌, ℕ, Bool, true, false, List, [], ◌∷◌, Option, None, Some}
 use Rattle.disk_model.specs.Disk.{DiskState, Tells}
 use Rattle.server_ports.specs.Hosts.{Opened, Handed, nothing_handed}
-use Rattle.step_gate.specs.declared.view.HistoryEntry.{HistoryEntry}
-use Rattle.step_gate.specs.History.{HistoryLeadsTo}
-use Rattle.store_tables.specs.Contents.{after_accepted}
 use Rattle.tx_journal.specs.declared.error.JournalError.{JournalError}
 use Rattle.tx_journal.specs.declared.error.JournalError.TheVariants as errors
 use Rattle.tx_journal.specs.Calls.{Side, JournalState, told, tell_both, first_side, second_side}
 use Rattle.tx_journal.specs.Pair.{Files}
-use Rattle.store_core.specs.declared.events.StoreEvent.{StoreEvent}
-use Rattle.store_core.specs.declared.events.StoreOutcome.{StoreOutcome}
 use Rattle.store_core.specs.Store.{StoreState}
-use Rattle.store_core.specs.Events.{Allows}
 use Rattle.store_core.specs.Opens.{OpensStore, KeepsStore, RefusesStore, IsStoreOpenError}
-use Rattle.store_core.specs.Runs.{Entry, Stands, RisksEach, acknowledged, maybe_left}
+use Rattle.store_core.specs.Runs.{RisksEach}
+use Rattle.fence_rows.specs.Runs.{FencedHistory, Runs, Keeps}
 use Rattle.store_command.specs.Commands.{second_path}
 use Rattle.store_command.specs.declared.command.StoreEnd.{StoreEnd}
 use Rattle.store_command.specs.declared.command.StoreEnd.TheVariants as ends
 
 -- ---- a store that was opened
 
--- the entries of a history, as the laws over runs take them
-abbrev pub entries_of : List (HistoryEntry StoreEvent StoreOutcome) → List Entry
-entries_of [] = []
-entries_of (e ∷ es) = (e.event, e.reply) ∷ entries_of es
-
--- What a crash leaves of a store's files while these entries lead from one state to another. The contents are what the
--- acknowledged commands alone lead to. Whatever a crash leaves at any moment of a step opens with the contents before
--- the step, or with those that it is about to leave; at the end with the last contents or, after a fault, perhaps with
--- those of the command that met it.
-pub record KeepsAll (old : StoreState) (entries : List Entry) (new : StoreState) : Type 0 where
-  pub contents : after_accepted (acknowledged entries old.contents) old.contents ≡ Some new.contents
-  pub each : RisksEach old entries
-  pub left : Stands (maybe_left entries old.contents old.contents) new
+-- What a crash leaves of a store's files while these entries of the fenced store lead from one state to another. They are
+-- steps of the store with the commands that the fence gave it, whose acknowledged ones alone lead to the contents, and no
+-- stamp is acknowledged twice; at the end a crash leaves the last contents or, after a fault, perhaps those of the command
+-- that met it. Whatever a crash leaves at any moment of a step of the store opens with the contents before the step, or
+-- with those that it is about to leave; an answer of the fence is no step.
+pub record KeepsAll (old : StoreState) (entries : FencedHistory) (new : StoreState) : Type 0 where
+  pub kept : Keeps old.contents old entries new
+  pub each : RisksEach old kept.given
 
 abbrev pub side_told : Option Side → List (Option DiskState)
 side_told None = []
@@ -43,13 +33,13 @@ side_told (Some side) = side.told ∷ []
 abbrev pub sides_told : JournalState → List (Option DiskState)
 sides_told j = (first_side j).told ∷ side_told (second_side j)
 
--- All that happened to an open store was one legal history of its steps, and its disks were given back as the last step
--- left them.
+-- All that happened to an open store was one legal history of the fenced store's steps, and its disks were given back as
+-- the last step left them.
 pub record ServesStore (s : StoreState) (back : List (Option DiskState)) : Type 0 where
-  pub history : List (HistoryEntry StoreEvent StoreOutcome)
+  pub history : FencedHistory
   pub last : StoreState
-  pub leads : HistoryLeadsTo Allows s history last
-  pub keeps : KeepsAll s (entries_of history) last
+  pub leads : Runs s history last
+  pub keeps : KeepsAll s history last
   pub returned : back ≡ sides_told last.journal
 
 -- a run that has opened its store isn't told as damaged

@@ -3,8 +3,8 @@ ghost use Rattle.std.specs.Prelude.{◌≡◌, ◌<◌, ◌≤◌, ◌+◌, fals
 ghost use Rattle.server_ports.specs.Hosts.{Hands};
 ghost use Rattle.store_command.specs.Runs.{given_back, sides_told};
 
+use fence_rows::Fenced;
 use server_ports::Host;
-use store_core::Store;
 
 /// Gives back two disks, and answers whether one has failed.
 pub(crate) fn give_both<H: Host>(host: &mut H, first: H::Store, second: H::Store) -> bool
@@ -27,7 +27,7 @@ pub(crate) fn give_both<H: Host>(host: &mut H, first: H::Store, second: H::Store
 }
 
 /// Gives back the disks of a store, and answers whether one has failed.
-pub(crate) fn give_back<H: Host>(host: &mut H, store: Store<H::Store>) -> bool
+pub(crate) fn give_back<H: Host>(host: &mut H, store: Fenced<H::Store>) -> bool
     requires { 1 < H.disks_out host.old }
     ensures failed { IsTrue result → H.open_faults host.old < H.open_faults host.new }
     ensures quiet { result ≡ false → H.open_faults host.new ≡ H.open_faults host.old }

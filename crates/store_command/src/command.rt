@@ -10,11 +10,11 @@ use crate::ends::end_of;
 use crate::serving::serve_opened;
 use actor_ports::{Clock, Dial, PortError};
 use command_words::ServerWords;
+use fence_rows::Fenced;
 use server_ports::Host;
 use std::alloc::{AllocError, Global};
 use std::sync::Wait;
 use std::thread::Threads;
-use store_core::Store;
 
 /// How the command ended.
 #[derive(Clone, Copy, Debug, PartialEq, Eq)]
@@ -74,7 +74,7 @@ fn run_both<R: Threads + Wait + Sync, H: Host, N: Dial, K: Clock>(
     ensures bound { result ≡ StoreEnd.Done → AsksAt (place_of words.now.listen) (H.asked host.old) (H.asked host.new) }
     ensures ran { (back : List (Option DiskState)) × Hands (H.handed host.old) (given_back back) (H.handed host.new) × RunsPair words.now.is_new (H.Store.told first) (H.Store.told second) result back }
 {
-    match Store::open(alloc, first, second, words.is_new) {
+    match Fenced::open(alloc, first, second, words.is_new) {
         Ok(store) => serve_opened(rt, alloc, store, words, host, net, clock),
         Err((error, first, second)) => {
             give_both(host, first, second);

@@ -11,11 +11,12 @@ use crate::back::give_back;
 use crate::command::StoreEnd;
 use actor_ports::{Clock, Dial, PortError};
 use command_words::ServerWords;
+use fence_rows::{Fenced, fence_law};
 use server_ports::{Host, ServerEnd};
 use std::alloc::Global;
 use std::sync::Wait;
 use std::thread::Threads;
-use store_core::{Store, store_law};
+use store_core::store_law;
 use store_server::{StoreServed, serve_store};
 
 // How the command ends if the port isn't bound.
@@ -60,7 +61,7 @@ fn ended<H: Host>(host: &mut H, served: StoreServed<H::Store>, port_failed: bool
 fn serve_bound<R: Threads + Wait + Sync, H: Host, N: Dial, K: Clock>(
     rt: &R,
     alloc: Global,
-    store: Store<H::Store>,
+    store: Fenced<H::Store>,
     port: H::Port,
     words: &ServerWords<'_>,
     host: &mut H,
@@ -81,6 +82,7 @@ fn serve_bound<R: Threads + Wait + Sync, H: Host, N: Dial, K: Clock>(
     ensures ran { (back : List (Option DiskState)) × Hands (H.handed host.old) (given_back back) (H.handed host.new) × EndsStore store result back }
 {
     store_law();
+    fence_law();
     let (Ok(net), Ok(clock)) = (net.another(), clock.another()) else {
         host.done_port(port);
         give_back(host, store);
@@ -95,6 +97,7 @@ fn serve_bound<R: Threads + Wait + Sync, H: Host, N: Dial, K: Clock>(
         net,
         words.listen,
         words.sessions,
+        words.connections,
     );
     let port_failed = H::port_failed(&port);
     host.done_port(port);
@@ -108,7 +111,7 @@ fn serve_bound<R: Threads + Wait + Sync, H: Host, N: Dial, K: Clock>(
 pub(crate) fn serve_opened<R: Threads + Wait + Sync, H: Host, N: Dial, K: Clock>(
     rt: &R,
     alloc: Global,
-    store: Store<H::Store>,
+    store: Fenced<H::Store>,
     words: &ServerWords<'_>,
     host: &mut H,
     net: &N,
@@ -127,6 +130,7 @@ pub(crate) fn serve_opened<R: Threads + Wait + Sync, H: Host, N: Dial, K: Clock>
     ensures ran { (back : List (Option DiskState)) × Hands (H.handed host.old) (given_back back) (H.handed host.new) × EndsStore store result back }
 {
     store_law();
+    fence_law();
     match host.bind(&words.listen) {
         Ok(port) => serve_bound(rt, alloc, store, port, words, host, net, clock),
         Err(error) => {

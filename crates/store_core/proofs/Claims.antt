@@ -5,13 +5,14 @@ use Rattle.disk_model.specs.Crash.{LeavesOnly, Since}
 use Rattle.disk_model.proofs.Stages.{Both}
 use Rattle.disk_model.proofs.Moments.{later_here, later_then, since_weaker}
 use Rattle.tx_journal.specs.declared.format.Format.TheVariants.{One, Two}
+use Rattle.tx_journal.specs.File.{Image}
 use Rattle.tx_journal.specs.Pair.{Files, Claim, live_file, ReadsAs, LeavesOpened, SinceBoth, SinceOpened}
 use Rattle.tx_journal.proofs.Claims.{leaves_weaker as both_weaker, since_opened_weaker as since_both_weaker, opened_here}
 
-pub leaves_weaker : (P Q : Claim) (files : Files) → ((r : Result (List (List ℕ)) ℕ) → P r → Q r) → LeavesOpened P files → LeavesOpened Q files
+pub leaves_weaker : (P Q : Claim) (files : Files) → ((r : Result Image ℕ) → P r → Q r) → LeavesOpened P files → LeavesOpened Q files
 leaves_weaker P Q files f leaves = both_weaker P Q files.first files.second f leaves
 
-pub since_opened_weaker : (P Q : Claim) (old new : Files) → ((r : Result (List (List ℕ)) ℕ) → P r → Q r) → SinceOpened P old new → SinceOpened Q old new
+pub since_opened_weaker : (P Q : Claim) (old new : Files) → ((r : Result Image ℕ) → P r → Q r) → SinceOpened P old new → SinceOpened Q old new
 since_opened_weaker P Q old new f since = since_both_weaker P Q old.first old.second new.first new.second f since
 
 -- nothing was done

@@ -7,21 +7,22 @@ use Rattle.store_tables.specs.Tables.{Tables, no_tables}
 use Rattle.store_tables.specs.Rows.{table_rows, Restores, AreInOrder}
 use Rattle.store_payloads.specs.Fits.{TablesFit}
 use Rattle.store_payloads.specs.Payloads.{end_of_moments}
-use Rattle.store_payloads.specs.Laws.{snapshot_payloads, ReadsSnapshot, SpellsToday}
+use Rattle.store_payloads.specs.Laws.{snapshot_payloads, ReadsSnapshot}
 use Rattle.tx_journal.specs.declared.error.JournalError.{JournalError}
 use Rattle.tx_journal.specs.declared.error.JournalError.TheVariants as errors
 use Rattle.tx_journal.specs.Calls.{JournalState, told, is_alone, next_number, is_last, start_refusal, end_refusal, Starts, Turns, HasBegun, Replaces, Replaced, OtherKeeps, OtherRises}
+use Rattle.tx_journal.specs.declared.format.Format.TheVariants.{Two}
+use Rattle.tx_journal.specs.File.{image}
 use Rattle.tx_journal.specs.Calls.{Keeps as KeepsFilesAs, Kept}
 use Rattle.tx_journal.specs.Pair.{IsJust, number, generation_row, is_generation, SinceOpened}
 use Rattle.store_core.specs.declared.events.CompactEnd.{CompactEnd}
 use Rattle.store_core.specs.declared.events.CompactEnd.TheVariants.{Compacted, NotNeeded, Failed, OutOfMemory}
-use Rattle.store_core.specs.Contents.{contents_of, is_old, compacted_payloads, OpensWith}
+use Rattle.store_core.specs.Contents.{contents_of, compacted_payloads, OpensWith}
 use Rattle.store_core.specs.Store.{StoreState, IsConsistent, Leaves}
 use Rattle.store_core.specs.Compacts.{end_by, refused_or, rows_refusal, compact_refusal, Keeps, IsKept, IsCompacted, HasFaulted, EndsAs, Compacts, MayAdd, IsStopped, IsRefused, Misses}
 use Rattle.store_core.proofs.Claims.{leaves_weaker, since_same}
 use Rattle.tx_journal.proofs.Claims.{opened_now}
 use Rattle.store_core.proofs.Stagings.{Beside, since_over, rises_then, keeps_on, kept_on, kept_then, kept_same}
-use Rattle.store_core.proofs.Foldings.{contents-today}
 use Rattle.store_core.proofs.Adding.{paired_on, err_same}
 
 -- what the start of a compaction ensures
@@ -44,12 +45,8 @@ pub record EndEnsures {T : Type 0} (result : Result T JournalError) (old new : J
 generation_is : (n : ℕ) → is_generation (generation_row n) ≡ true
 generation_is n = refl
 
--- they aren't of the first form
-pub compacted_today : (n now : ℕ) (t : Tables) → SpellsToday → now < end_of_moments → TablesFit t → is_old (compacted_payloads n now t) ≡ false
-compacted_today n now t today below fits = today now t below fits
-
-pub compacted_contents : (n now : ℕ) (t : Tables) → SpellsToday → ReadsSnapshot → now < end_of_moments → TablesFit t → Restores (table_rows t) no_tables t → AreInOrder None (table_rows t) → contents_of (compacted_payloads n now t) ≡ Some t
-compacted_contents n now t today reads below fits restores order = contents-today (compacted_payloads n now t) (compacted_today n now t today below fits) ∙ reads now t below fits restores order
+pub compacted_contents : (n now : ℕ) (t : Tables) → ReadsSnapshot → now < end_of_moments → TablesFit t → Restores (table_rows t) no_tables t → AreInOrder None (table_rows t) → contents_of (image Two (compacted_payloads n now t)) ≡ Some t
+compacted_contents n now t reads below fits restores order = reads now t below fits restores order
 
 -- whatever a crash leaves of a journal that holds payloads that lead to these contents
 pub consistent_leaves : (t : Tables) (j : JournalState) → IsConsistent j t → j.is_broken ≡ false → Leaves t (record { contents = t; journal = j })

@@ -10,12 +10,11 @@ use Rattle.frame_wire.specs.Store.{command, command_kind}
 use Rattle.store_tables.specs.Tables.{Tables, Accepted}
 use Rattle.store_tables.specs.Contents.{Timed, outcome_of}
 use Rattle.store_payloads.specs.Payloads.{command_payload, payload_reading}
-use Rattle.store_payloads.specs.FirstForm.{is_first_form}
-use Rattle.store_payloads.specs.declared.payload.PayloadBody.TheVariants.{Command}
-use Rattle.store_payloads.specs.declared.payload.StorePayload.{StorePayload}
 use Rattle.store_payloads.specs.Folds.{Folded, folded, fold_from, start, tables_in}
 use Rattle.store_payloads.specs.Laws.{MayCome, ReadsCommands}
-use Rattle.tx_journal.specs.File.{same_bytes}
+use Rattle.tx_journal.specs.declared.format.Format.{Format}
+use Rattle.tx_journal.specs.declared.format.Format.TheVariants.{Two}
+use Rattle.tx_journal.specs.File.{Image, with_payload, same_bytes}
 use Rattle.tx_journal.specs.Calls.{generation_with}
 use Rattle.tx_journal.specs.Pair.{is_generation, generation_kind, generation_in, first_generation, without_generation}
 use Rattle.store_core.specs.Contents.{contents_of, contents_in, is_old}
@@ -88,20 +87,6 @@ acts c f t after answer reads may is o =
     let there : outcome_of f.tables c ≡ Accepted answer after = ap (λ (x : Tables). outcome_of x c) is ∙ o in
     rw (reads c may, there) refl
 
--- no payload of a command is of the first form
-today : (p : List ℕ) (x : StorePayload) → payload_reading p ≡ Some x → is_first_form (p ∷ []) ≡ false
-today p x is = rw is refl
-
-first-stays : (ps : List (List ℕ)) (p : List ℕ) → is_first_form (p ∷ []) ≡ false → is_first_form ps ≡ false → is_first_form (ps ++ p ∷ []) ≡ false
-first-stays [] p one all = one
-first-stays (x ∷ xs) p one all = all
-
--- the form is that of the payloads before it
-pub old-more : (ps : List (List ℕ)) (c : Timed) → ReadsCommands → MayCome c → is_old ps ≡ false → is_old (ps ++ command_payload c ∷ []) ≡ false
-old-more ps c reads may is =
-    ap is_first_form (without-more ps (command_payload c) (no-generation c))
-    ∙ first-stays (without_generation ps) (command_payload c) (today (command_payload c) (record { now = c.now; body = Command c.command }) (reads c may)) is
-
 contents-on : (ps : List (List ℕ)) (c : Timed) (t after : Tables) (answer : StoreAnswer) → ReadsCommands → MayCome c → contents_in false ps ≡ Some t → outcome_of t c ≡ Accepted answer after → contents_in false (ps ++ command_payload c ∷ []) ≡ Some after
 contents-on ps c t after answer reads may is o =
     let first = folded-in (fold_from false (Some (start (is_some (first_generation ps)))) (without_generation ps)) t is in
@@ -109,12 +94,11 @@ contents-on ps c t after answer reads may is o =
     (ap tables_in (fold-push (Some (start (is_some (first_generation ps)))) (without_generation ps) (command_payload c) first.0 first.1)
     ∙ acts c first.0 t after answer reads may first.2 o)
 
--- payloads that aren't of the first form
-pub contents-today : (ps : List (List ℕ)) → is_old ps ≡ false → contents_of ps ≡ contents_in false ps
-contents-today ps is = ap (λ b. contents_in b ps) is
+-- a file of the second format
+pub contents-today : (held : Image) → held.format ≡ Two → contents_of held ≡ contents_in false held.payloads
+contents-today held two = ap (λ (f : Format). contents_in (is_old f) held.payloads) two
 
 -- the contents after the payload of an accepted command
-pub contents-more : (ps : List (List ℕ)) (c : Timed) (t after : Tables) (answer : StoreAnswer) → ReadsCommands → MayCome c → is_old ps ≡ false → contents_of ps ≡ Some t → outcome_of t c ≡ Accepted answer after → contents_of (ps ++ command_payload c ∷ []) ≡ Some after
-contents-more ps c t after answer reads may today_ is o =
-    contents-today (ps ++ command_payload c ∷ []) (old-more ps c reads may today_)
-    ∙ contents-on ps c t after answer reads may (sym (contents-today ps today_) ∙ is) o
+pub contents-more : (held : Image) (c : Timed) (t after : Tables) (answer : StoreAnswer) → ReadsCommands → MayCome c → held.format ≡ Two → contents_of held ≡ Some t → outcome_of t c ≡ Accepted answer after → contents_of (with_payload (command_payload c) held) ≡ Some after
+contents-more held c t after answer reads may two is o =
+    contents-today (with_payload (command_payload c) held) two ∙ contents-on held.payloads c t after answer reads may (sym (contents-today held two) ∙ is) o

@@ -2,25 +2,25 @@
 use Rattle.std.proofs.Common.{◌≡◌, ◌⊎◌, inl, inr, ℕ, ◌≤◌, Bool, true, false, List, [], take, drop, Option, Some, None, Result, Ok, Err, refl, sym, ap, subst, ◌∙◌}
 use Rattle.std.specs.Prelude.{◌==◌}
 use Rattle.disk_model.specs.Disk.{DiskState, Tells}
-use Rattle.disk_model.proofs.Stages.{Both, Then, tells_on, tells_then, tells_map}
+use Rattle.disk_model.proofs.Stages.{Both, Then, tells_on, tells_then, tells_map, tells_map_at}
 use Rattle.store_tables.specs.Tables.{Tables}
 use Rattle.tx_journal.specs.declared.error.JournalError.{JournalError}
 use Rattle.tx_journal.specs.declared.error.JournalError.TheVariants.{DiskFault, Damaged, TooLong, Full, Reopen, NotStarted, OneDisk, Spent, OutOfMemory}
 use Rattle.tx_journal.specs.declared.format.Format.{Format}
 use Rattle.tx_journal.specs.declared.format.Format.TheVariants.{One, Two}
-use Rattle.tx_journal.specs.File.{name}
+use Rattle.tx_journal.specs.File.{Image, image, name}
 use Rattle.tx_journal.specs.Journal.{Rises}
-use Rattle.tx_journal.specs.Calls.{Side, JournalState, told, tell_both, tell_sides, first_of, second_of, first_side, second_side, is_alone, is_making, next_number, FindsIn, OpensFiles, KeepsFiles, KeepsCount, OtherRises, IsNumbered}
+use Rattle.tx_journal.specs.Calls.{Side, JournalState, told, tell_both, tell_sides, first_of, second_of, first_side, second_side, is_alone, is_making, next_number, FindsIn, HoldsFormat, MakesFormat, OpensFiles, KeepsFiles, KeepsCount, OtherRises}
 use Rattle.tx_journal.specs.Pair.{Files, Holds, first_generation, SinceOpened}
 use Rattle.store_core.specs.Contents.{compacted_payloads, OpensWith}
 use Rattle.store_core.specs.Store.{StoreState}
 use Rattle.store_core.specs.Compacts.{Keeps, IsKept, IsCompacted, HasFaulted}
 use Rattle.store_core.specs.Migrations.{HasNumber, IsNamed, IsRefusedFor, Rewrites}
-use Rattle.store_core.specs.Opens.{OpensStore, RefusesMigration, HasFirstName, IsOfFirstFormat, FindsOld, IsMigrated, WasOld, KeepsStore, IsStoreOpenError, RefusesStore, IsFolded, HasForm}
+use Rattle.store_core.specs.Opens.{OpensStore, RefusesMigration, IsOfFirstFormat, FindsOld, IsMigrated, KeepsStore, IsStoreOpenError, RefusesStore, IsFolded}
 use Rattle.store_core.proofs.Claims.{at_told}
 use Rattle.tx_journal.proofs.Claims.{opened_now}
 use Rattle.store_core.proofs.Opened.{opens-store, opened_tells}
-use Rattle.store_core.proofs.Openings.{rises_from, told_read, folded_told, form_told, number_read}
+use Rattle.store_core.proofs.Openings.{rises_from, told_read, folded_told, number_read}
 
 -- ---- what a compaction leaves
 
@@ -36,45 +36,6 @@ rewrites_keeps (Err Reopen) old new is = absurd is
 rewrites_keeps (Err NotStarted) old new is = absurd is
 rewrites_keeps (Err OneDisk) old new is = absurd is
 rewrites_keeps (Err (Spent count)) old new is = absurd is
-
--- a file of the first format is one of both
-abbrev Found : Files → Type 0
-Found h = HasFirstName (Some h.first) ⊎ HasFirstName h.second
-
-abbrev Named : Option DiskState → Type 0
-Named o = (d : DiskState) → o ≡ Some d → take 7 (drop 1 d.bytes) ≡ name One
-
-both_named : (a b : Option DiskState) (h : Files) → tell_both a b ≡ Some h → Named a ⊎ Named b → Found h
-both_named None b h is names = absurd (let e : None ≡ Some h = is in cc)
-both_named (Some x) None h is names = absurd (let e : None ≡ Some h = is in cc)
-both_named (Some x) (Some y) h is (inl names) = let same : record { first = x; second = Some y } ≡ h = cc in inl (subst (λ (g : Files). HasFirstName (Some g.first)) same (names x refl))
-both_named (Some x) (Some y) h is (inr names) = let same : record { first = x; second = Some y } ≡ h = cc in inr (subst (λ (g : Files). HasFirstName g.second) same (names y refl))
-
-sides_named : (s : Bool) (live : Side) (other : Option Side) (h : Files) → is_alone other ≡ false → tell_sides (first_of s live other) (second_of s live other) ≡ Some h → Named live.told → Found h
-sides_named s live None h paired is names = absurd (let e : true ≡ false = paired in cc)
-sides_named true live (Some x) h paired is names = both_named x.told live.told h is (inr names)
-sides_named false live (Some x) h paired is names = both_named live.told x.told h is (inl names)
-
-turned_named : (s : Bool) (new live : Side) (h : Files) → tell_sides (first_of s new (Some live)) (second_of s new (Some live)) ≡ Some h → Named live.told → Found h
-turned_named true new live h is names = both_named live.told new.told h is (inl names)
-turned_named false new live h is names = both_named new.told live.told h is (inr names)
-
-module _ (old new : StoreState) (paired : is_alone new.journal.other ≡ false) (names : Named old.journal.live.told) (h : Files) (tells : told new.journal ≡ Some h) where
-  kept_named : IsKept old new → Found h
-  kept_named is = sides_named old.journal.is_second_live old.journal.live new.journal.other h paired (sym (ap told is.journal) ∙ tells) names
-
-  -- the live file was of the first format, and is still there
-  pub rewrites_named : {T : Type 0} (r : Result T JournalError) → Rewrites r old new → Found h
-  rewrites_named (Ok x) is = turned_named _ new.journal.live old.journal.live h (sym (ap told is.1.journal) ∙ tells) names
-  rewrites_named (Err DiskFault) is = sides_named old.journal.is_second_live old.journal.live new.journal.other h paired (sym (ap told is.journal) ∙ tells) names
-  rewrites_named (Err (Damaged offset)) is = kept_named is.1
-  rewrites_named (Err (TooLong n)) is = kept_named is.1
-  rewrites_named (Err (Full len)) is = kept_named is.1
-  rewrites_named (Err OutOfMemory) is = kept_named is
-  rewrites_named (Err Reopen) is = absurd is
-  rewrites_named (Err NotStarted) is = absurd is
-  rewrites_named (Err OneDisk) is = absurd is
-  rewrites_named (Err (Spent count)) is = absurd is
 
 -- ---- what an opening leaves that compacts
 
@@ -92,28 +53,20 @@ module _ (create : Bool) (before : Option Files) (t : Tables) (j k : JournalStat
       (λ f h calls. (calls.1.0, opened_now (OpensWith t) calls.0.first calls.0.second h.first h.second calls.2, calls.1.2))
       (tells_then (OpensStore create t) (SinceOpened (OpensWith t)) before (told j) (told k) (opened_tells create before j opens t j refl folded) keeps)
 
-  module _ (crash : Tells (KeepsFiles create) before (told j)) (is_first : Bool) (form : HasForm is_first j) (old : (is_first ≡ true) ⊎ (j.format ≡ One)) (names : j.format ≡ One → (h : Files) → told k ≡ Some h → Found h) where
-    was_old : (f mid h : Files) → OpensFiles create f mid → told j ≡ Some mid → told k ≡ Some h → WasOld create f h
-    was_old f mid h files tells here = go old
-      where
-        go : (is_first ≡ true) ⊎ (j.format ≡ One) → WasOld create f h
-        go (inl first) = inl (files.0, files.1, form mid tells files.0 files.2 ∙ first)
-        go (inr one) = inr (names one h here)
-
+  module _ (crash : Tells (KeepsFiles create) before (told j)) (old : (f mid : Files) → before ≡ Some f → OpensFiles create f mid → told j ≡ Some mid → FindsOld create f) where
     abbrev Reads : Files → Files → Type 0
     Reads = Both (Both (OpensFiles create) (KeepsFiles create)) (λ f g. told j ≡ Some g)
 
     pub migrated_keeps : Tells (KeepsStore create) before (told k)
     migrated_keeps =
-        tells_map (Both (Then Reads (SinceOpened (OpensWith t))) (λ f h. told k ≡ Some h)) (KeepsStore create) before (told k)
-        (λ f h calls.
-        let files = calls.0.1.0.0 in
-        let tells = calls.0.1.1 in
-        inr (was_old f calls.0.0 h files tells calls.1, t, ((opens-store create f calls.0.0 j t tells folded files).0, calls.0.0, calls.0.1.0.1, calls.0.2)))
-        (at_told (Then Reads (SinceOpened (OpensWith t))) before (told k)
+        tells_map_at (Then Reads (SinceOpened (OpensWith t))) (KeepsStore create) before (told k)
+        (λ f h is calls.
+        let files = calls.1.0.0 in
+        let tells = calls.1.1 in
+        inr (old f calls.0 is files tells, t, ((opens-store create f calls.0 j t tells folded files).0, calls.0, calls.1.0.1, calls.2)))
         (tells_then Reads (SinceOpened (OpensWith t)) before (told j) (told k)
         (at_told (Both (OpensFiles create) (KeepsFiles create)) before (told j) (tells_and (OpensFiles create) (KeepsFiles create) before (told j) opens crash))
-        keeps))
+        keeps)
 
 -- the files are as they were read
 pub kept_keeps : (create : Bool) (before after : Option Files) → Tells (KeepsFiles create) before after → Tells (KeepsStore create) before after
@@ -121,38 +74,66 @@ kept_keeps create before after tells = tells_map (KeepsFiles create) (KeepsStore
 
 -- ---- the file that it wrote, and the one that it read
 
-finds_same : (making : Bool) (files : Files) (a b : List (List ℕ)) → FindsIn making files a → FindsIn making files b → a ≡ b
+finds_same : (making : Bool) (files : Files) (a b : Image) → FindsIn making files a → FindsIn making files b → a.payloads ≡ b.payloads
 finds_same true files a b one two = one ∙ sym two
-finds_same false files a b one two = let both : Ok a ≡ Ok b = sym one ∙ two in cc
+finds_same false files a b one two = let both : Ok a ≡ Ok b = sym one ∙ two in let same : a ≡ b = cc in ap (λ (x : Image). x.payloads) same
 
 -- the file that was live is the other one now
 old_other : (old new : StoreState) (rows : ℕ) → IsCompacted 0 rows old new → IsNamed old.journal → old.journal.is_broken ≡ false → old.journal.format ≡ One → IsOfFirstFormat new.journal.other
 old_other old new rows is named works one = subst IsOfFirstFormat (sym (ap (λ (x : JournalState). x.other) is.journal)) (λ d reports. named works d reports ∙ ap name one)
 
-module _ (create : Bool) (before : Option Files) (is_first : Bool) (old : StoreState) (opens : Tells (OpensFiles create) before (told old.journal)) (form : HasForm is_first old.journal) (works : old.journal.is_broken ≡ false) (named : IsNamed old.journal) where
-  why_old : (new : StoreState) (rows : ℕ) → IsCompacted 0 rows old new → (is_first ≡ true) ⊎ (old.journal.format ≡ One) → ((files : Files) → before ≡ Some files → FindsOld create files) ⊎ IsOfFirstFormat new.journal.other
-  why_old new rows is (inl first) = inl (λ files same. let on = tells_on (OpensFiles create) before (told old.journal) files opens same in (on.2.0, on.2.1, form on.0 on.1 on.2.0 on.2.2 ∙ first))
-  why_old new rows is (inr one) = inr (old_other old new rows is named works one)
+-- a journal of the first format wasn't made by its opening, and its live file was of that format
+pub record IsOld (create : Bool) (before : Option Files) (j : JournalState) : Type 0 where
+  pub works : j.is_broken ≡ false
+  pub holds : HoldsFormat j
+  pub made : MakesFormat Two create before j
+  pub one : j.format ≡ One
 
-  pub migrated_is : (new : StoreState) (rows : ℕ) → HasNumber old.journal → (is_first ≡ true) ⊎ (old.journal.format ≡ One) → IsCompacted 0 rows old new → IsMigrated create before new
-  migrated_is new rows has aged is = record {
+-- so no file was made
+not_made : (create : Bool) (before : Option Files) (j : JournalState) (f : Files) → IsOld create before j → before ≡ Some f → is_making create f.first f.second ≡ true → ⊥
+not_made create before j f aged same making = let e : One ≡ Two = sym aged.one ∙ aged.made f same making in cc
+
+pub finds_old : (create : Bool) (before : Option Files) (j : JournalState) → IsOld create before j → (f mid : Files) → before ≡ Some f → OpensFiles create f mid → told j ≡ Some mid → FindsOld create f
+finds_old create before j aged f mid same opens tells = go (is_making create f.first f.second) refl opens.1
+  where
+    go : (b : Bool) → is_making create f.first f.second ≡ b → FindsIn b f opens.0 → FindsOld create f
+    go true making finds = absurd (not_made create before j f aged same making)
+    go false reads finds = (reads, opens.0, finds, aged.holds aged.works mid tells opens.0 opens.2 ∙ aged.one)
+
+module _ (create : Bool) (before : Option Files) (old : StoreState) (opens : Tells (OpensFiles create) before (told old.journal)) (aged : IsOld create before old.journal) (named : IsNamed old.journal) where
+  pub migrated_is : (new : StoreState) (rows : ℕ) → HasNumber old.journal → IsCompacted 0 rows old new → IsMigrated create before new
+  migrated_is new rows has is = record {
     count = next_number old.journal.generation;
     generation = ap (λ (x : JournalState). x.generation) is.journal;
-    above = λ files same payloads finds.
+    above = λ files same found finds.
         let on = tells_on (OpensFiles create) before (told old.journal) files opens same in
         ap next_number (has on.0 on.1 on.2.0 on.2.2)
-        ∙ ap (λ (ps : List (List ℕ)). next_number (first_generation ps)) (finds_same (is_making create files.first files.second) files on.2.0 payloads on.2.1 finds);
-    holds = λ files tells. subst (λ (u : Tables). Holds (compacted_payloads (next_number old.journal.generation) 0 u) files) (sym is.contents) (is.holds files tells);
-    old = why_old new rows is aged;
+        ∙ ap (λ (ps : List (List ℕ)). next_number (first_generation ps)) (finds_same (is_making create files.first files.second) files on.2.0 found on.2.1 finds);
+    holds = λ files tells. subst (λ (u : Tables). Holds (image Two (compacted_payloads (next_number old.journal.generation) 0 u)) files) (sym is.contents) (is.holds files tells);
+    old = λ files same. let on = tells_on (OpensFiles create) before (told old.journal) files opens same in finds_old create before old.journal aged files on.0 same on.2 on.1;
+    other = old_other old new rows is named aged.works aged.one;
   }
 
 -- ---- why it is refused
 
-module _ (create : Bool) (before : Option Files) (old new : StoreState) (opens : Tells (OpensFiles create) before (told old.journal)) (folded : IsFolded old.contents old.journal) (files : Files) (same : before ≡ Some files) where
+module _ (create : Bool) (before : Option Files) (old new : StoreState) (opens : Tells (OpensFiles create) before (told old.journal)) (folded : IsFolded old.contents old.journal) (aged : IsOld create before old.journal) (files : Files) (same : before ≡ Some files) where
+  refusal_on : (e : JournalError) (mid : Files) → told old.journal ≡ Some mid → OpensFiles create files mid → IsRefusedFor e old new → RefusesMigration create e files
+  refusal_on e mid tells reads is = go (is_making create files.first files.second) refl reads.1
+    where
+      go : (b : Bool) → is_making create files.first files.second ≡ b → FindsIn b files reads.0 → RefusesMigration create e files
+      go true making finds = absurd (not_made create before old.journal files aged same making)
+      go false unmade finds = record {
+        reads = unmade;
+        found = reads.0;
+        is = finds;
+        old = aged.holds aged.works mid tells reads.0 reads.2 ∙ aged.one;
+        contents = old.contents;
+        leads = folded mid tells reads.0 reads.2;
+        refused = is.0 mid tells reads.0 reads.2;
+      }
+
   refusal_of : (e : JournalError) → IsRefusedFor e old new → RefusesMigration create e files
-  refusal_of e is =
-      let on = tells_on (OpensFiles create) before (told old.journal) files opens same in
-      (on.2.0, old.contents, on.2.1, folded on.0 on.1 on.2.0 on.2.2, is.0 on.0 on.1 on.2.0 on.2.2)
+  refusal_of e is = let on = tells_on (OpensFiles create) before (told old.journal) files opens same in refusal_on e on.0 on.1 on.2 is
 
   pub migration_refuses : (T : Type 0) (e : JournalError) → Rewrites {T = T} (Err e) old new → RefusesStore create e files
   migration_refuses T DiskFault is = tt
@@ -179,40 +160,35 @@ migration_error T (Spent count) old new is = is
 -- ---- all of an opening that compacts
 
 -- what is known of a journal whose payloads were read
-pub record WasOpened (create : Bool) (before : Option Files) (t : Tables) (is_first : Bool) (j : JournalState) : Type 0 where
+pub record WasOpened (create : Bool) (before : Option Files) (t : Tables) (j : JournalState) : Type 0 where
   pub opens : Tells (OpensFiles create) before (told j)
   pub crash : Tells (KeepsFiles create) before (told j)
   pub folded : IsFolded t j
-  pub form : HasForm is_first j
   pub has : HasNumber j
+  pub made : MakesFormat Two create before j
 
-pub was_opened : (create : Bool) (before : Option Files) (t : Tables) (is_first : Bool) (j k : JournalState) → k ≡ record j { live = record { told = j.live.told; faults = k.live.faults }; is_broken = k.is_broken } → Tells (OpensFiles create) before (told j) → Tells (KeepsFiles create) before (told j) → IsFolded t j → HasForm is_first j → HasNumber j
-    → WasOpened create before t is_first k
-was_opened create before t is_first j k same opens crash folded form has =
+pub was_opened : (create : Bool) (before : Option Files) (t : Tables) (j k : JournalState) → k ≡ record j { live = record { told = j.live.told; faults = k.live.faults }; is_broken = k.is_broken } → Tells (OpensFiles create) before (told j) → Tells (KeepsFiles create) before (told j) → IsFolded t j → HasNumber j → MakesFormat Two create before j
+    → WasOpened create before t k
+was_opened create before t j k same opens crash folded has made =
     let here : told k ≡ told j = told_read j k same in
     record {
       opens = subst (Tells (OpensFiles create) before) (sym here) opens;
       crash = subst (Tells (KeepsFiles create) before) (sym here) crash;
       folded = folded_told t k j (sym here) folded;
-      form = form_told is_first j k here form;
       has = number_read j k same has;
+      made = λ f is making. ap (λ (x : JournalState). x.format) same ∙ made f is making;
     }
 
-module _ (create : Bool) (before : Option Files) (is_first : Bool) (old new : StoreState) (was : WasOpened create before old.contents is_first old.journal) {T : Type 0} (r : Result T JournalError) (is : Rewrites r old new) where
+pub was_old : (create : Bool) (before : Option Files) (t : Tables) (j : JournalState) → WasOpened create before t j → j.is_broken ≡ false → HoldsFormat j → j.format ≡ One → IsOld create before j
+was_old create before t j was works of_ one = record { works = works; holds = of_; made = was.made; one = one }
+
+module _ (create : Bool) (before : Option Files) (old new : StoreState) (was : WasOpened create before old.contents old.journal) {T : Type 0} (r : Result T JournalError) (is : Rewrites r old new) where
   pub rewritten_opens : Tells (OpensStore create old.contents) before (told new.journal)
   rewritten_opens = migrated_opens create before old.contents old.journal new.journal was.opens was.folded (rewrites_keeps r old new is)
 
-  pub rewritten_keeps : is_alone new.journal.other ≡ false → (is_first ≡ true) ⊎ (old.journal.format ≡ One) → old.journal.is_broken ≡ false → IsNamed old.journal → Tells (KeepsStore create) before (told new.journal)
-  rewritten_keeps paired aged works named =
-      migrated_keeps create before old.contents old.journal new.journal was.opens was.folded (rewrites_keeps r old new is) was.crash is_first was.form aged
-      (λ one h tells. rewrites_named old new paired (λ d reports. named works d reports ∙ ap name one) h tells r is)
-
-  -- the file was old
-  pub rewritten_aged : is_alone new.journal.other ≡ false → (is_first ≡ true) ⊎ (old.journal.format ≡ One) → old.journal.is_broken ≡ false → IsNamed old.journal → (f h : Files) → before ≡ Some f → told new.journal ≡ Some h → WasOld create f h
-  rewritten_aged paired aged works named f h same here =
-      let on = tells_on (OpensFiles create) before (told old.journal) f was.opens same in
-      was_old create before old.contents old.journal new.journal was.opens was.folded (rewrites_keeps r old new is) was.crash is_first was.form aged
-      (λ one h tells. rewrites_named old new paired (λ d reports. named works d reports ∙ ap name one) h tells r is) f on.0 h on.2 on.1 here
+  pub rewritten_keeps : IsOld create before old.journal → Tells (KeepsStore create) before (told new.journal)
+  rewritten_keeps aged =
+      migrated_keeps create before old.contents old.journal new.journal was.opens was.folded (rewrites_keeps r old new is) was.crash (finds_old create before old.journal aged)
 
 -- a fault in the other file is one of the first disk or of the second
 pub risen_other : (s : Bool) (live here : Side) (other after : Option Side) (first second : ℕ) (a b : Side) → is_alone other ≡ false → first ≤ (first_of s live other).faults → KeepsCount second (second_of s live other) → OtherRises other after

@@ -7,22 +7,23 @@ use Rattle.store_tables.specs.Tables.{Tables, no_tables}
 use Rattle.store_tables.specs.Rows.{table_rows, Restores, AreInOrder}
 use Rattle.store_payloads.specs.Fits.{TablesFit}
 use Rattle.store_payloads.specs.Payloads.{end_of_moments}
-use Rattle.store_payloads.specs.Laws.{snapshot_payloads, ReadsSnapshot, SpellsToday}
+use Rattle.store_payloads.specs.Laws.{snapshot_payloads, ReadsSnapshot}
 use Rattle.tx_journal.specs.declared.error.JournalError.{JournalError}
 use Rattle.tx_journal.specs.declared.error.JournalError.TheVariants.{DiskFault, Damaged, TooLong, Full, Reopen, NotStarted, OneDisk, Spent, OutOfMemory}
-use Rattle.tx_journal.specs.File.{longest, most_bytes, file_length}
+use Rattle.tx_journal.specs.declared.format.Format.TheVariants.{Two}
+use Rattle.tx_journal.specs.File.{longest, most_bytes, file_length, Image, image}
 use Rattle.tx_journal.specs.Calls.{JournalState, told, is_alone, is_last, row_refusal, start_refusal, next_number, Kept}
 use Rattle.tx_journal.specs.Pair.{Files, Holds, number, first_generation}
 use Rattle.store_core.specs.declared.events.CompactEnd.{CompactEnd}
 use Rattle.store_core.specs.declared.events.CompactEnd.TheVariants as ends
-use Rattle.store_core.specs.Contents.{contents_of, is_old, compacted_payloads}
+use Rattle.store_core.specs.Contents.{contents_of, compacted_payloads}
 use Rattle.store_core.specs.Store.{StoreState, IsConsistent, IsCurrent}
 use Rattle.store_core.specs.Compacts.{refused_or, rows_refusal, compact_refusal, IsKept, IsCompacted, HasFaulted, EndsAs, Compacts}
 use Rattle.store_core.specs.Migrations.{or_damaged, migration_refusal, HasNumber, migration_end, IsRefusedFor, Rewrites}
 use Rattle.store_core.proofs.Accepted.{below_or}
-use Rattle.store_core.proofs.Compacting.{compacted_today, compacted_contents}
+use Rattle.store_core.proofs.Compacting.{compacted_contents}
 
--- ---- payloads of today's form
+-- ---- files of the second format
 
 pub current_consistent : (j : JournalState) (t : Tables) → IsCurrent j t → IsConsistent j t
 current_consistent j t current works files tells = let held = current works files tells in (held.0, held.1, held.2)
@@ -38,14 +39,14 @@ current_on t a b current works kept unbroken files tells =
 current_broken : (t : Tables) (j : JournalState) → j.is_broken ≡ true → IsCurrent j t
 current_broken t j broken works files tells = absurd (let e : true ≡ false = sym broken ∙ works in cc)
 
-module _ (now : ℕ) (old : StoreState) (today : SpellsToday) (reads : ReadsSnapshot) (below : now < end_of_moments) (fits : TablesFit old.contents) (restores : Restores (table_rows old.contents) no_tables old.contents) (order : AreInOrder None (table_rows old.contents)) where
+module _ (now : ℕ) (old : StoreState) (reads : ReadsSnapshot) (below : now < end_of_moments) (fits : TablesFit old.contents) (restores : Restores (table_rows old.contents) no_tables old.contents) (order : AreInOrder None (table_rows old.contents)) where
   -- a compacted file
   pub current_made : (rows : ℕ) (new : StoreState) → IsCompacted now rows old new → IsCurrent new.journal new.contents
   current_made rows new is unbroken files tells = (
-    compacted_payloads (next_number old.journal.generation) now old.contents,
+    image Two (compacted_payloads (next_number old.journal.generation) now old.contents),
     is.holds files tells,
-    compacted_contents (next_number old.journal.generation) now old.contents today reads below fits restores order ∙ ap (λ (t : Tables). Some t) (sym is.contents),
-    compacted_today (next_number old.journal.generation) now old.contents today below fits,
+    compacted_contents (next_number old.journal.generation) now old.contents reads below fits restores order ∙ ap (λ (t : Tables). Some t) (sym is.contents),
+    refl,
   )
 
   current_kept : (new : StoreState) → IsCurrent old.journal old.contents → old.journal.is_broken ≡ false → IsKept old new → IsCurrent new.journal new.contents
@@ -187,7 +188,7 @@ module _ (old : StoreState) (works : old.journal.is_broken ≡ false) (paired : 
   rewrites_made T (Ok x) rows new ok is = (rows, is)
   rewrites_made T (Err e) rows new ok is = absurd (let f : false ≡ true = ok in cc)
 
-  module _ (len : ℕ) (has : HasNumber old.journal) (measured : (files : Files) → told old.journal ≡ Some files → (payloads : List (List ℕ)) → Holds payloads files → len ≡ file_length payloads) where
+  module _ (len : ℕ) (has : HasNumber old.journal) (measured : (files : Files) → told old.journal ≡ Some files → (held : Image) → Holds held files → len ≡ file_length held.payloads) where
     pub rewritten : {T : Type 0} (r : Result T JournalError) (end : CompactEnd) (new : StoreState) → Compacts 0 0 old end new → migration_end len end r → Rewrites r old new
     rewritten {T} r end new compacts means = made (compacts.works works (omega arith))
       where
@@ -197,7 +198,7 @@ module _ (old : StoreState) (works : old.journal.is_broken ≡ false) (paired : 
             let why = refused cause len refusal in
             let answer : r ≡ Err (or_damaged len cause) = subst (λ (x : CompactEnd). migration_end len x r) is.0 means in
             subst (λ (x : Result T JournalError). Rewrites x old new) (sym answer)
-            (rewrites_refused T (or_damaged len cause) new why.0 ((λ files tells payloads holds. why.1 payloads (has files tells payloads holds) (measured files tells payloads holds)), is.1))
+            (rewrites_refused T (or_damaged len cause) new why.0 ((λ files tells held holds. why.1 held.payloads (has files tells held holds) (measured files tells held holds)), is.1))
 
         made : EndsAs (compact_refusal 0 old) 0 old end new ⊎ ((end ≡ ends.Failed DiskFault) × HasFaulted old new) ⊎ ((end ≡ ends.OutOfMemory) × IsKept old new) → Rewrites r old new
         made (inl is) = ends_as (compact_refusal 0 old) refl is
@@ -209,6 +210,6 @@ module _ (old : StoreState) (works : old.journal.is_broken ≡ false) (paired : 
             subst (λ (x : Result T JournalError). Rewrites x old new) (sym answer) is.1
 
 -- what a compaction that is made leaves
-pub rewritten_current : {T : Type 0} (old new : StoreState) → SpellsToday → ReadsSnapshot → TablesFit old.contents → Restores (table_rows old.contents) no_tables old.contents → AreInOrder None (table_rows old.contents) → (r : Result T JournalError) → Rewrites r old new → OnOk r (IsCurrent new.journal new.contents)
-rewritten_current old new today reads fits restores order (Ok x) is = current_made 0 old today reads (omega arith) fits restores order is.0 new is.1
-rewritten_current old new today reads fits restores order (Err e) is = tt
+pub rewritten_current : {T : Type 0} (old new : StoreState) → ReadsSnapshot → TablesFit old.contents → Restores (table_rows old.contents) no_tables old.contents → AreInOrder None (table_rows old.contents) → (r : Result T JournalError) → Rewrites r old new → OnOk r (IsCurrent new.journal new.contents)
+rewritten_current old new reads fits restores order (Ok x) is = current_made 0 old reads (omega arith) fits restores order is.0 new is.1
+rewritten_current old new reads fits restores order (Err e) is = tt

@@ -6,28 +6,30 @@ use Rattle.store_tables.specs.Tables.{Tables, no_tables}
 use Rattle.tx_journal.specs.declared.error.JournalError.{JournalError}
 use Rattle.tx_journal.specs.declared.error.JournalError.TheVariants.{DiskFault, Damaged, TooLong, Full, Reopen, NotStarted, OneDisk, Spent, OutOfMemory}
 use Rattle.tx_journal.specs.Journal.{Rises, IsOpenError}
-use Rattle.tx_journal.specs.Calls.{Side, JournalState, told, tell_both, tell_sides, first_of, second_of, first_side, second_side, is_alone, is_making, FindsIn, OpensFiles, RefusesFiles, KeepsCount}
-use Rattle.tx_journal.specs.Pair.{Files, IsJust, read_payloads}
-use Rattle.store_core.specs.Contents.{contents_of, OpensWith}
-use Rattle.store_core.specs.Opens.{FindsTables, OpensStore, payloads_fault, IsStoreOpenError, RefusesStore, RefusesAged, HasForm, IsFolded, IsFoldFault}
+use Rattle.tx_journal.specs.Calls.{Side, JournalState, told, tell_both, tell_sides, first_of, second_of, first_side, second_side, is_alone, is_making, FindsIn, HoldsFormat, OpensFiles, RefusesFiles, KeepsCount}
+use Rattle.tx_journal.specs.declared.format.Format.TheVariants.{Two}
+use Rattle.tx_journal.specs.File.{Image}
+use Rattle.tx_journal.specs.Pair.{Files, IsJust, first_generation, read_files}
+use Rattle.store_core.specs.Contents.{contents_of, contents_in, is_old, OpensWith}
+use Rattle.store_core.specs.Opens.{FindsTables, OpensStore, fault_behind, payloads_fault, IsStoreOpenError, RefusesStore, IsFolded, IsFoldFault}
 use Rattle.store_core.specs.Store.{IsConsistent, IsCurrent}
 use Rattle.store_core.proofs.Claims.{at_told, leaves_weaker}
 use Rattle.store_core.proofs.Openings.{rises_from}
 
-finds : (making : Bool) (old : Files) (payloads : List (List ℕ)) (t : Tables) → FindsIn making old payloads → contents_of payloads ≡ Some t → FindsTables making old t
-finds true old payloads t none is = let e : Some no_tables ≡ Some t = ap contents_of (sym none) ∙ is in cc
-finds false old payloads t reads is = (payloads, reads, is)
+finds : (making : Bool) (old : Files) (held : Image) (t : Tables) → FindsIn making old held → contents_of held ≡ Some t → FindsTables making old t
+finds true old held t none is = let e : Some no_tables ≡ Some t = ap (contents_in (is_old held.format)) (sym none) ∙ is in cc
+finds false old held t reads is = (held, reads, is)
 
--- the payloads that the opened files hold lead to these tables
+-- what the opened files hold leads to these tables
 pub opens-store : (create : Bool) (old new : Files) (j : JournalState) (t : Tables) → told j ≡ Some new → IsFolded t j → OpensFiles create old new → OpensStore create t old new
 opens-store create old new j t tells folded opens =
     let is : contents_of opens.0 ≡ Some t = folded new tells opens.0 opens.2 in
     (finds (is_making create old.first old.second) old opens.0 t opens.1 is, leaves_weaker (IsJust opens.0) (OpensWith t) new (λ r e. (opens.0, e, is)) opens.2.leaves, opens.3)
 
 -- a file that is made has no payload, and so no fault
-faulted : (making : Bool) (old : Files) (payloads : List (List ℕ)) (offset : ℕ) → FindsIn making old payloads → payloads_fault payloads ≡ Some offset → (making ≡ false) × (payloads : List (List ℕ)) × (read_payloads old ≡ Ok payloads) × (payloads_fault payloads ≡ Some offset)
-faulted true old payloads offset none is = absurd (let e : None ≡ Some offset = ap payloads_fault (sym none) ∙ is in cc)
-faulted false old payloads offset reads is = (refl, payloads, reads, is)
+faulted : (making : Bool) (old : Files) (held : Image) (offset : ℕ) → FindsIn making old held → payloads_fault held ≡ Some offset → (making ≡ false) × (found : Image) × (read_files old ≡ Ok found) × (payloads_fault found ≡ Some offset)
+faulted true old held offset none is = absurd (let e : None ≡ Some offset = ap (λ (ps : List (List ℕ)). fault_behind (is_old held.format) (first_generation ps) ps) (sym none) ∙ is in cc)
+faulted false old held offset reads is = (refl, held, reads, is)
 
 pub refuses-store : (create : Bool) (old new : Files) (j : JournalState) (e : JournalError) → told j ≡ Some new → IsFoldFault e j → OpensFiles create old new → RefusesStore create e old
 refuses-store create old new j (Damaged offset) tells fault opens = inr (inl (faulted (is_making create old.first old.second) old opens.0 offset opens.1 (fault new tells opens.0 opens.2)))
@@ -39,18 +41,6 @@ refuses-store create old new j Reopen tells fault opens = absurd fault
 refuses-store create old new j NotStarted tells fault opens = absurd fault
 refuses-store create old new j OneDisk tells fault opens = absurd fault
 refuses-store create old new j (Spent count) tells fault opens = absurd fault
-
--- a payload that isn't read, whatever is handed back
-unread_aged : (create : Bool) (old mid new : Files) (j : JournalState) (e : JournalError) → told j ≡ Some mid → IsFoldFault e j → OpensFiles create old mid → RefusesAged create e old new
-unread_aged create old mid new j (Damaged offset) tells fault opens = inr (inl (offset, refl, faulted (is_making create old.first old.second) old opens.0 offset opens.1 (fault mid tells opens.0 opens.2)))
-unread_aged create old mid new j DiskFault tells fault opens = inl tt
-unread_aged create old mid new j OutOfMemory tells fault opens = inl tt
-unread_aged create old mid new j (TooLong n) tells fault opens = absurd fault
-unread_aged create old mid new j (Full len) tells fault opens = absurd fault
-unread_aged create old mid new j Reopen tells fault opens = absurd fault
-unread_aged create old mid new j NotStarted tells fault opens = absurd fault
-unread_aged create old mid new j OneDisk tells fault opens = absurd fault
-unread_aged create old mid new j (Spent count) tells fault opens = absurd fault
 
 -- ---- the same of what the disks report
 
@@ -69,23 +59,18 @@ module _ (create : Bool) (before : Option Files) (j : JournalState) (opens : Tel
       let held = from.2 in
       (held.0, held.2, folded files here held.0 held.2)
 
-  -- they aren't of the first form
-  pub opened_current : (t : Tables) (k : JournalState) → told k ≡ told j → IsFolded t j → HasForm false j → IsCurrent k t
-  opened_current t k same folded form works files is =
+  -- it is of the second format
+  pub opened_current : (t : Tables) (k : JournalState) → told k ≡ told j → IsFolded t j → HoldsFormat k → k.format ≡ Two → IsCurrent k t
+  opened_current t k same folded of_ two works files is =
       let here : told j ≡ Some files = sym same ∙ is in
       let from = told_before (OpensFiles create) before (told j) files opens here in
       let held = from.2 in
-      (held.0, held.2, folded files here held.0 held.2, form files here held.0 held.2)
+      (held.0, held.2, folded files here held.0 held.2, of_ works files is held.0 held.2 ∙ two)
 
   pub refused_tells : (e : JournalError) → IsFoldFault e j → (files : Files) → before ≡ Some files → RefusesStore create e files
   refused_tells e fault files is =
       let on = tells_on (OpensFiles create) before (told j) files opens is in
       refuses-store create files on.0 j e on.1 fault on.2
-
-  pub refused_aged : (e : JournalError) → IsFoldFault e j → (files new : Files) → before ≡ Some files → RefusesAged create e files new
-  refused_aged e fault files new is =
-      let on = tells_on (OpensFiles create) before (told j) files opens is in
-      unread_aged create files on.0 new j e on.1 fault on.2
 
 -- the journal's own refusal
 pub as_store : (create : Bool) (e : JournalError) (files : Files) → RefusesFiles create e files → RefusesStore create e files

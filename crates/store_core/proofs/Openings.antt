@@ -3,12 +3,15 @@ use Rattle.std.proofs.Common.{◌≡◌, inl, inr, Result, Err, subst, ℕ, zero
 use Rattle.std.specs.Prelude.{Ok, Vec, slice_get, is_some, ◌==◌, ◌&&◌}
 use Rattle.std.proofs.lemmas.Bool.Decides.{nat_tests}
 use Rattle.store_tables.specs.Tables.{Tables}
-use Rattle.store_payloads.specs.FirstForm.{is_first_payload, is_first_form, reading_in}
+use Rattle.store_payloads.specs.FirstForm.{reading_in}
 use Rattle.store_payloads.specs.Folds.{Folded, folded, fold_from, start, tables_in}
 use Rattle.tx_journal.specs.declared.error.JournalError.{JournalError}
 use Rattle.tx_journal.specs.declared.error.JournalError.TheVariants.{DiskFault, Damaged, TooLong, Full, Reopen, NotStarted, OneDisk, Spent, OutOfMemory}
 use Rattle.tx_journal.specs.Journal.{Costs, Rises, IsPortFault, Replays}
 use Rattle.tx_journal.specs.Calls.{Side, JournalState, told, first_of, second_of, tell_sides, is_alone, rows_in}
+use Rattle.tx_journal.specs.declared.format.Format.{Format}
+use Rattle.tx_journal.specs.declared.format.Format.TheVariants.{One, Two}
+use Rattle.tx_journal.specs.File.{Image}
 use Rattle.tx_journal.specs.Pair.{Files, Holds, is_generation, first_generation, without_generation}
 use Rattle.store_core.specs.Contents.{contents_of, contents_in, is_old}
 use Rattle.store_core.specs.Migrations.{HasNumber}
@@ -73,19 +76,15 @@ fault-behind is_first (p ∷ ps) = go (is_generation p) refl
         let place : 18 + length p ≡ 35 = omega (arith, generation-long p is) in
         rw is (ap (λ n. fault_from is_first n ps (start true)) place)
 
-pub fault-is : (is_first : Bool) (payloads : List (List ℕ)) → is_old payloads ≡ is_first → payloads_fault payloads ≡ fault_from is_first (first_place (is_some (first_generation payloads))) (without_generation payloads) (start (is_some (first_generation payloads)))
-fault-is is_first payloads form = ap (λ b. fault_behind b (first_generation payloads) payloads) form ∙ fault-behind is_first payloads
+pub fault-is : (is_first : Bool) (held : Image) → is_old held.format ≡ is_first → payloads_fault held ≡ fault_from is_first (first_place (is_some (first_generation held.payloads))) (without_generation held.payloads) (start (is_some (first_generation held.payloads)))
+fault-is is_first held form = ap (λ b. fault_behind b (first_generation held.payloads) held.payloads) form ∙ fault-behind is_first held.payloads
 
 -- ---- the form
 
--- the first payload tells it
-pub form-found : (rows : List (List ℕ)) (p : List ℕ) (b : Bool) → slice_get rows 0 ≡ Some p → b ≡ is_first_payload p → is_first_form rows ≡ b
-form-found [] p b here is = absurd (let e : None ≡ Some p = here in cc)
-form-found (x ∷ rows) p b here is = let same : x ≡ p = cc in ap is_first_payload same ∙ sym is
-
-pub form-none : (rows : List (List ℕ)) → length rows ≤ 0 → is_first_form rows ≡ false
-form-none [] none = refl
-form-none (x ∷ rows) none = absurd (omega (arith, none))
+-- the number of the format tells it
+pub form_is : (format : Format) (n : ℕ) → (format ≡ One → n ≡ 1) → (format ≡ Two → n ≡ 2) → is_old format ≡ (n == 1)
+form_is One n one two = sym (ap (λ m. m == 1) (one refl))
+form_is Two n one two = sym (ap (λ m. m == 1) (two refl))
 
 -- ---- what an opened journal holds
 
@@ -95,17 +94,17 @@ rows-paired (Some side) payloads paired = refl
 
 -- all payloads are folded
 pub folded-all :
-    (is_first is_snapshot : Bool) (payloads : List (List ℕ)) (index at : ℕ) (f : Folded) (t : Tables) → is_old payloads ≡ is_first → is_snapshot ≡ is_some (first_generation payloads) → length (without_generation payloads) ≤ index → IsRead is_first is_snapshot (without_generation payloads) index at f → t ≡ f.tables
-    → contents_of payloads ≡ Some t
-folded-all is_first is_snapshot payloads index at f t form begun past is same =
-    ap (λ b. contents_in b payloads) form ∙ ap (λ b. tables_in (fold_from is_first (Some (start b)) (without_generation payloads))) (sym begun) ∙ read-all is_first is_snapshot (without_generation payloads) index at f past is ∙ ap (λ (u : Tables). Some u) (sym same)
+    (is_first is_snapshot : Bool) (held : Image) (index at : ℕ) (f : Folded) (t : Tables) → is_old held.format ≡ is_first → is_snapshot ≡ is_some (first_generation held.payloads) → length (without_generation held.payloads) ≤ index → IsRead is_first is_snapshot (without_generation held.payloads) index at f → t ≡ f.tables
+    → contents_of held ≡ Some t
+folded-all is_first is_snapshot held index at f t form begun past is same =
+    ap (λ b. contents_in b held.payloads) form ∙ ap (λ b. tables_in (fold_from is_first (Some (start b)) (without_generation held.payloads))) (sym begun) ∙ read-all is_first is_snapshot (without_generation held.payloads) index at f past is ∙ ap (λ (u : Tables). Some u) (sym same)
 
 -- the first one that isn't
 pub folded-fault :
-    (is_first is_snapshot : Bool) (payloads : List (List ℕ)) (index at : ℕ) (p : List ℕ) (f : Folded) → is_old payloads ≡ is_first → is_snapshot ≡ is_some (first_generation payloads) → slice_get (without_generation payloads) index ≡ Some p → folded (reading_in is_first p) f ≡ None → IsRead is_first is_snapshot (without_generation payloads) index at f
-    → payloads_fault payloads ≡ Some at
-folded-fault is_first is_snapshot payloads index at p f form begun here refused is =
-    fault-is is_first payloads form ∙ ap (λ b. fault_from is_first (first_place b) (without_generation payloads) (start b)) (sym begun) ∙ read-fault is_first is_snapshot (without_generation payloads) index at p f here refused is
+    (is_first is_snapshot : Bool) (held : Image) (index at : ℕ) (p : List ℕ) (f : Folded) → is_old held.format ≡ is_first → is_snapshot ≡ is_some (first_generation held.payloads) → slice_get (without_generation held.payloads) index ≡ Some p → folded (reading_in is_first p) f ≡ None → IsRead is_first is_snapshot (without_generation held.payloads) index at f
+    → payloads_fault held ≡ Some at
+folded-fault is_first is_snapshot held index at p f form begun here refused is =
+    fault-is is_first held form ∙ ap (λ b. fault_from is_first (first_place b) (without_generation held.payloads) (start b)) (sym begun) ∙ read-fault is_first is_snapshot (without_generation held.payloads) index at p f here refused is
 
 -- ---- what a reading does to the journal
 
@@ -166,36 +165,36 @@ module _ (j mid : JournalState) (same : mid ≡ read_of j mid.live.faults) (pair
   rows_mid : (payloads : List (List ℕ)) → rows_in mid.other payloads ≡ without_generation payloads
   rows_mid payloads = ap (λ (k : JournalState). rows_in k.other payloads) same ∙ rows-paired j.other payloads paired
 
-  module _ (is_first : Bool) (form : HasForm is_first j) (g : Option ℕ) (first : (files : Files) → told j ≡ Some files → (payloads : List (List ℕ)) → Holds payloads files → g ≡ first_generation payloads) where
+  module _ (is_first : Bool) (form : HasForm is_first j) (g : Option ℕ) (first : (files : Files) → told j ≡ Some files → (held : Image) → Holds held files → g ≡ first_generation held.payloads) where
     abbrev pub Read : ℕ → ℕ → Folded → Type 0
-    Read index at f = (files : Files) → told j ≡ Some files → (payloads : List (List ℕ)) → Holds payloads files → IsRead is_first (is_some g) (without_generation payloads) index at f
+    Read index at f = (files : Files) → told j ≡ Some files → (held : Image) → Holds held files → IsRead is_first (is_some g) (without_generation held.payloads) index at f
 
     module _ (Z : Type 0) (index at : ℕ) (f : Folded) (read : Read index at f) where
       abbrev pub Found : Option (Vec ℕ Z) → Type 0
-      Found o = (files : Files) → told mid ≡ Some files → (payloads : List (List ℕ)) → Holds payloads files → Replays {Z = Z} (rows_in mid.other payloads) index (Ok o)
+      Found o = (files : Files) → told mid ≡ Some files → (held : Image) → Holds held files → Replays {Z = Z} (rows_in mid.other held.payloads) index (Ok o)
 
       -- there is no further payload
       pub all_folded : Found None → IsFolded f.tables j
-      all_folded found files tells payloads holds =
-          let past : length (without_generation payloads) ≤ index = subst (λ (l : List (List ℕ)). length l ≤ index) (rows_mid payloads) (found files (told_mid ∙ tells) payloads holds) in
-          folded-all is_first (is_some g) payloads index at f f.tables (form files tells payloads holds) (ap is_some (first files tells payloads holds)) past (read files tells payloads holds) refl
+      all_folded found files tells held holds =
+          let past : length (without_generation held.payloads) ≤ index = subst (λ (l : List (List ℕ)). length l ≤ index) (rows_mid held.payloads) (found files (told_mid ∙ tells) held holds) in
+          folded-all is_first (is_some g) held index at f f.tables (form files tells held holds) (ap is_some (first files tells held holds)) past (read files tells held holds) refl
 
       module _ (v : Vec ℕ Z) (p : List ℕ) (is : p ≡ v.items) (found : Found (Some v)) where
-        here : (files : Files) → told j ≡ Some files → (payloads : List (List ℕ)) → Holds payloads files → slice_get (without_generation payloads) index ≡ Some p
-        here files tells payloads holds =
-            subst (λ (l : List (List ℕ)). slice_get l index ≡ Some p) (rows_mid payloads) (found files (told_mid ∙ tells) payloads holds ∙ ap (λ (q : List ℕ). Some q) (sym is))
+        here : (files : Files) → told j ≡ Some files → (held : Image) → Holds held files → slice_get (without_generation held.payloads) index ≡ Some p
+        here files tells held holds =
+            subst (λ (l : List (List ℕ)). slice_get l index ≡ Some p) (rows_mid held.payloads) (found files (told_mid ∙ tells) held holds ∙ ap (λ (q : List ℕ). Some q) (sym is))
 
         -- the next one has no reading
         pub fault_folded : folded (reading_in is_first p) f ≡ None → IsFoldFault (Damaged at) j
-        fault_folded refused files tells payloads holds =
-            folded-fault is_first (is_some g) payloads index at p f (form files tells payloads holds) (ap is_some (first files tells payloads holds)) (here files tells payloads holds) refused (read files tells payloads holds)
+        fault_folded refused files tells held holds =
+            folded-fault is_first (is_some g) held index at p f (form files tells held holds) (ap is_some (first files tells held holds)) (here files tells held holds) refused (read files tells held holds)
 
         -- it has one
         pub more_folded : (next : Folded) (after : ℕ) → folded (reading_in is_first p) f ≡ Some next → after ≡ at + 5 + length p → Read (index + 1) after next
-        more_folded next after taken place files tells payloads holds =
-            subst (λ (n : ℕ). IsRead is_first (is_some g) (without_generation payloads) (index + 1) n next) (sym place)
-            (subst (λ (i : ℕ). IsRead is_first (is_some g) (without_generation payloads) i (at + 5 + length p) next) (let e : suc index ≡ index + 1 = omega arith in e)
-            (read-more is_first (is_some g) (without_generation payloads) index at p f next (here files tells payloads holds) taken (read files tells payloads holds)))
+        more_folded next after taken place files tells held holds =
+            subst (λ (n : ℕ). IsRead is_first (is_some g) (without_generation held.payloads) (index + 1) n next) (sym place)
+            (subst (λ (i : ℕ). IsRead is_first (is_some g) (without_generation held.payloads) i (at + 5 + length p) next) (let e : suc index ≡ index + 1 = omega arith in e)
+            (read-more is_first (is_some g) (without_generation held.payloads) index at p f next (here files tells held holds) taken (read files tells held holds)))
 
 -- the first reading stands behind no payload
 pub first_read : (is_first is_snapshot : Bool) (rows : List (List ℕ)) (at : ℕ) (f : Folded) → at ≡ first_place is_snapshot → f ≡ start is_snapshot → IsRead is_first is_snapshot rows 0 at f
@@ -205,25 +204,9 @@ first_read is_first is_snapshot rows at f place begun = subst (λ (n : ℕ). IsR
 pub told_read : (j new : JournalState) → new ≡ record j { live = record { told = j.live.told; faults = new.live.faults }; is_broken = new.is_broken } → told new ≡ told j
 told_read j new same = ap told same ∙ told_counts j new.live.faults new.is_broken
 
--- ---- one reading and then another
-
-pub costs_then : (T U : Type 0) (a b c : ℕ) (e : JournalError) → a ≤ b → Costs {T = T} b c (Err e) → Costs {T = U} a c (Err e)
-costs_then T U a b c DiskFault within costs = rises_from a b c within costs
-costs_then T U a b c (Damaged offset) within costs = omega (arith, within, costs)
-costs_then T U a b c (TooLong n) within costs = omega (arith, within, costs)
-costs_then T U a b c (Full len) within costs = omega (arith, within, costs)
-costs_then T U a b c Reopen within costs = omega (arith, within, costs)
-costs_then T U a b c NotStarted within costs = omega (arith, within, costs)
-costs_then T U a b c OneDisk within costs = omega (arith, within, costs)
-costs_then T U a b c (Spent count) within costs = omega (arith, within, costs)
-costs_then T U a b c OutOfMemory within costs = omega (arith, within, costs)
-
 -- what the disks report tells which tables and which fault there are
 pub folded_told : (t : Tables) (j k : JournalState) → told k ≡ told j → IsFolded t k → IsFolded t j
 folded_told t j k same folded = λ files tells. folded files (same ∙ tells)
-
-pub form_told : (is_first : Bool) (j k : JournalState) → told k ≡ told j → HasForm is_first j → HasForm is_first k
-form_told is_first j k same form = λ files tells. form files (sym same ∙ tells)
 
 pub fault_told : (e : JournalError) (j k : JournalState) → told k ≡ told j → IsFoldFault e k → IsFoldFault e j
 fault_told (Damaged offset) j k same fault = λ files tells. fault files (same ∙ tells)
@@ -236,13 +219,8 @@ fault_told NotStarted j k same fault = fault
 fault_told OneDisk j k same fault = fault
 fault_told (Spent count) j k same fault = fault
 
--- both leave of the journal what each leaves
-pub read_read : (j mid new : JournalState) → mid ≡ record j { live = record { told = j.live.told; faults = mid.live.faults }; is_broken = mid.is_broken } → new ≡ record mid { live = record { told = mid.live.told; faults = new.live.faults }; is_broken = new.is_broken }
-    → new ≡ record j { live = record { told = j.live.told; faults = new.live.faults }; is_broken = new.is_broken }
-read_read j mid new one two = two ∙ ap (λ (k : JournalState). record k { live = record { told = k.live.told; faults = new.live.faults }; is_broken = new.is_broken }) one
-
 pub paired_read : (j new : JournalState) → new ≡ record j { live = record { told = j.live.told; faults = new.live.faults }; is_broken = new.is_broken } → is_alone j.other ≡ false → is_alone new.other ≡ false
 paired_read j new same paired = ap (λ (k : JournalState). is_alone k.other) same ∙ paired
 
 pub number_read : (j new : JournalState) → new ≡ record j { live = record { told = j.live.told; faults = new.live.faults }; is_broken = new.is_broken } → HasNumber j → HasNumber new
-number_read j new same has files tells payloads holds = ap (λ (k : JournalState). k.generation) same ∙ has files (sym (told_read j new same) ∙ tells) payloads holds
+number_read j new same has files tells held holds = ap (λ (k : JournalState). k.generation) same ∙ has files (sym (told_read j new same) ∙ tells) held holds

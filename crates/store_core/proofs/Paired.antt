@@ -33,6 +33,9 @@ written_paired payload (Some (refusals.ValueTooLong op n)) old new both w = absu
 written_paired payload (Some (refusals.OtherMoment m)) old new both w = absurd w
 written_paired payload (Some refusals.Reopen) old new both w = absurd w
 written_paired payload (Some refusals.OutOfMemory) old new both w = absurd w
+written_paired payload (Some (refusals.StaleEpoch seen)) old new both w = absurd w
+written_paired payload (Some (refusals.ReservedKey op)) old new both w = absurd w
+written_paired payload (Some refusals.Unfenced) old new both w = absurd w
 
 -- a compaction isn't started
 start_fault : (T : Type 0) (e : JournalError) (old new : JournalState) → Starts {T = T} (Err e) old new → HasBoth new

@@ -12,6 +12,7 @@ use Rattle.tx_journal.specs.declared.error.JournalError.{JournalError}
 use Rattle.tx_journal.specs.declared.error.JournalError.TheVariants as errors
 use Rattle.tx_journal.specs.declared.format.Format.TheVariants.{Two}
 use Rattle.tx_journal.specs.Calls.{Side, JournalState, told, is_alone, next_number, end_refusal, is_none, Turns, HasBegun, Replaces, Replaced, staged_payloads, OtherKeeps}
+use Rattle.tx_journal.specs.File.{Image, image}
 use Rattle.tx_journal.specs.Pair.{Files, Holds, IsEither, generation_row, SinceOpened}
 use Rattle.store_core.specs.declared.events.CompactEnd.{CompactEnd}
 use Rattle.store_core.specs.declared.events.CompactEnd.TheVariants.{Compacted}
@@ -30,7 +31,7 @@ module _ (t : Tables) (now least : ℕ) (j : JournalState) (works : j.is_broken 
   abbrev fresh : ℕ
   fresh = next_number j.generation
 
-  module _ (reads : contents_of (compacted_payloads fresh now t) ≡ Some t) (a : JournalState) (first : Started t now least j works consistent long a) (b : JournalState) (staged : IsStaged t rows a b) where
+  module _ (reads : contents_of (image Two (compacted_payloads fresh now t)) ≡ Some t) (a : JournalState) (first : Started t now least j works consistent long a) (b : JournalState) (staged : IsStaged t rows a b) where
     abbrev Ends : CompactEnd → JournalState → Type 0
     Ends end k = Compacts least now (record { contents = t; journal = j }) end (record { contents = t; journal = k })
 
@@ -69,15 +70,15 @@ module _ (t : Tables) (now least : ℕ) (j : JournalState) (works : j.is_broken 
     free : end_refusal b ≡ None
     free = ap (λ c. cond c (Some errors.Reopen) (cond (is_none b.staged) (Some errors.NotStarted) None)) may.works ∙ ap (λ s. cond (is_none s) (Some errors.NotStarted) None) may.started
 
-    either : (payloads : List (List ℕ)) → contents_of payloads ≡ Some t → (r : Result (List (List ℕ)) ℕ) → IsEither payloads (compacted_payloads fresh now t) r → OpensWith t r
-    either payloads is r (inl e) = (payloads, e, is)
-    either payloads is r (inr e) = (compacted_payloads fresh now t, e, reads)
+    either : (held : Image) → contents_of held ≡ Some t → (r : Result Image ℕ) → IsEither held (image Two (compacted_payloads fresh now t)) r → OpensWith t r
+    either held is r (inl e) = (held, e, is)
+    either held is r (inr e) = (image Two (compacted_payloads fresh now t), e, reads)
 
     keeps_turn : (k : JournalState) → Tells (Replaces b.is_second_live) (told b) (told k) → Keeps t b k
     keeps_turn k crash = tells_map_at (Replaces b.is_second_live) (SinceOpened (OpensWith t)) (told b) (told k)
         (λ f g is replaces.
         let held = staged.consistent may.works f is in
-        since_opened_weaker (IsEither held.0 (compacted_payloads fresh now t)) (OpensWith t) f g (either held.0 held.2) (replaces held.0 (compacted_payloads fresh now t) held.1 (written f is)))
+        since_opened_weaker (IsEither held.0 (image Two (compacted_payloads fresh now t))) (OpensWith t) f g (either held.0 held.2) (replaces held.0 (compacted_payloads fresh now t) held.1 (written f is)))
         crash
 
     -- the disk failed
@@ -105,7 +106,7 @@ module _ (t : Tables) (now least : ℕ) (j : JournalState) (works : j.is_broken 
 
     -- ---- it is made
 
-    holds : (k : JournalState) → Tells (Replaced b.is_second_live) (told b) (told k) → (files : Files) → told k ≡ Some files → Holds (compacted_payloads fresh now t) files
+    holds : (k : JournalState) → Tells (Replaced b.is_second_live) (told b) (told k) → (files : Files) → told k ≡ Some files → Holds (image Two (compacted_payloads fresh now t)) files
     holds k done files tells =
         let before = told_before (Replaced b.is_second_live) (told b) (told k) files done tells in
         before.2 (compacted_payloads fresh now t) (written before.0 before.1)

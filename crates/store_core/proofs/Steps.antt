@@ -15,10 +15,12 @@ use Rattle.tx_journal.specs.Calls.{JournalState, told, append_refusal, Commits, 
 use Rattle.tx_journal.specs.Pair.{IsJust, IsEither, SinceOpened}
 use Rattle.store_payloads.specs.Payloads.{command_payload}
 use Rattle.store_payloads.specs.Laws.{MayCome, ReadsCommands, OutcomeFits}
-use Rattle.store_core.specs.Contents.{contents_of, is_old, OpensWith, OpensWithEither}
+use Rattle.tx_journal.specs.declared.format.Format.TheVariants.{Two}
+use Rattle.tx_journal.specs.File.{Image, with_payload}
+use Rattle.store_core.specs.Contents.{contents_of, OpensWith, OpensWithEither}
 use Rattle.store_core.specs.Store.{StoreState, IsCurrent, Leaves, Rests, IsDone, HasFailed, Writes, Goes, RanOut, Moves, IsLonger, IsFaulted, Written}
 use Rattle.store_core.proofs.Claims.{leaves_weaker, since_opened_weaker}
-use Rattle.store_core.proofs.Foldings.{no-generation, generation-same, old-more, contents-more}
+use Rattle.store_core.proofs.Foldings.{no-generation, generation-same, contents-more}
 
 clash : (b : Bool) → b ≡ true → b ≡ false → ⊥
 clash b t f = let e : true ≡ false = sym t ∙ f in cc
@@ -70,23 +72,23 @@ module _ (t : Tables) (j : JournalState) (current : IsCurrent j t) (works : j.is
   moves-ran-out c m = whole c (Refused refusals.OutOfMemory) here (inl (refl, m, rests))
 
   module _ (c : Timed) (reads : ReadsCommands) (may : MayCome c) (given : StoreAnswer) (after : Tables) (o : outcome_of t c ≡ Accepted given after) where
-    -- the payloads before and after an append open with the contents before and after the command
-    either : (payloads : List (List ℕ)) → contents_of payloads ≡ Some t → is_old payloads ≡ false → (r : Result (List (List ℕ)) ℕ) → IsEither payloads (payloads ++ command_payload c ∷ []) r → OpensWithEither t after r
-    either payloads is today r (inl e) = inl (payloads, e, is)
-    either payloads is today r (inr e) = inr (payloads ++ command_payload c ∷ [], e, contents-more payloads c t after given reads may today is o)
+    -- what stands before and after an append opens with the contents before and after the command
+    either : (held : Image) → contents_of held ≡ Some t → held.format ≡ Two → (r : Result Image ℕ) → IsEither held (with_payload (command_payload c) held) r → OpensWithEither t after r
+    either held is two r (inl e) = inl (held, e, is)
+    either held is two r (inr e) = inr (with_payload (command_payload c) held, e, contents-more held c t after given reads may two is o)
 
     risks : (new : JournalState) → Tells (Commits (command_payload c)) (told j) (told new) → Tells (SinceOpened (OpensWithEither t after)) (told j) (told new)
     risks new tells = tells_map_at (Commits (command_payload c)) (SinceOpened (OpensWithEither t after)) (told j) (told new)
         (λ f g is commits.
         let held = current works f is in
-        since_opened_weaker (IsEither held.0 (held.0 ++ command_payload c ∷ [])) (OpensWithEither t after) f g (either held.0 held.2 held.3) (commits held.0 held.1))
+        since_opened_weaker (IsEither held.0 (with_payload (command_payload c) held.0)) (OpensWithEither t after) f g (either held.0 held.2 held.3) (commits held.0 held.1))
         tells
 
     pub current-on : (new : JournalState) → Tells (Committed (command_payload c)) (told j) (told new) → IsCurrent new after
     current-on new tells unbroken files is =
         let before = told_before (Committed (command_payload c)) (told j) (told new) files tells is in
         let held = current works before.0 before.1 in
-        (held.0 ++ command_payload c ∷ [], before.2 held.0 held.1, contents-more held.0 c t after given reads may held.3 held.2 o, old-more held.0 c reads may held.3)
+        (with_payload (command_payload c) held.0, before.2 held.0 held.1, contents-more held.0 c t after given reads may held.3 held.2 o, held.3)
 
     leaves-after : (new : JournalState) → new.is_broken ≡ false → Tells (Committed (command_payload c)) (told j) (told new) → Leaves after (record { contents = after; journal = new })
     leaves-after new unbroken tells files is =
@@ -140,6 +142,9 @@ module _ (t : Tables) (j : JournalState) (current : IsCurrent j t) (works : j.is
     moves-refused (refusals.OtherMoment m) new w = absurd w
     moves-refused refusals.Reopen new w = absurd w
     moves-refused refusals.OutOfMemory new w = absurd w
+    moves-refused (refusals.StaleEpoch seen) new w = absurd w
+    moves-refused (refusals.ReservedKey op) new w = absurd w
+    moves-refused refusals.Unfenced new w = absurd w
 
     -- then the journal holds what it held, or a fault was met
     pub current-refused : (refusal : StoreRefusal) (new : JournalState) → Written (command_payload c) (Some refusal) j new → IsCurrent new t
@@ -156,6 +161,9 @@ module _ (t : Tables) (j : JournalState) (current : IsCurrent j t) (works : j.is
     current-refused (refusals.OtherMoment m) new w = absurd w
     current-refused refusals.Reopen new w = absurd w
     current-refused refusals.OutOfMemory new w = absurd w
+    current-refused (refusals.StaleEpoch seen) new w = absurd w
+    current-refused (refusals.ReservedKey op) new w = absurd w
+    current-refused refusals.Unfenced new w = absurd w
 
     pub moves-written : (new : JournalState) → Written (command_payload c) None j new → Moves here c given (record { contents = after; journal = new })
     moves-written new w = moves-done new w.0 w.1 w.2 w.3

@@ -5,12 +5,11 @@ use Rattle.store_payloads.specs.FirstForm.{reading_in}
 use Rattle.store_payloads.specs.Folds.{Folded, folded, fold_from, start}
 use Rattle.tx_journal.specs.declared.error.JournalError.{JournalError}
 use Rattle.tx_journal.specs.declared.error.JournalError.TheVariants.{DiskFault, Damaged, TooLong, Full, Reopen, NotStarted, OneDisk, Spent, OutOfMemory}
-use Rattle.tx_journal.specs.File.{most_bytes}
-use Rattle.tx_journal.specs.Pair.{Files, first_generation, live_bytes, without_generation, read_payloads}
-use Rattle.tx_journal.specs.Calls.{RefusesFiles}
+use Rattle.tx_journal.specs.File.{most_bytes, Image}
+use Rattle.tx_journal.specs.Pair.{Files, first_generation, live_bytes, without_generation, read_files}
 use Rattle.store_tables.specs.Tables.{Tables}
 use Rattle.store_core.specs.Contents.{is_old, OpensWith}
-use Rattle.store_core.specs.Opens.{payloads_fault, fault_by, fault_from, first_place, RefusesPayload, RefusesStore, HaveReadings, MayRefuse, RefusesContents, WasOld, RefusesToday}
+use Rattle.store_core.specs.Opens.{payloads_fault, fault_by, fault_from, first_place, FindsOld, RefusesMigration, RefusesPayload, RefusesStore, HaveReadings, MayRefuse, RefusesContents, RefusesToday}
 use Rattle.store_core.proofs.Foldings.{folded-in}
 use Rattle.store_core.proofs.Openings.{fault-is}
 
@@ -23,20 +22,21 @@ no_fault is_first at (p ∷ ps) f g is = go (λ h more. no_fault is_first (at + 
     go ih (Some h) more = ih h more
 
 pub have_readings : HaveReadings
-have_readings payloads t is =
-    let snapshot = is_some (first_generation payloads) in
-    let leads = folded-in (fold_from (is_old payloads) (Some (start snapshot)) (without_generation payloads)) t is in
-    fault-is (is_old payloads) payloads refl ∙ no_fault (is_old payloads) (first_place snapshot) (without_generation payloads) (start snapshot) leads.0 leads.1
+have_readings held t is =
+    let b = is_old held.format in
+    let snapshot = is_some (first_generation held.payloads) in
+    let leads = folded-in (fold_from b (Some (start snapshot)) (without_generation held.payloads)) t is in
+    fault-is b held refl ∙ no_fault b (first_place snapshot) (without_generation held.payloads) (start snapshot) leads.0 leads.1
 
-module _ (t : Tables) (create : Bool) (files : Files) (opens : OpensWith t (read_payloads files)) where
-  no_damage : (offset : ℕ) → read_payloads files ≡ Err offset → ⊥
+module _ (t : Tables) (create : Bool) (files : Files) (opens : OpensWith t (read_files files)) where
+  no_damage : (offset : ℕ) → read_files files ≡ Err offset → ⊥
   no_damage offset reads = let no : Err offset ≡ Ok opens.0 = sym reads ∙ opens.1 in cc
 
   no_payload : (offset : ℕ) → RefusesPayload create offset files → ⊥
   no_payload offset fault =
       let both : Ok opens.0 ≡ Ok fault.1 = sym opens.1 ∙ fault.2 in
       let same : opens.0 ≡ fault.1 = cc in
-      let none : payloads_fault fault.1 ≡ None = subst (λ (ps : List (List ℕ)). payloads_fault ps ≡ None) same (have_readings opens.0 t opens.2) in
+      let none : payloads_fault fault.1 ≡ None = subst (λ (i : Image). payloads_fault i ≡ None) same (have_readings opens.0 t opens.2) in
       let no : None ≡ Some offset = sym none ∙ fault.3 in
       cc
 
@@ -58,17 +58,21 @@ refuses_contents t create e files opens small = go e
     go (Spent count) refuses = absurd refuses
 
 pub refuses_today : RefusesToday
-refuses_today t create e old new opens small (inl journal) = go e journal
+refuses_today t create e files opens small = go e
   where
-    go : (x : JournalError) → RefusesFiles create x old → (x ≡ DiskFault) ⊎ (x ≡ OutOfMemory) ⊎ WasOld create old new
+    aged : (x : JournalError) → RefusesMigration create x files → FindsOld create files
+    aged x why = (why.reads, why.found, why.is, why.old)
+
+    go : (x : JournalError) → RefusesStore create x files → (x ≡ DiskFault) ⊎ (x ≡ OutOfMemory) ⊎ FindsOld create files
     go DiskFault refuses = inl refl
     go OutOfMemory refuses = inr (inl refl)
-    go (Damaged offset) refuses = absurd (no_damage t create old opens offset refuses.1)
-    go (Full len) refuses = absurd (let short : length (live_bytes old.first old.second) ≤ most_bytes = small in omega (arith, refuses.0, refuses.1, short))
-    go (TooLong n) refuses = absurd refuses
+    go (Damaged offset) (inl journal) = absurd (no_damage t create files opens offset journal.1)
+    go (Damaged offset) (inr (inl payload)) = absurd (no_payload t create files opens offset payload)
+    go (Damaged offset) (inr (inr migration)) = inr (inr (aged (Damaged offset) migration))
+    go (TooLong n) migration = inr (inr (aged (TooLong n) migration))
+    go (Full len) (inl journal) = absurd (omega (arith, journal.0, journal.1, small))
+    go (Full len) (inr migration) = inr (inr (aged (Full len) migration))
     go Reopen refuses = absurd refuses
     go NotStarted refuses = absurd refuses
     go OneDisk refuses = absurd refuses
     go (Spent count) refuses = absurd refuses
-refuses_today t create e old new opens small (inr (inl unread)) = absurd (no_payload t create old opens unread.0 unread.2)
-refuses_today t create e old new opens small (inr (inr aged)) = inr (inr aged)

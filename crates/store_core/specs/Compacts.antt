@@ -7,6 +7,7 @@ use Rattle.store_payloads.specs.Laws.{snapshot_payloads}
 use Rattle.tx_journal.specs.declared.error.JournalError.{JournalError}
 use Rattle.tx_journal.specs.declared.error.JournalError.TheVariants as errors
 use Rattle.tx_journal.specs.declared.format.Format.TheVariants.{Two}
+use Rattle.tx_journal.specs.File.{image}
 use Rattle.tx_journal.specs.Calls.{JournalState, told, next_number, start_refusal, is_alone, row_refusal, staged_payloads, Kept, OtherKeeps, OtherRises}
 use Rattle.tx_journal.specs.Pair.{Files, Holds, SinceOpened}
 use Rattle.store_core.specs.declared.events.CompactEnd.{CompactEnd}
@@ -56,7 +57,7 @@ pub record IsCompacted (now rows : ℕ) (old new : StoreState) : Type 0 where
   pub journal :
       new.journal
       ≡ record { live = new.journal.live; other = Some old.journal.live; is_second_live = not old.journal.is_second_live; format = Two; generation = Some (next_number old.journal.generation); end = rows_end 31 (snapshot_payloads now old.contents); staged = None; is_broken = false }
-  pub holds : (files : Files) → told new.journal ≡ Some files → Holds (compacted_payloads (next_number old.journal.generation) now old.contents) files
+  pub holds : (files : Files) → told new.journal ≡ Some files → Holds (image Two (compacted_payloads (next_number old.journal.generation) now old.contents)) files
   pub leaves : Leaves old.contents new
   pub risks : RisksNothing old new
 

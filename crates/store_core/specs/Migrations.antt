@@ -5,7 +5,7 @@ use Rattle.store_tables.specs.Tables.{Tables}
 use Rattle.store_payloads.specs.Laws.{snapshot_payloads}
 use Rattle.tx_journal.specs.declared.error.JournalError.{JournalError}
 use Rattle.tx_journal.specs.declared.error.JournalError.TheVariants.{DiskFault, Damaged, TooLong, Full, Reopen, NotStarted, OneDisk, Spent, OutOfMemory}
-use Rattle.tx_journal.specs.File.{name, file_length}
+use Rattle.tx_journal.specs.File.{Image, name, file_length}
 use Rattle.tx_journal.specs.Calls.{JournalState, told, is_last}
 use Rattle.tx_journal.specs.Pair.{Files, Holds, number, first_generation}
 use Rattle.store_core.specs.declared.events.CompactEnd.{CompactEnd}
@@ -19,7 +19,7 @@ migration_refusal payloads t = if is_last (number (first_generation payloads)) t
 
 -- the journal's number is the one in its first payload
 abbrev pub HasNumber : JournalState → Type 0
-HasNumber j = (files : Files) → told j ≡ Some files → (payloads : List (List ℕ)) → Holds payloads files → j.generation ≡ first_generation payloads
+HasNumber j = (files : Files) → told j ≡ Some files → (held : Image) → Holds held files → j.generation ≡ first_generation held.payloads
 
 -- the name of the live file is that of its format
 abbrev pub IsNamed : JournalState → Type 0
@@ -47,7 +47,7 @@ migration_end len ends.OutOfMemory r = r ≡ Err OutOfMemory
 -- it was refused for this, and the contents and the live file are as they were
 abbrev pub IsRefusedFor : JournalError → StoreState → StoreState → Type 0
 IsRefusedFor e old new =
-    ((files : Files) → told old.journal ≡ Some files → (payloads : List (List ℕ)) → Holds payloads files → migration_refusal payloads old.contents ≡ Some e)
+    ((files : Files) → told old.journal ≡ Some files → (held : Image) → Holds held files → migration_refusal held.payloads old.contents ≡ Some e)
     × IsKept old new
 
 -- the live file is the new one, or the compaction isn't made

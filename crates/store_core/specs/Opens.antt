@@ -6,18 +6,18 @@ use Rattle.store_payloads.specs.FirstForm.{reading_in}
 use Rattle.store_payloads.specs.Folds.{Folded, folded, start}
 use Rattle.tx_journal.specs.declared.error.JournalError.{JournalError}
 use Rattle.tx_journal.specs.declared.error.JournalError.TheVariants.{DiskFault, Damaged, TooLong, Full, Reopen, NotStarted, OneDisk, Spent, OutOfMemory}
-use Rattle.tx_journal.specs.declared.format.Format.TheVariants.{One}
-use Rattle.tx_journal.specs.File.{most_bytes, name}
-use Rattle.tx_journal.specs.Pair.{Files, Holds, first_generation, live_bytes, read_payloads, LeavesOpened, SinceOpened}
+use Rattle.tx_journal.specs.declared.format.Format.TheVariants.{One, Two}
+use Rattle.tx_journal.specs.File.{most_bytes, name, Image, image}
+use Rattle.tx_journal.specs.Pair.{Files, Holds, first_generation, live_bytes, read_files, LeavesOpened, SinceOpened}
 use Rattle.tx_journal.specs.Calls.{Side, JournalState, told, next_number, is_making, FindsIn, IsNumbered, RefusesFiles, KeepsFiles}
 use Rattle.store_core.specs.Contents.{contents_of, is_old, compacted_payloads, OpensWith}
 use Rattle.store_core.specs.Store.{StoreState}
 use Rattle.store_core.specs.Migrations.{migration_refusal}
 
--- nothing if the first file is made, and otherwise what the payloads of the live one lead to
+-- nothing if the first file is made, and otherwise what the live one leads to
 abbrev pub FindsTables : Bool → Files → Tables → Type 0
 FindsTables true files t = t ≡ no_tables
-FindsTables false files t = (payloads : List (List ℕ)) × (read_payloads files ≡ Ok payloads) × (contents_of payloads ≡ Some t)
+FindsTables false files t = (found : Image) × (read_files files ≡ Ok found) × (contents_of found ≡ Some t)
 
 -- an opening that is done; whatever a crash leaves from now on opens with the same contents. The live file wasn't longer
 -- than a journal takes.
@@ -40,15 +40,24 @@ fault_behind is_first (Some n) [] = None
 fault_behind is_first (Some n) (p ∷ ps) = fault_from is_first (18 + length p) ps (start true)
 
 -- the first payload of a file is at 13, behind its name, gate and length; a Generation there isn't folded
-abbrev pub payloads_fault : List (List ℕ) → Option ℕ
-payloads_fault payloads = fault_behind (is_old payloads) (first_generation payloads) payloads
+abbrev pub payloads_fault : Image → Option ℕ
+payloads_fault found = fault_behind (is_old found.format) (first_generation found.payloads) found.payloads
 
 -- ---- an old file, which is compacted before the opening is done
 
--- its payloads are read, but their compaction is refused for this
-abbrev pub RefusesMigration : Bool → JournalError → Files → Type 0
-RefusesMigration create e files =
-    (payloads : List (List ℕ)) × (t : Tables) × FindsIn (is_making create files.first files.second) files payloads × (contents_of payloads ≡ Some t) × (migration_refusal payloads t ≡ Some e)
+-- the live file that an opening reads is of the first format
+abbrev pub FindsOld : Bool → Files → Type 0
+FindsOld create files = (is_making create files.first files.second ≡ false) × (found : Image) × (read_files files ≡ Ok found) × (found.format ≡ One)
+
+-- it is, and has contents, but their compaction is refused for this
+pub record RefusesMigration (create : Bool) (e : JournalError) (files : Files) : Type 0 where
+  pub reads : is_making create files.first files.second ≡ false
+  pub found : Image
+  pub is : read_files files ≡ Ok found
+  pub old : found.format ≡ One
+  pub contents : Tables
+  pub leads : contents_of found ≡ Some contents
+  pub refused : migration_refusal found.payloads contents ≡ Some e
 
 -- a file of the first format
 abbrev pub HasFirstName : Option DiskState → Type 0
@@ -60,36 +69,29 @@ abbrev pub IsOfFirstFormat : Option Side → Type 0
 IsOfFirstFormat None = ⊥
 IsOfFirstFormat (Some side) = (d : DiskState) → side.told ≡ Some d → HasFirstName (Some d)
 
--- the payloads that an opening reads are of the first form
-abbrev pub FindsOld : Bool → Files → Type 0
-FindsOld create files = (payloads : List (List ℕ)) × FindsIn (is_making create files.first files.second) files payloads × (is_old payloads ≡ true)
-
 -- The files are as they were read, or the first one was made. The journal's number is the one in the live file.
 pub record IsUnchanged (create : Bool) (before : Option Files) (j : JournalState) : Type 0 where
   pub number : IsNumbered j
   pub files : Tells (KeepsFiles create) before (told j)
 
 -- The live file is the one that the opening wrote, with a number one above that of the file that it read. That one was
--- old, by its payloads or by its format.
+-- of the first format, and is the other file now.
 pub record IsMigrated (create : Bool) (before : Option Files) (s : StoreState) : Type 0 where
   pub count : ℕ
   pub generation : s.journal.generation ≡ Some count
-  pub above : (files : Files) → before ≡ Some files → (payloads : List (List ℕ)) → FindsIn (is_making create files.first files.second) files payloads → count ≡ next_number (first_generation payloads)
-  pub holds : (files : Files) → told s.journal ≡ Some files → Holds (compacted_payloads count 0 s.contents) files
-  pub old : ((files : Files) → before ≡ Some files → FindsOld create files) ⊎ IsOfFirstFormat s.journal.other
-
--- why an opening compacts: the payloads that it read are of the first form, or a file is of the first format
-abbrev pub WasOld : Bool → Files → Files → Type 0
-WasOld create old new = FindsOld create old ⊎ HasFirstName (Some new.first) ⊎ HasFirstName new.second
+  pub above : (files : Files) → before ≡ Some files → (found : Image) → FindsIn (is_making create files.first files.second) files found → count ≡ next_number (first_generation found.payloads)
+  pub holds : (files : Files) → told s.journal ≡ Some files → Holds (image Two (compacted_payloads count 0 s.contents)) files
+  pub old : (files : Files) → before ≡ Some files → FindsOld create files
+  pub other : IsOfFirstFormat s.journal.other
 
 -- Until the files are opened, a crash leaves them as they were read; from then on, whatever it leaves opens with the
 -- same contents.
 abbrev pub Migrates : Bool → Tables → Files → Files → Type 0
 Migrates create t old new = FindsTables (is_making create old.first old.second) old t × (mid : Files) × KeepsFiles create old mid × SinceOpened (OpensWith t) mid new
 
--- what a crash in an opening may leave: the files as they were read or made, or those of a compaction
+-- what a crash in an opening may leave: the files as they were read or made, or, of an old one, those of a compaction
 abbrev pub KeepsStore : Bool → Files → Files → Type 0
-KeepsStore create old new = KeepsFiles create old new ⊎ (WasOld create old new × (t : Tables) × Migrates create t old new)
+KeepsStore create old new = KeepsFiles create old new ⊎ (FindsOld create old × (t : Tables) × Migrates create t old new)
 
 -- ---- refusals
 
@@ -107,7 +109,7 @@ IsStoreOpenError OutOfMemory = Unit {0}
 
 -- a payload that isn't read
 abbrev pub RefusesPayload : Bool → ℕ → Files → Type 0
-RefusesPayload create offset files = (is_making create files.first files.second ≡ false) × (payloads : List (List ℕ)) × (read_payloads files ≡ Ok payloads) × (payloads_fault payloads ≡ Some offset)
+RefusesPayload create offset files = (is_making create files.first files.second ≡ false) × (found : Image) × (read_files files ≡ Ok found) × (payloads_fault found ≡ Some offset)
 
 -- The cause of a refused opening: that of the journal, a payload that isn't read, or that of the compaction.
 abbrev pub RefusesStore : Bool → JournalError → Files → Type 0
@@ -121,16 +123,11 @@ RefusesStore create OneDisk files = RefusesFiles create OneDisk files
 RefusesStore create (Spent count) files = RefusesFiles create (Spent count) files
 RefusesStore create OutOfMemory files = RefusesFiles create OutOfMemory files
 
--- The same, with the files as they are handed back: it is the journal that refuses them, or a payload isn't read, or one
--- of them is old (WasOld).
-abbrev pub RefusesAged : Bool → JournalError → Files → Files → Type 0
-RefusesAged create e old new = RefusesFiles create e old ⊎ ((offset : ℕ) × (e ≡ Damaged offset) × RefusesPayload create offset old) ⊎ WasOld create old new
-
 -- ---- files with contents
 
--- payloads that lead to contents have a reading, each where it comes
+-- the payloads of a file that leads to contents have a reading, each where it comes
 abbrev pub HaveReadings : Type 0
-HaveReadings = (payloads : List (List ℕ)) (t : Tables) → contents_of payloads ≡ Some t → payloads_fault payloads ≡ None
+HaveReadings = (held : Image) (t : Tables) → contents_of held ≡ Some t → payloads_fault held ≡ None
 
 -- why files with contents may be refused: by a disk, by want of memory, or because their compaction is
 abbrev pub MayRefuse : Bool → JournalError → Files → Type 0
@@ -148,13 +145,13 @@ MayRefuse create OutOfMemory files = Unit {0}
 abbrev pub RefusesContents : Type 0
 RefusesContents =
     (t : Tables) (create : Bool) (e : JournalError) (files : Files)
-    → OpensWith t (read_payloads files) → length (live_bytes files.first files.second) ≤ most_bytes → RefusesStore create e files → MayRefuse create e files
+    → OpensWith t (read_files files) → length (live_bytes files.first files.second) ≤ most_bytes → RefusesStore create e files → MayRefuse create e files
 
--- if none of them is old, then only by a disk or by want of memory
+-- if the live one isn't old, then only by a disk or by want of memory
 abbrev pub RefusesToday : Type 0
 RefusesToday =
-    (t : Tables) (create : Bool) (e : JournalError) (old new : Files)
-    → OpensWith t (read_payloads old) → length (live_bytes old.first old.second) ≤ most_bytes → RefusesAged create e old new → (e ≡ DiskFault) ⊎ (e ≡ OutOfMemory) ⊎ WasOld create old new
+    (t : Tables) (create : Bool) (e : JournalError) (files : Files)
+    → OpensWith t (read_files files) → length (live_bytes files.first files.second) ≤ most_bytes → RefusesStore create e files → (e ≡ DiskFault) ⊎ (e ≡ OutOfMemory) ⊎ FindsOld create files
 
 -- ---- reading an opened journal
 
@@ -163,13 +160,13 @@ abbrev pub first_place : Bool → ℕ
 first_place true = 35
 first_place false = 13
 
--- the payloads that it holds lead to these tables
+-- what it holds leads to these tables
 abbrev pub IsFolded : Tables → JournalState → Type 0
-IsFolded t j = (files : Files) → told j ≡ Some files → (payloads : List (List ℕ)) → Holds payloads files → contents_of payloads ≡ Some t
+IsFolded t j = (files : Files) → told j ≡ Some files → (held : Image) → Holds held files → contents_of held ≡ Some t
 
--- why they lead to none: the offset is that of the first one without a reading
+-- why it leads to none: the offset is that of the first one without a reading
 abbrev pub IsFoldFault : JournalError → JournalState → Type 0
-IsFoldFault (Damaged offset) j = (files : Files) → told j ≡ Some files → (payloads : List (List ℕ)) → Holds payloads files → payloads_fault payloads ≡ Some offset
+IsFoldFault (Damaged offset) j = (files : Files) → told j ≡ Some files → (held : Image) → Holds held files → payloads_fault held ≡ Some offset
 IsFoldFault DiskFault j = Unit {0}
 IsFoldFault (TooLong n) j = ⊥
 IsFoldFault (Full len) j = ⊥
@@ -181,4 +178,4 @@ IsFoldFault OutOfMemory j = Unit {0}
 
 -- the form of the payloads that it holds
 abbrev pub HasForm : Bool → JournalState → Type 0
-HasForm is_first j = (files : Files) → told j ≡ Some files → (payloads : List (List ℕ)) → Holds payloads files → is_old payloads ≡ is_first
+HasForm is_first j = (files : Files) → told j ≡ Some files → (held : Image) → Holds held files → is_old held.format ≡ is_first

@@ -14,20 +14,22 @@ use Rattle.tx_journal.specs.Calls.{JournalState, told, is_alone, append_refusal,
 use Rattle.tx_journal.specs.Pair.{Files, Holds, LeavesOpened, SinceOpened}
 use Rattle.store_payloads.specs.Fits.{TablesFit}
 use Rattle.store_payloads.specs.Payloads.{command_payload}
-use Rattle.store_core.specs.Contents.{contents_of, is_old, OpensWith, OpensWithEither}
+use Rattle.tx_journal.specs.declared.format.Format.TheVariants.{Two}
+use Rattle.tx_journal.specs.File.{Image}
+use Rattle.store_core.specs.Contents.{contents_of, OpensWith, OpensWithEither}
 
 -- what a store contains, and its journal
 pub record StoreState : Type 0 where
   pub contents : Tables
   pub journal : JournalState
 
--- unless it met a fault, the journal holds payloads that lead to these contents
+-- unless it met a fault, what the journal holds leads to these contents
 abbrev pub IsConsistent : JournalState → Tables → Type 0
-IsConsistent j t = j.is_broken ≡ false → (files : Files) → told j ≡ Some files → (payloads : List (List ℕ)) × Holds payloads files × (contents_of payloads ≡ Some t)
+IsConsistent j t = j.is_broken ≡ false → (files : Files) → told j ≡ Some files → (held : Image) × Holds held files × (contents_of held ≡ Some t)
 
--- the same, and they aren't of the first form, so that an append goes on in theirs
+-- the same, and it is of the second format, so that an append goes on in its form
 abbrev pub IsCurrent : JournalState → Tables → Type 0
-IsCurrent j t = j.is_broken ≡ false → (files : Files) → told j ≡ Some files → (payloads : List (List ℕ)) × Holds payloads files × (contents_of payloads ≡ Some t) × (is_old payloads ≡ false)
+IsCurrent j t = j.is_broken ≡ false → (files : Files) → told j ≡ Some files → (held : Image) × Holds held files × (contents_of held ≡ Some t) × (held.format ≡ Two)
 
 -- what is true of every store; it has both of its files
 pub record IsWhole (j : JournalState) (t : Tables) : Type 0 where

@@ -1,8 +1,8 @@
 // What an opening does with a file of the first format: it compacts it.
-ghost use Rattle.std.specs.Prelude.{◌≡◌, ◌⊎◌, false, true, OnOk};
+ghost use Rattle.std.specs.Prelude.{◌≡◌, false, true, OnOk};
 ghost use Rattle.store_payloads.specs.Fits.{TablesFit};
 ghost use Rattle.tx_journal.specs.declared.format.Format.TheVariants.{One, Two};
-ghost use Rattle.tx_journal.specs.Calls.{is_alone};
+ghost use Rattle.tx_journal.specs.Calls.{is_alone, HoldsFormat};
 ghost use Rattle.store_core.specs.Store.{IsConsistent, IsCurrent};
 ghost use Rattle.store_core.specs.Migrations.{HasNumber, IsNamed, migration_end, Rewrites};
 
@@ -17,17 +17,14 @@ use tx_journal::{Journal, JournalError};
 // The format in which payloads have spaces.
 const SECOND: u8 = 2;
 
-/// Whether the live file of an opened journal is of the second format, and its payloads aren't of the first form.
-pub(crate) fn is_up_to_date<D: Disk>(journal: &Journal<D>, is_first: bool) -> bool
-    ensures today { result ≡ true → (is_first ≡ false) × (journal.now.format ≡ Two) }
-    ensures old { result ≡ false → (is_first ≡ true) ⊎ (journal.now.format ≡ One) }
+/// Whether the live file of an opened journal is of the second format.
+pub(crate) fn is_up_to_date<D: Disk>(journal: &Journal<D>) -> bool
+    ensures today { result ≡ true → journal.now.format ≡ Two }
+    ensures old { result ≡ false → journal.now.format ≡ One }
     ensures named { IsNamed journal.now }
+    ensures held { HoldsFormat journal.now }
 {
-    let format = journal.format();
-    if is_first {
-        return false;
-    }
-    format == SECOND
+    journal.format() == SECOND
 }
 
 // What the end of the compaction of a live file of this length means to an opening.

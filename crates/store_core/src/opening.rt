@@ -4,15 +4,19 @@ ghost use Rattle.store_payloads.specs.Fits.{TablesFit};
 ghost use Rattle.store_payloads.specs.Folds.{start};
 ghost use Rattle.tx_journal.specs.Calls.{is_alone};
 ghost use Rattle.tx_journal.specs.Journal.{Costs, IsPortFault};
+ghost use Rattle.store_core.specs.Contents.{is_old};
 ghost use Rattle.store_core.specs.Migrations.{HasNumber};
 ghost use Rattle.store_core.specs.Opens.{first_place, HasForm, IsFolded, IsFoldFault};
 
 use crate::ending::end;
 use disk_model::Disk;
 use std::alloc::Global;
-use store_payloads::{StoreFold, is_first_payload};
+use store_payloads::StoreFold;
 use store_tables::StoreTables;
 use tx_journal::{Journal, JournalError};
+
+// The format in which payloads have no spaces.
+const FIRST: u8 = 1;
 
 // The offset of the first payload that is folded: behind name, gate and length, or behind a Generation.
 fn first_place(is_snapshot: bool) -> u64
@@ -39,25 +43,13 @@ fn read_fault(error: JournalError) -> JournalError
     }
 }
 
-// Whether the payloads of an opened journal are of the first form: the first one tells it.
-fn find_form<D: Disk>(alloc: Global, journal: &mut Journal<D>) -> Result<bool, JournalError>
-    requires works { journal.old.is_broken ≡ false }
-    requires pair { is_alone journal.old.other ≡ false }
-    ensures form { IfOk result (λ is_first. HasForm is_first journal.old) }
-    ensures fault { IfErr result IsPortFault }
-    ensures same { journal.new ≡ record journal.old { live = record { told = journal.old.live.told; faults = journal.new.live.faults }; is_broken = journal.new.is_broken } }
-    ensures unbroken { IfOk result (λ is_first. journal.new.is_broken ≡ false) }
-    ensures cause { Costs journal.old.live.faults journal.new.live.faults result }
+// Whether the payloads of an opened journal are of the first form: the name of its live file tells it.
+fn is_first_form<D: Disk>(journal: &Journal<D>) -> bool
+    requires { journal.now.is_broken ≡ false }
+    ensures format { result ≡ is_old journal.now.format }
+    ensures form { HasForm result journal.now }
 {
-    let payload = match journal.replay(alloc, 0) {
-        Ok(Some(payload)) => payload,
-        Ok(None) => return Ok(false),
-        Err(error) => return Err(read_fault(error)),
-    };
-    match is_first_payload(alloc, payload.as_slice()) {
-        Ok(is_first) => Ok(is_first),
-        Err(_) => Err(JournalError::OutOfMemory),
-    }
+    journal.format() == FIRST
 }
 
 // Takes the payloads of an opened journal, one after another; `Damaged` at the first one that has no reading.
@@ -101,40 +93,25 @@ fn fold_all<D: Disk>(
     Err(JournalError::OutOfMemory)
 }
 
-/// What was read of an opened journal.
-pub(crate) struct Found {
-    /// What the payloads lead to.
-    pub(crate) tables: StoreTables,
-    /// Whether the payloads are of the first form.
-    pub(crate) is_first: bool,
-}
-
 /// The tables that the payloads of an opened journal lead to; `Damaged` at the first one that has no reading.
 pub(crate) fn read_tables<D: Disk>(
     alloc: Global,
     journal: &mut Journal<D>,
-) -> Result<Found, JournalError>
+) -> Result<StoreTables, JournalError>
     requires works { journal.old.is_broken ≡ false }
     requires pair { is_alone journal.old.other ≡ false }
-    ensures read { IfOk result (λ found. IsFolded found.tables.tables journal.old) }
-    ensures form { IfOk result (λ found. HasForm found.is_first journal.old) }
-    ensures number { IfOk result (λ found. HasNumber journal.old) }
-    ensures fits { IfOk result (λ found. TablesFit found.tables.tables) }
+    ensures read { IfOk result (λ t. IsFolded t.tables journal.old) }
+    ensures number { IfOk result (λ t. HasNumber journal.old) }
+    ensures fits { IfOk result (λ t. TablesFit t.tables) }
     ensures fault { IfErr result (λ e. IsFoldFault e journal.old) }
     ensures same { journal.new ≡ record journal.old { live = record { told = journal.old.live.told; faults = journal.new.live.faults }; is_broken = journal.new.is_broken } }
-    ensures unbroken { IfOk result (λ found. journal.new.is_broken ≡ false) }
+    ensures unbroken { IfOk result (λ t. journal.new.is_broken ≡ false) }
     ensures cause { Costs journal.old.live.faults journal.new.live.faults result }
 {
-    let is_first = match find_form(alloc, journal) {
-        Ok(is_first) => is_first,
-        Err(error) => return Err(error),
-    };
+    let is_first = is_first_form(journal);
     let mut fold = StoreFold::new(alloc, journal.generation().is_some());
     match fold_all(alloc, journal, &mut fold, is_first) {
-        Ok(()) => Ok(Found {
-            tables: fold.into_tables(),
-            is_first,
-        }),
+        Ok(()) => Ok(fold.into_tables()),
         Err(error) => {
             end(fold);
             Err(error)

@@ -10,12 +10,12 @@ ghost use Rattle.tx_journal.specs.declared.format.Format.TheVariants.{Two};
 ghost use Rattle.tx_journal.specs.Journal.{Rises};
 ghost use Rattle.tx_journal.specs.Calls.{told, tell_both, is_alone, first_side, second_side, IsOpened};
 ghost use Rattle.tx_journal.specs.Pair.{Files};
-ghost use Rattle.store_core.specs.Opens.{OpensStore, IsUnchanged, IsMigrated, IsStoreOpenError, RefusesStore, RefusesAged, KeepsStore};
+ghost use Rattle.store_core.specs.Opens.{OpensStore, IsUnchanged, IsMigrated, IsStoreOpenError, RefusesStore, KeepsStore};
 ghost use Rattle.store_core.specs.Store.{refusal_by, IsCurrent, Written, Moves};
 
 use crate::ending::end;
 use crate::migration::{is_up_to_date, migrate};
-use crate::opening::{Found, read_tables};
+use crate::opening::read_tables;
 use disk_model::Disk;
 use frame_wire::{StoreAnswer, StoreCommand, StoreRefusal};
 use std::alloc::Global;
@@ -118,7 +118,8 @@ impl<D: Disk> Store<D> {
     /// Opens a store of two files. It contains what the payloads of the live one lead to, or nothing if neither is made
     /// and `create` is true. `Damaged` is answered also at the first payload that has no reading.
     ///
-    /// A live file of the first format is compacted before it answers; what it contains is in the space `default`. If
+    /// The name of the live file tells the form of its payloads. One of the first format is compacted before it answers;
+    /// what it contains is in the space `default`. If
     /// that is refused, so is the opening, and `Damaged` at the live file's length stands for `Spent`. A refused opening
     /// hands both disks back, and their live file has the contents that it had.
     pub fn open(
@@ -133,7 +134,6 @@ impl<D: Disk> Store<D> {
         ensures format { IfOk result (λ s. s.journal.format ≡ Two) }
         ensures migrated { IfOk result (λ s. IsUnchanged create (tell_both (D.told first) (D.told second)) s.journal ⊎ IsMigrated create (tell_both (D.told first) (D.told second)) s) }
         ensures refused { IfErr result (λ r. IsStoreOpenError r.0 × ((files : Files) → tell_both (D.told first) (D.told second) ≡ Some files → RefusesStore create r.0 files)) }
-        ensures aged { IfErr result (λ r. (old new : Files) → tell_both (D.told first) (D.told second) ≡ Some old → tell_both (D.told r.1) (D.told r.2) ≡ Some new → RefusesAged create r.0 old new) }
         ensures crash { IfOk result (λ s. Tells (KeepsStore create) (tell_both (D.told first) (D.told second)) (told s.journal)) }
         ensures crash_refused { IfErr result (λ r. Tells (KeepsStore create) (tell_both (D.told first) (D.told second)) (tell_both (D.told r.1) (D.told r.2))) }
         ensures cause { IfErr result (λ r. r.0 ≡ JournalError.DiskFault → Rises (D.disk_faults first) (D.disk_faults r.1) ⊎ Rises (D.disk_faults second) (D.disk_faults r.2)) }
@@ -142,17 +142,14 @@ impl<D: Disk> Store<D> {
             Ok(journal) => journal,
             Err(refused) => return Err(refused),
         };
-        let Found {
-            mut tables,
-            is_first,
-        } = match read_tables(alloc, &mut journal) {
-            Ok(found) => found,
+        let mut tables = match read_tables(alloc, &mut journal) {
+            Ok(tables) => tables,
             Err(error) => {
                 let (first, second) = close_pair(journal);
                 return Err((error, first, second));
             }
         };
-        if is_up_to_date(&journal, is_first) {
+        if is_up_to_date(&journal) {
             return Ok(Store {
                 journal,
                 tables,

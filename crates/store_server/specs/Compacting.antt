@@ -6,10 +6,10 @@ use Rattle.tx_journal.specs.declared.error.JournalError.TheVariants as errors
 use Rattle.step_gate.specs.Gates.{SeatOf, Adds, SeesLast}
 use Rattle.store_core.specs.declared.events.CompactEnd.{CompactEnd}
 use Rattle.store_core.specs.declared.events.CompactEnd.TheVariants as ends
-use Rattle.store_core.specs.declared.events.StoreEvent.{StoreEvent}
-use Rattle.store_core.specs.declared.events.StoreEvent.TheVariants.{Compact}
-use Rattle.store_core.specs.declared.events.StoreOutcome.{StoreOutcome}
-use Rattle.store_core.specs.declared.events.StoreOutcome.TheVariants.{Answer, CompactIs}
+use Rattle.fence_rows.specs.declared.event.FencedEvent.{FencedEvent}
+use Rattle.fence_rows.specs.declared.event.FencedEvent.TheVariants.{Compact}
+use Rattle.fence_rows.specs.declared.event.FencedOutcome.{FencedOutcome}
+use Rattle.fence_rows.specs.declared.event.FencedOutcome.TheVariants.{Answer, CompactIs}
 use Rattle.store_core.specs.Store.{StoreState}
 use Rattle.store_server.specs.declared.compacting.Compaction.{Compaction}
 use Rattle.store_server.specs.declared.compacting.Compaction.TheVariants.{Made, Short, Kept, Lost}
@@ -29,7 +29,7 @@ came_from (ends.Failed error) = came_by error
 came_from ends.OutOfMemory = Kept
 
 -- a compaction isn't answered as a command
-abbrev pub came_of : StoreOutcome → Compaction
+abbrev pub came_of : FencedOutcome → Compaction
 came_of (Answer answer) = Kept
 came_of (CompactIs end) = came_from end
 
@@ -56,11 +56,11 @@ next_least len =
 -- ---- a turn
 
 abbrev pub StoreSeat : Type 0
-StoreSeat = SeatOf StoreState StoreEvent StoreOutcome
+StoreSeat = SeatOf StoreState FencedEvent FencedOutcome
 
 -- one compaction was asked for, which came to this; or the gate takes no more events
 abbrev pub Asks : ℕ → ℕ → StoreSeat → StoreSeat → Compaction → Type 0
-Asks least now before after came = ((r : StoreOutcome) × (Adds (Compact least now) r before after × (came ≡ came_of r))) ⊎ ((came ≡ Lost) × SeesLast before after)
+Asks least now before after came = ((r : FencedOutcome) × (Adds (Compact least now) r before after × (came ≡ came_of r))) ⊎ ((came ≡ Lost) × SeesLast before after)
 
 -- the least length after a compaction that was made, by what came of the question for its length
 abbrev pub least_by : ℕ → Compaction → Option ℕ

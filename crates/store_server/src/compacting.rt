@@ -1,14 +1,15 @@
 // One turn of the compactions: what is asked of the store, and when the next one is due.
 ghost use Rattle.std.specs.Prelude.{◌≡◌, ◌<◌};
 ghost use Rattle.step_gate.specs.Gates.{IsSeatOf};
-ghost use Rattle.store_core.specs.Events.{Allows};
+ghost use Rattle.fence_rows.specs.Events.{Allows};
 ghost use Rattle.store_server.specs.Compacting.{came_by, came_of, grown, next_least, Asks, IsTurn};
 ghost use Rattle.tx_journal.specs.File.{most_bytes};
 
 use disk_model::Disk;
+use fence_rows::{Fenced, FencedEvent, FencedOutcome};
 use std::sync::Wait;
 use step_gate::{Gate, Seat};
-use store_core::{CompactEnd, Store, StoreEvent, StoreOutcome};
+use store_core::CompactEnd;
 use tx_journal::JournalError;
 
 /// The least length of a file that is written anew, in bytes.
@@ -41,17 +42,17 @@ fn came_by(error: &JournalError) -> Compaction
 }
 
 // What came of a compaction.
-fn came_of(outcome: &StoreOutcome) -> Compaction
+fn came_of(outcome: &FencedOutcome) -> Compaction
     ensures { result ≡ came_of outcome.now }
 {
     match outcome {
-        StoreOutcome::CompactIs { end } => match end {
+        FencedOutcome::CompactIs { end } => match end {
             CompactEnd::Compacted { rows: _ } => Compaction::Made,
             CompactEnd::NotNeeded { len } => Compaction::Short { len: *len },
             CompactEnd::Failed { error } => came_by(error),
             CompactEnd::OutOfMemory => Compaction::Kept,
         },
-        StoreOutcome::Answer { answer: _ } => Compaction::Kept,
+        FencedOutcome::Answer { answer: _ } => Compaction::Kept,
     }
 }
 
@@ -82,8 +83,8 @@ fn next_least(len: u64) -> u64
 // Asks for one compaction.
 fn ask<R: Wait, D: Disk>(
     rt: &R,
-    gate: &Gate<Store<D>>,
-    seat: &mut Seat<Store<D>>,
+    gate: &Gate<Fenced<D>>,
+    seat: &mut Seat<Fenced<D>>,
     least: u64,
     now: u64,
 ) -> Compaction
@@ -92,7 +93,7 @@ fn ask<R: Wait, D: Disk>(
     ensures seat { IsSeatOf Allows gate.now seat.new }
     ensures asks { Asks least now seat.old seat.new result }
 {
-    match gate.call_in(rt, seat, StoreEvent::Compact { least, now }) {
+    match gate.call_in(rt, seat, FencedEvent::Compact { least, now }) {
         Ok(outcome) => came_of(&outcome),
         Err(_) => Compaction::Lost,
     }
@@ -103,8 +104,8 @@ fn ask<R: Wait, D: Disk>(
 /// has lost its disk.
 pub(crate) fn compact_turn<R: Wait, D: Disk>(
     rt: &R,
-    gate: &Gate<Store<D>>,
-    seat: &mut Seat<Store<D>>,
+    gate: &Gate<Fenced<D>>,
+    seat: &mut Seat<Fenced<D>>,
     least: u64,
     now: u64,
 ) -> Option<u64>

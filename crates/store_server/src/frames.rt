@@ -1,30 +1,68 @@
-// The store, asked by frames.
+// The store with its fence, asked by frames.
 ghost use Rattle.std.specs.Prelude.{◌≡◌, ◌<◌, Option, IfSome};
 ghost use Rattle.frame_wire.specs.Frames.{IsFrame};
+ghost use Rattle.frame_wire.specs.Store.{AnswerFits};
 ghost use Rattle.step_gate.specs.Gates.{IsSeatOf};
 ghost use Rattle.frame_session.specs.Sessions.{IsSession, SessionCause};
-ghost use Rattle.store_core.specs.Events.{Takes, Allows};
-ghost use Rattle.store_server.specs.Commands.{store_event, store_answer, loses_disk, store_breaks};
+ghost use Rattle.fence_rows.specs.Events.{Takes, Allows};
+ghost use Rattle.fence_rows.specs.Fences.{FencedAnswerFits};
+ghost use Rattle.store_server.specs.Commands.{store_event, fenced_answer, store_answer, answer_breaks, loses_disk, store_breaks};
 
 use actor_ports::{Clock, Conn, SessionEnd};
 use disk_model::Disk;
+use fence_rows::{Fenced, FencedAnswer, FencedCommand, FencedEvent, FencedOutcome};
 use frame_session::{AnswersFrames, frame_session};
-use frame_wire::{Frame, StoreAnswer, StoreRefusal};
+use frame_wire::{Frame, StoreAnswer, StoreCommand, StoreRefusal};
 use std::alloc::Global;
 use std::sync::Wait;
 use step_gate::{Gate, Seat};
-use store_core::{Store, StoreEvent, StoreOutcome};
 
 // What a frame asks of the store; `None` if such a frame isn't sent to it.
-fn store_event(frame: Frame, now: u64) -> Option<StoreEvent>
+fn store_event(frame: Frame, now: u64) -> Option<FencedEvent>
     requires sent { IsFrame frame }
     requires early { now < 253370764800000 }
     ensures event { result ≡ store_event frame now }
     ensures takes { IfSome result Takes }
 {
     match frame {
-        Frame::Command { command } => Some(StoreEvent::Command { command, now }),
+        Frame::Command { command } => Some(FencedEvent::Command {
+            command: FencedCommand::Plain { command },
+            now,
+        }),
+        Frame::FencedTx {
+            epoch,
+            stamp,
+            actor,
+            ops,
+        } => Some(FencedEvent::Command {
+            command: FencedCommand::Tx {
+                epoch,
+                command: StoreCommand::Tx { stamp, actor, ops },
+            },
+            now,
+        }),
         _ => None,
+    }
+}
+
+// A refusal, as an answer of the store.
+fn refused(refusal: StoreRefusal) -> StoreAnswer
+    ensures { result ≡ StoreAnswer.Refused refusal }
+{
+    StoreAnswer::Refused { refusal }
+}
+
+// What a frame says of an answer.
+fn fenced_answer(answer: FencedAnswer) -> StoreAnswer
+    requires { FencedAnswerFits answer }
+    ensures is { result ≡ fenced_answer answer }
+    ensures fits { AnswerFits result }
+{
+    match answer {
+        FencedAnswer::Answer { answer } => answer,
+        FencedAnswer::StaleEpoch { seen } => refused(StoreRefusal::StaleEpoch { seen }),
+        FencedAnswer::ReservedKey { op } => refused(StoreRefusal::ReservedKey { op: op as u64 }),
+        FencedAnswer::Unfenced => refused(StoreRefusal::Unfenced),
     }
 }
 
@@ -35,11 +73,23 @@ fn loses_disk(refusal: &StoreRefusal) -> bool
     matches!(refusal, StoreRefusal::DiskFault | StoreRefusal::Reopen)
 }
 
-/// The frames of a store: each command is an event, and each answer a frame. `DiskFault` and `Reopen` break a session
-/// off.
+// Whether an answer says so.
+fn answer_breaks(answer: &FencedAnswer) -> bool
+    ensures { result ≡ answer_breaks answer.now }
+{
+    match answer {
+        FencedAnswer::Answer {
+            answer: StoreAnswer::Refused { refusal },
+        } => loses_disk(refusal),
+        _ => false,
+    }
+}
+
+/// The frames of a store: each command is an event, with an epoch or without one, and each answer a frame. `DiskFault` and
+/// `Reopen` break a session off.
 pub struct StoreFrames;
 
-impl<D: Disk> AnswersFrames<Store<D>> for StoreFrames {
+impl<D: Disk> AnswersFrames<Fenced<D>> for StoreFrames {
     ghost use Rattle.store_server.specs.Commands.{store_event, store_answer, store_breaks};
 
     ghost event_of = { store_event };
@@ -48,41 +98,41 @@ impl<D: Disk> AnswersFrames<Store<D>> for StoreFrames {
 
     ghost breaks_off = { store_breaks };
 
-    fn event(frame: Frame, now: u64) -> Option<StoreEvent> {
+    fn event(frame: Frame, now: u64) -> Option<FencedEvent> {
         store_event(frame, now)
     }
 
-    fn answer(reply: StoreOutcome) -> Frame {
+    fn answer(reply: FencedOutcome) -> Frame {
         match reply {
-            StoreOutcome::Answer { answer } => Frame::Answer { answer },
-            StoreOutcome::CompactIs { end: _ } => unreachable!(),
+            FencedOutcome::Answer { answer } => Frame::Answer {
+                answer: fenced_answer(answer),
+            },
+            FencedOutcome::CompactIs { end: _ } => unreachable!(),
         }
     }
 
-    fn breaks(reply: &StoreOutcome) -> bool {
+    fn breaks(reply: &FencedOutcome) -> bool {
         match reply {
-            StoreOutcome::Answer {
-                answer: StoreAnswer::Refused { refusal },
-            } => loses_disk(refusal),
-            _ => false,
+            FencedOutcome::Answer { answer } => answer_breaks(answer),
+            FencedOutcome::CompactIs { end: _ } => false,
         }
     }
 }
 
-/// Answers the commands of a connection until it ends: each is one step of the store at the gate, at a moment of the
+/// Answers the commands of a connection until it ends: each is one step of the fenced store at the gate, at a moment of the
 /// clock, and its answer is written before the next frame is taken. The frames before a fault are answered.
 pub fn store_session<R: Wait, D: Disk, C: Conn, K: Clock>(
     rt: &R,
     alloc: Global,
-    gate: &Gate<Store<D>>,
-    seat: Seat<Store<D>>,
+    gate: &Gate<Fenced<D>>,
+    seat: Seat<Fenced<D>>,
     conn: &mut C,
     clock: &mut K,
-) -> (Seat<Store<D>>, SessionEnd)
+) -> (Seat<Fenced<D>>, SessionEnd)
     requires { IsSeatOf Allows gate.now seat }
     ensures seat { IsSeatOf Allows gate.now result.0 }
     ensures session { IsSession store_event store_answer store_breaks seat result.0 (K.shown clock.old) (K.shown clock.new) (C.read_traffic conn.old) (C.read_traffic conn.new) result.1 }
     ensures cause { SessionCause (C.read_faults conn.old) (C.read_faults conn.new) result.1 }
 {
-    frame_session::<R, Store<D>, StoreFrames, C, K>(rt, alloc, gate, seat, conn, clock)
+    frame_session::<R, Fenced<D>, StoreFrames, C, K>(rt, alloc, gate, seat, conn, clock)
 }

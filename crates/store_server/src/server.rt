@@ -4,29 +4,29 @@ ghost use Rattle.server_ports.specs.declared.accept.ServerEnd.TheVariants.{PortF
 ghost use Rattle.step_gate.specs.declared.view.HistoryEntry.{HistoryEntry};
 ghost use Rattle.step_gate.specs.Gates.{IsSeatOf};
 ghost use Rattle.step_gate.specs.History.{HistoryLeadsTo};
-ghost use Rattle.store_core.specs.declared.events.StoreEvent.{StoreEvent};
-ghost use Rattle.store_core.specs.declared.events.StoreOutcome.{StoreOutcome};
-ghost use Rattle.store_core.specs.Events.{Allows};
+ghost use Rattle.fence_rows.specs.declared.event.FencedEvent.{FencedEvent};
+ghost use Rattle.fence_rows.specs.declared.event.FencedOutcome.{FencedOutcome};
+ghost use Rattle.fence_rows.specs.Events.{Allows};
 
 use crate::compacting::USUAL_LEAST;
-use crate::crossing::store_crosses;
+use crate::crossing::fenced_crosses;
 use crate::pass::Pass;
 use crate::service::{StoreService, do_duty};
 use crate::session::serve_one;
 use actor_names::{Address, OutOfMemory};
 use actor_ports::{Clock, Conn, Dial, Listen};
 use disk_model::Disk;
+use fence_rows::Fenced;
 use server_ports::{Duty, Ending, ServerEnd, serve_port};
 use std::alloc::Global;
 use std::sync::Wait;
 use std::thread::Threads;
 use step_gate::Gate;
-use store_core::Store;
 
 /// How a server ended, with its store.
 #[derive(Drop)]
 pub struct StoreServed<D: Disk> {
-    pub store: Store<D>,
+    pub store: Fenced<D>,
     pub end: ServerEnd,
 }
 
@@ -41,21 +41,23 @@ fn serve_at<
 >(
     rt: &R,
     alloc: Global,
-    gate: &Gate<Store<D>>,
+    gate: &Gate<Fenced<D>>,
     pass: Pass<D, K, N>,
     port: L,
     at: Address,
     most: Option<u64>,
+    at_once: u64,
 ) -> (L, ServerEnd)
     requires { IsSeatOf Allows gate.now pass.seat }
     ensures never_falls { L.listen_faults port ≤ L.listen_faults result.0 }
     ensures cause { result.1 ≡ PortFault → L.listen_faults port < L.listen_faults result.0 }
     ensures limit { result.1 ≡ Served → IsSome most }
 {
-    store_crosses::<D>();
+    fenced_crosses::<D>();
     let service = StoreService {
         gate,
         ending: Ending::new(at, None),
+        at_once,
     };
     let shared = &service;
     let serve = |pass: Pass<D, K, N>, conn: C|
@@ -69,9 +71,9 @@ fn serve_at<
 }
 
 /// Serves the store at a port until `most` connections were served (without a limit if it is `None`), the store has lost
-/// its disk, or the port fails. Each connection has a thread of its own. Every 1,000 milliseconds the store is compacted
-/// if its file has 67,108,864 bytes, or twice what the last compaction left where that is more. If memory runs out before
-/// the first connection, the store is dropped.
+/// its disk, or the port fails. Each connection has a thread of its own; at most `at_once` are served at once. Every 1,000
+/// milliseconds the store is compacted if its file has 67,108,864 bytes, or twice what the last compaction left where that
+/// is more. If memory runs out before the first connection, the store is dropped.
 pub fn serve_store<
     R: Threads + Wait + Sync,
     D: Disk + Drop + Send,
@@ -82,17 +84,18 @@ pub fn serve_store<
 >(
     rt: &R,
     alloc: Global,
-    store: Store<D>,
+    store: Fenced<D>,
     port: L,
     clock: K,
     net: N,
     at: Address,
     most: Option<u64>,
+    at_once: u64,
 ) -> (L, Result<StoreServed<D>, OutOfMemory>)
     ensures never_falls { L.listen_faults port ≤ L.listen_faults result.0 }
     ensures cause { IfOk result.1 (λ s. s.end ≡ PortFault → L.listen_faults port < L.listen_faults result.0) }
     ensures limit { IfOk result.1 (λ s. s.end ≡ Served → IsSome most) }
-    ensures history { IfOk result.1 (λ s. (h : List (HistoryEntry StoreEvent StoreOutcome)) × HistoryLeadsTo Allows store h s.store) }
+    ensures history { IfOk result.1 (λ s. (h : List (HistoryEntry FencedEvent FencedOutcome)) × HistoryLeadsTo Allows store h s.store) }
 {
     let (gate, seat) = match Gate::new(alloc, store) {
         Ok(made) => made,
@@ -106,7 +109,7 @@ pub fn serve_store<
         net,
         least: USUAL_LEAST,
     };
-    let (port, end) = serve_at(rt, alloc, &gate, pass, port, at, most);
+    let (port, end) = serve_at(rt, alloc, &gate, pass, port, at, most, at_once);
     let store = gate.close(rt, seat);
     (port, Ok(StoreServed { store, end }))
 }

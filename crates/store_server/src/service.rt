@@ -1,24 +1,25 @@
 // What the store's threads share, and its turns.
 ghost use Rattle.step_gate.specs.Gates.{IsSeatOf};
-ghost use Rattle.store_core.specs.Events.{Allows};
+ghost use Rattle.fence_rows.specs.Events.{Allows};
 
 use crate::compacting::compact_turn;
 use crate::pass::Pass;
 use actor_ports::{Clock, Dial};
 use disk_model::Disk;
-use server_ports::{Duty, Ending, MOST_AT_ONCE, Service, pause_for};
+use fence_rows::Fenced;
+use server_ports::{Duty, Ending, Service, pause_for};
 use std::sync::Wait;
 use step_gate::Gate;
-use store_core::Store;
 
 // How long the server waits between two turns, in milliseconds.
 const PAUSE_MS: u64 = 1_000;
 
-/// What the store's threads share: the gate of the store, and the end of the server.
+/// What the store's threads share: the gate of the store, the end of the server, and how many connections it serves at once.
 #[derive(Drop)]
 pub(crate) struct StoreService<'a, D: Disk> {
-    pub(crate) gate: &'a Gate<Store<D>>,
+    pub(crate) gate: &'a Gate<Fenced<D>>,
     pub(crate) ending: Ending,
+    pub(crate) at_once: u64,
 }
 
 impl<D: Disk + Drop + Send, K: Clock, N: Dial> Service<Pass<D, K, N>> for StoreService<'_, D> {
@@ -48,7 +49,7 @@ impl<D: Disk + Drop + Send, K: Clock, N: Dial> Service<Pass<D, K, N>> for StoreS
     }
 
     fn most_at_once(&self) -> u64 {
-        MOST_AT_ONCE
+        self.at_once
     }
 
     fn is_over(&self) -> bool {

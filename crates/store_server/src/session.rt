@@ -1,6 +1,6 @@
 // One connection.
 ghost use Rattle.step_gate.specs.Gates.{IsSeatOf};
-ghost use Rattle.store_core.specs.Events.{Allows};
+ghost use Rattle.fence_rows.specs.Events.{Allows};
 
 use crate::frames::store_session;
 use crate::pass::Pass;

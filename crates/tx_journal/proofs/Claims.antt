@@ -5,18 +5,18 @@ use Rattle.disk_model.specs.Crash.{Since}
 use Rattle.disk_model.proofs.Moments.{later_here, since_now, since_weaker}
 use Rattle.tx_journal.specs.declared.format.Format.{Format}
 use Rattle.tx_journal.specs.declared.format.Format.TheVariants.{One, Two}
-use Rattle.tx_journal.specs.File.{file_payloads}
+use Rattle.tx_journal.specs.File.{Image, file_image}
 use Rattle.tx_journal.specs.Pair.{Claim, live_file, ReadsAs, LeavesBoth, SinceBoth}
 
 -- claims that follow from claims
-pub reads_weaker : (P Q : Claim) (newest : Format) (file : List ℕ) → ((r : Result (List (List ℕ)) ℕ) → P r → Q r) → ReadsAs P newest file → ReadsAs Q newest file
-reads_weaker P Q newest file f reads = (f (file_payloads newest file) reads.0, reads.1)
+pub reads_weaker : (P Q : Claim) (newest : Format) (file : List ℕ) → ((r : Result Image ℕ) → P r → Q r) → ReadsAs P newest file → ReadsAs Q newest file
+reads_weaker P Q newest file f reads = (f (file_image newest file) reads.0, reads.1)
 
-pub leaves_weaker : (P Q : Claim) (first : DiskState) (second : Option DiskState) → ((r : Result (List (List ℕ)) ℕ) → P r → Q r) → LeavesBoth P first second → LeavesBoth Q first second
+pub leaves_weaker : (P Q : Claim) (first : DiskState) (second : Option DiskState) → ((r : Result Image ℕ) → P r → Q r) → LeavesBoth P first second → LeavesBoth Q first second
 leaves_weaker P Q first None f leaves = λ x image. reads_weaker P Q One x f (leaves x image)
 leaves_weaker P Q first (Some second) f leaves = λ x image y other. reads_weaker P Q Two (live_file x y) f (leaves x image y other)
 
-pub since_opened_weaker : (P Q : Claim) (a : DiskState) (b : Option DiskState) (a_new : DiskState) (b_new : Option DiskState) → ((r : Result (List (List ℕ)) ℕ) → P r → Q r) → SinceBoth P a b a_new b_new → SinceBoth Q a b a_new b_new
+pub since_opened_weaker : (P Q : Claim) (a : DiskState) (b : Option DiskState) (a_new : DiskState) (b_new : Option DiskState) → ((r : Result Image ℕ) → P r → Q r) → SinceBoth P a b a_new b_new → SinceBoth Q a b a_new b_new
 since_opened_weaker P Q a None a_new None f since = since_weaker (ReadsAs P One) (ReadsAs Q One) a a_new (λ x. reads_weaker P Q One x f) since
 since_opened_weaker P Q a None a_new (Some e) f since = since
 since_opened_weaker P Q a (Some d) a_new None f since = since

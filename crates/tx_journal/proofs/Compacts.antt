@@ -11,7 +11,7 @@ use Rattle.disk_model.proofs.Stages.{Both, told_before}
 use Rattle.tx_journal.specs.declared.format.Format.{Format}
 use Rattle.tx_journal.specs.declared.format.Format.TheVariants.{Two}
 use Rattle.tx_journal.specs.declared.find.Cursor.{Cursor}
-use Rattle.tx_journal.specs.File.{most_bytes, file_payloads, framed, opened, IsShort}
+use Rattle.tx_journal.specs.File.{most_bytes, file_payloads, Image, image, framed, opened, IsShort}
 use Rattle.tx_journal.specs.Pair.{Files, generation_row, first_generation, file_generation, generation_in, number, ReadsAs, SinceOpened, Holds, IsJust, IsEither}
 use Rattle.tx_journal.specs.Journal.{IsAtRest, IsSpelled}
 use Rattle.tx_journal.specs.Compaction.{IsShutFront, IsUnmade, StaysUnmade, IsMadeOrNot, Finishes, IsFinished, MayStart, Begins, HasFirstRow, HasBegunFile, AddsRow}
@@ -92,18 +92,18 @@ module _ (j : JournalState) (cursor : Cursor) (is_shut : Bool) (room : ℕ) (sou
       others (Some other) is = let one : other ≡ side = cc in (side_new, refl, subst (λ (x : Side). Tells Q x.told side_new.told) (sym one) q)
 
   keeps_with : (d e e_new : DiskState) → IsLive Two j.format j.generation j.end cursor d → Waits j.is_second_live j.generation is_shut j.staged e → Since (Yields j.is_second_live (number j.generation)) e e_new → Keeps (files_in j.is_second_live d (Some e)) (files_in j.is_second_live d (Some e_new))
-  keeps_with d e e_new live waits since payloads holds =
-      let same = holds_once live.payloads payloads (files_in j.is_second_live d (Some e)) (holds_two j.format j.generation j.end cursor d j.is_second_live is_shut j.staged e live waits) holds in
-      subst (λ l. SinceOpened (IsJust l) (files_in j.is_second_live d (Some e)) (files_in j.is_second_live d (Some e_new))) same
-      (opens_both j.is_second_live (IsJust live.payloads) (IsSpelled Two j.format live.payloads) (Yields j.is_second_live (number j.generation)) d d e e_new
+  keeps_with d e e_new live waits since held holds =
+      let same = holds_once (image j.format live.payloads) held (files_in j.is_second_live d (Some e)) (holds_two j.format j.generation j.end cursor d j.is_second_live is_shut j.staged e live waits) holds in
+      subst (λ i. SinceOpened (IsJust i) (files_in j.is_second_live d (Some e)) (files_in j.is_second_live d (Some e_new))) same
+      (opens_both j.is_second_live (IsJust (image j.format live.payloads)) (IsSpelled Two j.format live.payloads) (Yields j.is_second_live (number j.generation)) d d e e_new
       (same_since (IsSpelled Two j.format live.payloads) d d refl (leaves_durable (IsSpelled Two j.format live.payloads) d live.settled.durable (j.end, live.settled.file)))
       since
       (λ f g spells yields. live_counts j.is_second_live j.format live.payloads (number j.generation) f g spells (omega (arith, ap number (live.numbered refl))) yields))
 
   kept_with : (d e e_new : DiskState) (shut_new : Bool) (staged_new : Option ℕ) → IsLive Two j.format j.generation j.end cursor d → Waits j.is_second_live j.generation is_shut j.staged e → Waits j.is_second_live j.generation shut_new staged_new e_new → Kept (files_in j.is_second_live d (Some e)) (files_in j.is_second_live d (Some e_new))
-  kept_with d e e_new shut_new staged_new live waits after payloads holds =
-      let same = holds_once live.payloads payloads (files_in j.is_second_live d (Some e)) (holds_two j.format j.generation j.end cursor d j.is_second_live is_shut j.staged e live waits) holds in
-      subst (λ l. Holds l (files_in j.is_second_live d (Some e_new))) same (holds_two j.format j.generation j.end cursor d j.is_second_live shut_new staged_new e_new live after)
+  kept_with d e e_new shut_new staged_new live waits after held holds =
+      let same = holds_once (image j.format live.payloads) held (files_in j.is_second_live d (Some e)) (holds_two j.format j.generation j.end cursor d j.is_second_live is_shut j.staged e live waits) holds in
+      subst (λ i. Holds i (files_in j.is_second_live d (Some e_new))) same (holds_two j.format j.generation j.end cursor d j.is_second_live shut_new staged_new e_new live after)
 
   begun_waits : (e_new : DiskState) → IsShutFront e_new × HasFirstRow (next_number j.generation) e_new → Waits j.is_second_live j.generation true (Some 31) e_new
   begun_waits e_new has = (has.0, λ at is. let same : 31 ≡ at = cc in ([], subst (λ k. IsAtRest Two Two (generation_row (next_number j.generation) ∷ []) k (opened e_new.bytes)) same has.1))
@@ -209,27 +209,27 @@ module _ (j : JournalState) (cursor : Cursor) (is_shut : Bool) (room : ℕ) (sou
       live_turned false f g = refl
 
       -- the file that is made is live beside the old one
-      new_counts : (format : Format) (payloads rows : List (List ℕ)) (f : List ℕ) (made : List ℕ) → IsSpelled Two format payloads f → first_generation payloads ≡ j.generation → IsAtRest Two Two (generation_row (next_number j.generation) ∷ rows) at made → ReadsAs (IsJust (generation_row (next_number j.generation) ∷ rows)) Two (live_in j.is_second_live f made)
+      new_counts : (format : Format) (payloads rows : List (List ℕ)) (f : List ℕ) (made : List ℕ) → IsSpelled Two format payloads f → first_generation payloads ≡ j.generation → IsAtRest Two Two (generation_row (next_number j.generation) ∷ rows) at made → ReadsAs (IsJust (image Two (generation_row (next_number j.generation) ∷ rows))) Two (live_in j.is_second_live f made)
       new_counts format payloads rows f made spells is rests =
-          subst (ReadsAs (IsJust (generation_row (next_number j.generation) ∷ rows)) Two) (live_turned j.is_second_live f made)
+          subst (ReadsAs (IsJust (image Two (generation_row (next_number j.generation) ∷ rows))) Two) (live_turned j.is_second_live f made)
           (live_counts (not j.is_second_live) Two (generation_row (next_number j.generation) ∷ rows) (next_number j.generation) made f (at, rests) (omega (arith, ap number (row_first rows))) (old_yields format payloads f (not j.is_second_live) spells is))
 
-      turn_either : (live_payloads rows : List (List ℕ)) (f g made : List ℕ) (format : Format) → IsSpelled Two format live_payloads f → first_generation live_payloads ≡ j.generation → IsAtRest Two Two (generation_row (next_number j.generation) ∷ rows) at made → IsMadeOrNot made g → ReadsAs (IsEither live_payloads (generation_row (next_number j.generation) ∷ rows)) Two (live_in j.is_second_live f g)
+      turn_either : (live_payloads rows : List (List ℕ)) (f g made : List ℕ) (format : Format) → IsSpelled Two format live_payloads f → first_generation live_payloads ≡ j.generation → IsAtRest Two Two (generation_row (next_number j.generation) ∷ rows) at made → IsMadeOrNot made g → ReadsAs (IsEither (image format live_payloads) (image Two (generation_row (next_number j.generation) ∷ rows))) Two (live_in j.is_second_live f g)
       turn_either payloads rows f g made format spells is rests (inl not_made) =
           let counts = live_counts j.is_second_live format payloads (number j.generation) f g spells (omega (arith, ap number is)) (inl not_made) in
           (inl counts.0, counts.1)
       turn_either payloads rows f g made format spells is rests (inr same) =
-          let counts = subst (λ (l : List ℕ). ReadsAs (IsJust (generation_row (next_number j.generation) ∷ rows)) Two (live_in j.is_second_live f l)) (sym same) (new_counts format payloads rows f made spells is rests) in
+          let counts = subst (λ (l : List ℕ). ReadsAs (IsJust (image Two (generation_row (next_number j.generation) ∷ rows))) Two (live_in j.is_second_live f l)) (sym same) (new_counts format payloads rows f made spells is rests) in
           (inr counts.0, counts.1)
 
       replaces : (d e e_new : DiskState) → IsLive Two j.format j.generation j.end cursor d → Waits j.is_second_live j.generation is_shut j.staged e → Finishes e e_new → Replaces j.is_second_live (files_in j.is_second_live d (Some e)) (files_in j.is_second_live d (Some e_new))
-      replaces d e e_new live waits finishes payloads rows holds reads =
+      replaces d e e_new live waits finishes held rows holds reads =
           let front = shut_front is_shut e waits in
-          let one = holds_once live.payloads payloads (files_in j.is_second_live d (Some e)) (holds_two j.format j.generation j.end cursor d j.is_second_live is_shut j.staged e live waits) holds in
+          let one = holds_once (image j.format live.payloads) held (files_in j.is_second_live d (Some e)) (holds_two j.format j.generation j.end cursor d j.is_second_live is_shut j.staged e live waits) holds in
           let two = same_payloads (generation_row (next_number j.generation) ∷ front.1.0) rows (sym (rest_image (generation_row (next_number j.generation) ∷ front.1.0) at (opened e.bytes) front.1.1) ∙ sym (staged_is j.is_second_live d e) ∙ reads) in
-          subst (λ l. SinceOpened (IsEither l rows) (files_in j.is_second_live d (Some e)) (files_in j.is_second_live d (Some e_new))) one
-          (subst (λ l. SinceOpened (IsEither live.payloads l) (files_in j.is_second_live d (Some e)) (files_in j.is_second_live d (Some e_new))) two
-          (opens_both j.is_second_live (IsEither live.payloads (generation_row (next_number j.generation) ∷ front.1.0)) (IsSpelled Two j.format live.payloads) (IsMadeOrNot (opened e.bytes)) d d e e_new
+          subst (λ i. SinceOpened (IsEither i (image Two rows)) (files_in j.is_second_live d (Some e)) (files_in j.is_second_live d (Some e_new))) one
+          (subst (λ (l : List (List ℕ)). SinceOpened (IsEither (image j.format live.payloads) (image Two l)) (files_in j.is_second_live d (Some e)) (files_in j.is_second_live d (Some e_new))) two
+          (opens_both j.is_second_live (IsEither (image j.format live.payloads) (image Two (generation_row (next_number j.generation) ∷ front.1.0))) (IsSpelled Two j.format live.payloads) (IsMadeOrNot (opened e.bytes)) d d e e_new
           (same_since (IsSpelled Two j.format live.payloads) d d refl (leaves_durable (IsSpelled Two j.format live.payloads) d live.settled.durable (j.end, live.settled.file)))
           (finishes front.0)
           (λ f g spells made. turn_either live.payloads front.1.0 f g (opened e.bytes) j.format spells (live.numbered refl) front.1.1 made)))
@@ -262,8 +262,8 @@ module _ (j : JournalState) (cursor : Cursor) (is_shut : Bool) (room : ℕ) (sou
       replaced d e e_new live waits finished rows reads =
           let front = shut_front is_shut e waits in
           let two = same_payloads (generation_row (next_number j.generation) ∷ front.1.0) rows (sym (rest_image (generation_row (next_number j.generation) ∷ front.1.0) at (opened e.bytes) front.1.1) ∙ sym (staged_is j.is_second_live d e) ∙ reads) in
-          subst (λ l. Holds l (files_in j.is_second_live d (Some e_new))) two
-          (subst (Holds (generation_row (next_number j.generation) ∷ front.1.0)) (files_turned j.is_second_live d e_new)
+          subst (λ (l : List (List ℕ)). Holds (image Two l) (files_in j.is_second_live d (Some e_new))) two
+          (subst (Holds (image Two (generation_row (next_number j.generation) ∷ front.1.0))) (files_turned j.is_second_live d e_new)
           (holds_two Two later at at_first e_new (not j.is_second_live) false None d (turned_live e e_new waits finished) (turned_waits d live)))
 
       abbrev turned_new : Option Files

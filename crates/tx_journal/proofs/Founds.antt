@@ -16,7 +16,7 @@ use Rattle.tx_journal.specs.declared.format.Format.TheVariants.{Two}
 use Rattle.tx_journal.specs.declared.kind.FileKind.{FileKind}
 use Rattle.tx_journal.specs.declared.kind.FileKind.TheVariants.{Unmade, Other, Journal as Journal_}
 use Rattle.tx_journal.specs.declared.survey.Seen.{Seen}
-use Rattle.tx_journal.specs.File.{is_made, file_payloads}
+use Rattle.tx_journal.specs.File.{is_made, image, file_payloads, file_image}
 use Rattle.tx_journal.specs.Pair.{Files, first_generation, file_generation, number, is_second_live, live_file}
 use Rattle.tx_journal.specs.Journal.{IsSame, LooksLike, is_to_make, MayBeLeft, KeepsFile, OpensAs, Opens, Refuses}
 use Rattle.tx_journal.specs.Compaction.{IsBehind, MayBeShut}
@@ -24,7 +24,8 @@ use Rattle.tx_journal.specs.Calls.{tell_both, is_making, FindsIn, OpensFiles, Ma
 use Rattle.tx_journal.specs.Seen.{Sees, is_made_kind, is_second_seen}
 use Rattle.tx_journal.specs.Sound.{margin, Yields, Waits, IsLive}
 use Rattle.tx_journal.specs.Found.{Synced, IsSynced, is_closed_seen, at_first}
-use Rattle.tx_journal.proofs.Openings.{head_made}
+use Rattle.tx_journal.proofs.Openings.{head_made, opened_stands}
+use Rattle.tx_journal.proofs.Rests.{damaged}
 use Rattle.tx_journal.proofs.Making.{shut_of}
 use Rattle.tx_journal.proofs.Chosen.{rest_generation}
 use Rattle.tx_journal.proofs.Lifts.{both_tell, holds_two}
@@ -146,7 +147,7 @@ module _ (a b : Seen) (create : Bool) (newer : is_second_seen a b ≡ true) (d d
 
   pub second_refuses : (x : JournalError) → Refuses Two create x e_one → RefusesFiles create x (pair d e)
   second_refuses DiskFault refuses = tt
-  second_refuses (Damaged offset) refuses = (making_made create (is_made d.bytes) (is_made e.bytes) made_first, ap (file_payloads Two) (live_is ∙ sym two.synced.1) ∙ refuses.1)
+  second_refuses (Damaged offset) refuses = (making_made create (is_made d.bytes) (is_made e.bytes) made_first, damaged Two (live_file d.bytes e.bytes) offset (ap (file_payloads Two) (live_is ∙ sym two.synced.1) ∙ refuses.1))
   second_refuses (TooLong n) refuses = refuses
   second_refuses (Full len) refuses = (refuses.0 ∙ ap length (two.synced.1 ∙ sym live_is), refuses.1)
   second_refuses Reopen refuses = refuses
@@ -252,9 +253,9 @@ unfolding seen_live live_is made_first made
 second_opens a b create newer found d d_new e e_one e_new one two opens =
     let live = live_is a b create newer d d_new e e_one one two in
     let not_making = making_made create (is_made d.bytes) (is_made e.bytes) (made_first a b create newer d d_new e e_one one two) in
-    let reads = subst (λ (x : Bool). OpensAs Two x e_one.bytes opens.1) (to_make_made create e_one.bytes (made a b create newer d d_new e e_one one two)) opens.2 in (
-      opens.1,
-      subst (λ (x : Bool). FindsIn x (pair d e) opens.1) (sym not_making) (ap (file_payloads Two) (live ∙ sym two.synced.1) ∙ reads),
+    let reads = opened_stands Two create found e_one e_new opens (to_make_made create e_one.bytes (made a b create newer d d_new e e_one one two)) in (
+      image found.1 opens.1,
+      subst (λ (x : Bool). FindsIn x (pair d e) (image found.1 opens.1)) (sym not_making) (ap (file_image Two) (live ∙ sym two.synced.1) ∙ reads),
       holds_two found.1 b.generation found.0 at_first e_new true (is_closed_seen a) None d_new (seen_live b create found e_one e_new two.sees opens) (second_waits a b d_new newer one.sees one.durable),
       omega (arith, opens.5, ap length live, ap length two.synced.1),
     )
@@ -297,7 +298,7 @@ module _ (a b : Seen) (create : Bool) (older : is_second_seen a b ≡ false) (d 
   first_refuses : (x : JournalError) → Refuses Two create x d_one → RefusesFiles create x (pair d e)
   first_refuses DiskFault refuses = tt
   first_refuses (Damaged offset) refuses =
-      (making_is ∙ ap (is_to_make create) (sym one.synced.1) ∙ refuses.0, ap (file_payloads Two) (first_is ∙ sym one.synced.1) ∙ refuses.1)
+      (making_is ∙ ap (is_to_make create) (sym one.synced.1) ∙ refuses.0, damaged Two (live_file d.bytes e.bytes) offset (ap (file_payloads Two) (first_is ∙ sym one.synced.1) ∙ refuses.1))
   first_refuses (TooLong n) refuses = refuses
   first_refuses (Full len) refuses = (refuses.0 ∙ ap length (one.synced.1 ∙ sym first_is), refuses.1)
   first_refuses Reopen refuses = refuses
@@ -306,15 +307,15 @@ module _ (a b : Seen) (create : Bool) (older : is_second_seen a b ≡ false) (d 
   first_refuses (Spent count) refuses = refuses
   first_refuses OutOfMemory refuses = tt
 
-  finds_in : (x : Bool) (payloads : List (List ℕ)) → OpensAs Two x d.bytes payloads → FindsIn x (pair d e) payloads
-  finds_in true payloads as_ = as_
-  finds_in false payloads as_ = ap (file_payloads Two) first_is ∙ as_
+  finds_in : (found : ℕ × Format) (d_new : DiskState) (opens : Opens Two create found d_one d_new) (x : Bool) → is_to_make create d_one.bytes ≡ x → OpensAs Two x d_one.bytes opens.1 → FindsIn x (pair d e) (image found.1 opens.1)
+  finds_in found d_new opens true is as_ = as_
+  finds_in found d_new opens false is as_ = ap (file_image Two) (first_is ∙ sym one.synced.1) ∙ opened_stands Two create found d_one d_new opens is
 
   first_opens : (found : ℕ × Format) (d_new : DiskState) → Opens Two create found d_one d_new → OpensFiles create (pair d e) (pair d_new e_new)
   unfolding seen_live
   first_opens found d_new opens = (
-    opens.1,
-    subst (λ (x : Bool). FindsIn x (pair d e) opens.1) (sym making_is) (finds_in (is_to_make create d.bytes) opens.1 (subst (λ (b : List ℕ). OpensAs Two (is_to_make create b) b opens.1) one.synced.1 opens.2)),
+    image found.1 opens.1,
+    subst (λ (x : Bool). FindsIn x (pair d e) (image found.1 opens.1)) (ap (is_to_make create) one.synced.1 ∙ sym making_is) (finds_in found d_new opens (is_to_make create d_one.bytes) refl opens.2),
     holds_two found.1 a.generation found.0 at_first d_new false (is_closed_seen b) None e_new (seen_live a create found d_one d_new one.sees opens) (first_waits a b e_new older two.sees two.durable),
     omega (arith, opens.5, ap length first_is, ap length one.synced.1),
   )

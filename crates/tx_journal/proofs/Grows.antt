@@ -9,13 +9,13 @@ use Rattle.disk_model.proofs.Stages.{told_before}
 use Rattle.tx_journal.specs.declared.format.Format.{Format}
 use Rattle.tx_journal.specs.declared.format.Format.TheVariants.{One, Two}
 use Rattle.tx_journal.specs.declared.find.Cursor.{Cursor}
-use Rattle.tx_journal.specs.File.{most_bytes, framed, records, spelled, IsShort}
+use Rattle.tx_journal.specs.File.{most_bytes, framed, records, spelled, image, with_payload, IsShort}
 use Rattle.tx_journal.specs.Pair.{first_generation, generation_in, number, ReadsAs, SinceOpened, Holds, IsEither}
 use Rattle.tx_journal.specs.Journal.{IsAtRest, RestsBeforeOrAfter, PutsRecord, HasRecord}
 use Rattle.tx_journal.specs.Calls.{Side, JournalState, generation_with, Commits, Committed, first_of, second_of, tell_sides}
 use Rattle.tx_journal.specs.Sound.{Yields, Waits, IsLive, IsSound, newest_of}
 use Rattle.tx_journal.proofs.Files.{length-framed}
-use Rattle.tx_journal.proofs.Rests.{gate_push, spelled_image}
+use Rattle.tx_journal.proofs.Rests.{gate_push, spelled_stands}
 use Rattle.tx_journal.proofs.Chosen.{live_in, yields_more}
 use Rattle.tx_journal.proofs.Lifts.{files_in, lift, other_same, opens_both, waits_leaves, same_since, live_counts, holds_one, holds_two, holds_once}
 
@@ -55,11 +55,11 @@ module _ (newest format : Format) (generation : Option ℕ) (end : ℕ) (cursor 
   grows_since : (d e : DiskState) (live : IsLive newest format generation end cursor d) → PutsRecord end text d e → Since (RestsBeforeOrAfter newest format live.payloads payload) d e
   grows_since d e live puts = puts newest format live.payloads payload live.settled.file live.settled.durable short is room
 
-one_either : (format : Format) (payloads : List (List ℕ)) (payload f : List ℕ) → RestsBeforeOrAfter One format payloads payload f → ReadsAs (IsEither payloads (payloads ++ payload ∷ [])) One f
-one_either format payloads payload f (inl before) = (inl (spelled_image payloads f before), before.1.small)
-one_either format payloads payload f (inr after) = (inr (spelled_image (payloads ++ payload ∷ []) f after), after.1.small)
+one_either : (format : Format) (payloads : List (List ℕ)) (payload f : List ℕ) → RestsBeforeOrAfter One format payloads payload f → ReadsAs (IsEither (image format payloads) (image format (payloads ++ payload ∷ []))) One f
+one_either format payloads payload f (inl before) = (inl (spelled_stands payloads f before), before.1.small)
+one_either format payloads payload f (inr after) = (inr (spelled_stands (payloads ++ payload ∷ []) f after), after.1.small)
 
-two_either : (s : Bool) (format : Format) (payloads : List (List ℕ)) (payload f g : List ℕ) (n : ℕ) → n ≤ number (first_generation payloads) → RestsBeforeOrAfter Two format payloads payload f → Yields s n g → ReadsAs (IsEither payloads (payloads ++ payload ∷ [])) Two (live_in s f g)
+two_either : (s : Bool) (format : Format) (payloads : List (List ℕ)) (payload f g : List ℕ) (n : ℕ) → n ≤ number (first_generation payloads) → RestsBeforeOrAfter Two format payloads payload f → Yields s n g → ReadsAs (IsEither (image format payloads) (image format (payloads ++ payload ∷ []))) Two (live_in s f g)
 two_either s format payloads payload f g n less (inl before) yields = let counts = live_counts s format payloads n f g before less yields in (inl counts.0, counts.1)
 two_either s format payloads payload f g n less (inr after) yields = let counts = live_counts s format (payloads ++ payload ∷ []) n f g after (omega (arith, less, first_more payloads payload)) yields in (inr counts.0, counts.1)
 
@@ -92,18 +92,18 @@ module _ (j : JournalState) (cursor : Cursor) (is_shut : Bool) (room : ℕ) (sou
 
   pub append_crash : Tells (PutsRecord j.end text) j.live.told live_new.told → Tells (Commits payload) (tell_sides (first_of j.is_second_live j.live j.other) (second_of j.is_second_live j.live j.other)) (tell_sides (first_of j.is_second_live live_new j.other) (second_of j.is_second_live live_new j.other))
   append_crash puts = lift j.is_second_live (Commits payload) (PutsRecord j.end text) (λ d e. e ≡ d) j.live live_new j.other j.other puts (other_same j.other j.other refl)
-      (λ none d d_new tells put payloads holds.
+      (λ none d d_new tells put held holds.
       let live = live_one none d tells in
-      let same = holds_once live.payloads payloads (record { first = d; second = None }) (holds_one j.format j.generation j.end cursor d live) holds in
-      subst (λ l. SinceOpened (IsEither l (l ++ payload ∷ [])) (record { first = d; second = None }) (record { first = d_new; second = None })) same
-      (since_weaker (RestsBeforeOrAfter One j.format live.payloads payload) (ReadsAs (IsEither live.payloads (live.payloads ++ payload ∷ [])) One) d d_new (λ f. one_either j.format live.payloads payload f)
+      let same = holds_once (image j.format live.payloads) held (record { first = d; second = None }) (holds_one j.format j.generation j.end cursor d live) holds in
+      subst (λ i. SinceOpened (IsEither i (with_payload payload i)) (record { first = d; second = None }) (record { first = d_new; second = None })) same
+      (since_weaker (RestsBeforeOrAfter One j.format live.payloads payload) (ReadsAs (IsEither (image j.format live.payloads) (image j.format (live.payloads ++ payload ∷ []))) One) d d_new (λ f. one_either j.format live.payloads payload f)
       (grows_since One j.format j.generation j.end cursor payload text short is few d d_new live put)))
-      (λ side some d d_new e e_new tells tells_other put same_other payloads holds.
+      (λ side some d d_new e e_new tells tells_other put same_other held holds.
       let live = live_two side some d tells in
       let waits = sound.waits works side some e tells_other in
-      let same = holds_once live.payloads payloads (files_in j.is_second_live d (Some e)) (holds_two j.format j.generation j.end cursor d j.is_second_live is_shut j.staged e live waits) holds in
-      subst (λ l. SinceOpened (IsEither l (l ++ payload ∷ [])) (files_in j.is_second_live d (Some e)) (files_in j.is_second_live d_new (Some e_new))) same
-      (opens_both j.is_second_live (IsEither live.payloads (live.payloads ++ payload ∷ [])) (RestsBeforeOrAfter Two j.format live.payloads payload) (Yields j.is_second_live (number j.generation)) d d_new e e_new
+      let same = holds_once (image j.format live.payloads) held (files_in j.is_second_live d (Some e)) (holds_two j.format j.generation j.end cursor d j.is_second_live is_shut j.staged e live waits) holds in
+      subst (λ i. SinceOpened (IsEither i (with_payload payload i)) (files_in j.is_second_live d (Some e)) (files_in j.is_second_live d_new (Some e_new))) same
+      (opens_both j.is_second_live (IsEither (image j.format live.payloads) (image j.format (live.payloads ++ payload ∷ []))) (RestsBeforeOrAfter Two j.format live.payloads payload) (Yields j.is_second_live (number j.generation)) d d_new e e_new
       (grows_since Two j.format j.generation j.end cursor payload text short is few d d_new live put)
       (same_since (Yields j.is_second_live (number j.generation)) e e_new same_other (waits_leaves j.is_second_live j.generation is_shut j.staged e waits))
       (λ f g rests yields. two_either j.is_second_live j.format live.payloads payload f g (number j.generation) (omega (arith, ap number (live.numbered refl))) rests yields)))
@@ -111,17 +111,17 @@ module _ (j : JournalState) (cursor : Cursor) (is_shut : Bool) (room : ℕ) (sou
   pub append_done : Tells (HasRecord j.end text) j.live.told live_new.told → Tells (Committed payload) (tell_sides (first_of j.is_second_live j.live j.other) (second_of j.is_second_live j.live j.other)) (tell_sides (first_of j.is_second_live live_new j.other) (second_of j.is_second_live live_new j.other))
   unfolding live_one grows
   append_done has = lift j.is_second_live (Committed payload) (HasRecord j.end text) (λ d e. e ≡ d) j.live live_new j.other j.other has (other_same j.other j.other refl)
-      (λ none d d_new tells has payloads holds.
+      (λ none d d_new tells has held holds.
       let live = live_one none d tells in
-      let same = holds_once live.payloads payloads (record { first = d; second = None }) (holds_one j.format j.generation j.end cursor d live) holds in
-      subst (λ l. Holds (l ++ payload ∷ []) (record { first = d_new; second = None })) same
+      let same = holds_once (image j.format live.payloads) held (record { first = d; second = None }) (holds_one j.format j.generation j.end cursor d live) holds in
+      subst (λ i. Holds (with_payload payload i) (record { first = d_new; second = None })) same
       (holds_one j.format after (j.end + 5 + length payload) cursor d_new (grows One j.format j.generation j.end cursor payload text short is few d d_new live has)))
-      (λ side some d d_new e e_new tells tells_other has same_other payloads holds.
+      (λ side some d d_new e e_new tells tells_other has same_other held holds.
       let live = live_two side some d tells in
       let waits = sound.waits works side some e tells_other in
-      let same = holds_once live.payloads payloads (files_in j.is_second_live d (Some e)) (holds_two j.format j.generation j.end cursor d j.is_second_live is_shut j.staged e live waits) holds in
+      let same = holds_once (image j.format live.payloads) held (files_in j.is_second_live d (Some e)) (holds_two j.format j.generation j.end cursor d j.is_second_live is_shut j.staged e live waits) holds in
       let still = subst (λ x. Waits j.is_second_live after is_shut None x) (sym same_other) (waits_on j.is_second_live j.generation after is_shut j.staged e (more j.end j.generation payload) waits) in
-      subst (λ l. Holds (l ++ payload ∷ []) (files_in j.is_second_live d_new (Some e_new))) same
+      subst (λ i. Holds (with_payload payload i) (files_in j.is_second_live d_new (Some e_new))) same
       (holds_two j.format after (j.end + 5 + length payload) cursor d_new j.is_second_live is_shut None e_new (grows Two j.format j.generation j.end cursor payload text short is few d d_new live has) still))
 
   pub append_live : (generation_new : Option ℕ) (end_new : ℕ) → generation_new ≡ after → end_new ≡ j.end + 5 + length payload → Tells (HasRecord j.end text) j.live.told live_new.told → (e : DiskState) → live_new.told ≡ Some e → IsLive (newest_of j.other) j.format generation_new end_new cursor e

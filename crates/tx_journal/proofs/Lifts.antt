@@ -7,13 +7,13 @@ use Rattle.disk_model.proofs.Moments.{Facts, later_here, leaves_durable, since_w
 use Rattle.tx_journal.specs.declared.format.Format.{Format}
 use Rattle.tx_journal.specs.declared.format.Format.TheVariants.{One, Two}
 use Rattle.tx_journal.specs.declared.find.Cursor.{Cursor}
-use Rattle.tx_journal.specs.File.{most_bytes, is_made, file_payloads}
-use Rattle.tx_journal.specs.Pair.{Files, Claim, first_generation, file_generation, number, live_file, live_bytes, read_payloads, ReadsAs, LeavesOpened, SinceOpened, Holds, IsJust}
+use Rattle.tx_journal.specs.File.{most_bytes, is_made, Image, image, file_image}
+use Rattle.tx_journal.specs.Pair.{Files, Claim, first_generation, file_generation, number, live_file, live_bytes, read_files, ReadsAs, LeavesOpened, SinceOpened, Holds, IsJust}
 use Rattle.tx_journal.specs.Journal.{IsSpelled}
 use Rattle.tx_journal.specs.Calls.{Side, first_of, second_of, tell_one, tell_both, tell_sides}
 use Rattle.tx_journal.specs.Sound.{Yields, Waits, IsLive}
 use Rattle.tx_journal.proofs.Making.{unmade}
-use Rattle.tx_journal.proofs.Rests.{rest_image, spelled_image, same_payloads}
+use Rattle.tx_journal.proofs.Rests.{rest_stands, spelled_stands, same_image}
 use Rattle.tx_journal.proofs.Chosen.{rest_generation, rest_made, live_in, picks}
 use Rattle.tx_journal.proofs.Fronts.{leaves_unmade}
 
@@ -95,7 +95,7 @@ pub leaves_both : (s : Bool) (P : Claim) (A B : Facts) (d e : DiskState) → Lea
 leaves_both false P A B d e a b f = λ x image y other. f x y (a x image) (b y other)
 leaves_both true P A B d e a b f = λ y other x image. f x y (a x image) (b y other)
 
-read_in : (s : Bool) (d e : DiskState) → read_payloads (files_in s d (Some e)) ≡ file_payloads Two (live_in s d.bytes e.bytes)
+read_in : (s : Bool) (d e : DiskState) → read_files (files_in s d (Some e)) ≡ file_image Two (live_in s d.bytes e.bytes)
 read_in false d e = refl
 read_in true d e = refl
 
@@ -116,10 +116,10 @@ pub same_since : (P : Facts) (d e : DiskState) → e ≡ d → LeavesOnly P d.in
 same_since P d e same leaves = subst (Since P d) (sym same) (record { start = leaves; later = later_here P d })
 
 -- whatever a crash leaves of the live file is live beside one that yields to it
-pub live_counts : (s : Bool) (format : Format) (payloads : List (List ℕ)) (n : ℕ) (f g : List ℕ) → IsSpelled Two format payloads f → n ≤ number (first_generation payloads) → Yields s n g → ReadsAs (IsJust payloads) Two (live_in s f g)
+pub live_counts : (s : Bool) (format : Format) (payloads : List (List ℕ)) (n : ℕ) (f g : List ℕ) → IsSpelled Two format payloads f → n ≤ number (first_generation payloads) → Yields s n g → ReadsAs (IsJust (image format payloads)) Two (live_in s f g)
 live_counts s format payloads n f g spells less yields =
     let is = picks s f g (rest_made payloads spells.0 f spells.1) (yields_again (number (file_generation f)) (ap number (rest_generation payloads spells.0 f spells.1)) yields) in
-    subst (ReadsAs (IsJust payloads) Two) (sym is) (spelled_image payloads f spells, spells.1.small)
+    subst (ReadsAs (IsJust (image format payloads)) Two) (sym is) (spelled_stands payloads f spells, spells.1.small)
   where
     yields_again : (m : ℕ) → m ≡ number (first_generation payloads) → Yields s n g → Yields s m g
     yields_again m is (inl not_made) = inl not_made
@@ -127,28 +127,28 @@ live_counts s format payloads n f g spells less yields =
 
 module _ (format : Format) (generation : Option ℕ) (end : ℕ) (cursor : Cursor) (d : DiskState) where
   -- a journal of one disk holds its payloads
-  pub holds_one : (is : IsLive One format generation end cursor d) → Holds is.payloads (record { first = d; second = None })
+  pub holds_one : (is : IsLive One format generation end cursor d) → Holds (image format is.payloads) (record { first = d; second = None })
   holds_one is =
-      let image = rest_image is.payloads end d.bytes is.settled.file in
-      record { reads = image; small = is.settled.file.small; leaves = leaves_durable (ReadsAs (IsJust is.payloads) One) d is.settled.durable (image, is.settled.file.small) }
+      let stands = rest_stands is.payloads end d.bytes is.settled.file in
+      record { reads = stands; small = is.settled.file.small; leaves = leaves_durable (ReadsAs (IsJust (image format is.payloads)) One) d is.settled.durable (stands, is.settled.file.small) }
 
   -- and so does one of two
-  pub holds_two : (s is_shut : Bool) (staged : Option ℕ) (e : DiskState) (is : IsLive Two format generation end cursor d) → Waits s generation is_shut staged e → Holds is.payloads (files_in s d (Some e))
+  pub holds_two : (s is_shut : Bool) (staged : Option ℕ) (e : DiskState) (is : IsLive Two format generation end cursor d) → Waits s generation is_shut staged e → Holds (image format is.payloads) (files_in s d (Some e))
   holds_two s is_shut staged e is waits =
       let numbered : number generation ≤ number (first_generation is.payloads) = omega (arith, ap number (is.numbered refl)) in
       let counts = live_counts s format is.payloads (number generation) d.bytes e.bytes (end, is.settled.file) numbered (waits_reads s generation is_shut staged e waits) in
       record {
         reads = read_in s d e ∙ counts.0;
         small = subst (λ (l : List ℕ). length l ≤ most_bytes) (sym (bytes_in s d e)) counts.1;
-        leaves = leaves_both s (IsJust is.payloads) (IsSpelled Two format is.payloads) (Yields s (number generation)) d e
+        leaves = leaves_both s (IsJust (image format is.payloads)) (IsSpelled Two format is.payloads) (Yields s (number generation)) d e
             (leaves_durable (IsSpelled Two format is.payloads) d is.settled.durable (end, is.settled.file))
             (waits_leaves s generation is_shut staged e waits)
             (λ f g spells yields. live_counts s format is.payloads (number generation) f g spells numbered yields);
       }
 
--- files hold only one list of payloads
-pub holds_once : (payloads others : List (List ℕ)) (files : Files) → Holds payloads files → Holds others files → payloads ≡ others
-holds_once payloads others files one two = same_payloads payloads others (sym one.reads ∙ two.reads)
+-- files stand for one thing only
+pub holds_once : (held other : Image) (files : Files) → Holds held files → Holds other files → held ≡ other
+holds_once held other files one two = same_image held other (sym one.reads ∙ two.reads)
 
 -- the sides after a turn are those before it
 pub turned : (s : Bool) (live other : Side) → tell_sides (first_of (not s) other (Some live)) (second_of (not s) other (Some live)) ≡ tell_sides (first_of s live (Some other)) (second_of s live (Some other))

@@ -10,9 +10,9 @@ use Rattle.disk_model.proofs.Stages.{Then, tells_map_at, tells_same, stage_synce
 use Rattle.tx_journal.specs.declared.error.JournalError.{JournalError}
 use Rattle.tx_journal.specs.declared.error.JournalError.TheVariants.{DiskFault, Damaged, TooLong, Full, Reopen, NotStarted, OneDisk, Spent, OutOfMemory}
 use Rattle.tx_journal.specs.declared.format.Format.{Format}
-use Rattle.tx_journal.specs.File.{most_bytes, head, is_made, file_payloads}
+use Rattle.tx_journal.specs.File.{most_bytes, head, is_made, image, file_payloads, file_image}
 use Rattle.tx_journal.specs.Journal.{Scans, is_to_make, MayBeLeft, KeepsFile, OpensAs, Opens, Refuses, Creates, IsCreated}
-use Rattle.tx_journal.proofs.Rests.{rest_image}
+use Rattle.tx_journal.proofs.Rests.{rest_image, rest_stands}
 
 to_make : (create : Bool) (bytes : List ℕ) → create ≡ true → is_made bytes ≡ false → is_to_make create bytes ≡ true
 to_make create bytes bidden unmade = ap (λ (b : Bool). b && not (is_made bytes)) bidden ∙ ap not unmade
@@ -47,6 +47,10 @@ opens_made newest create d e bidden unmade durable room created =
 opens_read : (newest format : Format) (create : Bool) (end : ℕ) (d : DiskState) → is_made d.bytes ≡ true → IsDurable d → Scans newest format (Ok end) d → Opens newest create (end, format) d d
 opens_read newest format create end d made durable scans =
     ((λ reads. refl), scans.0, subst (λ (b : Bool). OpensAs newest b d.bytes scans.0) (sym (to_read create d.bytes made)) (rest_image scans.0 end d.bytes scans.1), scans.1, durable, scans.1.small)
+
+-- a file that is only read stood for what it stands for then
+pub opened_stands : (newest : Format) (create : Bool) (found : ℕ × Format) (d e : DiskState) (opens : Opens newest create found d e) → is_to_make create d.bytes ≡ false → file_image newest d.bytes ≡ Ok (image found.1 opens.1)
+opened_stands newest create found d e opens reads = ap (file_image newest) (sym (opens.0 reads)) ∙ rest_stands opens.1 found.0 e.bytes opens.3
 
 module _ (newest format : Format) (create : Bool) (told after : Option DiskState) (same : after ≡ told) (front : (d : DiskState) → told ≡ Some d → take 8 d.bytes ≡ head format) (durable : (d : DiskState) → told ≡ Some d → IsDurable d) where
   pub scan_opens : (r : Result ℕ JournalError) → ((d : DiskState) → told ≡ Some d → Scans newest format r d) → IfOk r (λ end. Tells (Opens newest create (end, format)) told after)

@@ -8,9 +8,9 @@ use Rattle.tx_journal.specs.declared.format.Format.TheVariants.{One, Two}
 use Rattle.tx_journal.specs.declared.find.Cursor.{Cursor}
 use Rattle.tx_journal.specs.Pair.{Files, is_generation, generation_in, first_generation, without_generation, Holds}
 use Rattle.tx_journal.specs.Journal.{IsAtRest, IsSettled, Finds, Replays}
-use Rattle.tx_journal.specs.Calls.{Side, JournalState, first_of, second_of, tell_one, tell_both, tell_sides, rows_in, place_in, is_alone, IsMeasured}
+use Rattle.tx_journal.specs.Calls.{Side, JournalState, first_of, second_of, tell_one, tell_both, tell_sides, rows_in, place_in, is_alone, HoldsFormat, IsMeasured}
 use Rattle.tx_journal.specs.Sound.{IsLive, IsSound, newest_of}
-use Rattle.tx_journal.specs.File.{framed, records, file_length}
+use Rattle.tx_journal.specs.File.{Image, image, framed, records, file_length}
 use Rattle.tx_journal.proofs.Files.{length-framed, count_records}
 use Rattle.tx_journal.proofs.Lifts.{files_in, holds_one, holds_two, holds_once}
 
@@ -48,27 +48,31 @@ live_of newest n format generation end cursor payloads d is live same = record {
 }
 
 -- the payloads that a journal holds are those of its live file
-pub holds_live : (j : JournalState) (cursor : Cursor) (is_shut : Bool) (room : ℕ) (sound : IsSound j cursor is_shut room) (works : j.is_broken ≡ false) (files : Files) (payloads : List (List ℕ))
-    → tell_sides (first_of j.is_second_live j.live j.other) (second_of j.is_second_live j.live j.other) ≡ Some files → Holds payloads files
-    → (d : DiskState) × (j.live.told ≡ Some d) × LiveOf (newest_of j.other) j.format j.generation j.end cursor payloads d
-holds_live j cursor is_shut room sound works files payloads tells holds = go j.other refl
+pub holds_live : (j : JournalState) (cursor : Cursor) (is_shut : Bool) (room : ℕ) (sound : IsSound j cursor is_shut room) (works : j.is_broken ≡ false) (files : Files) (held : Image)
+    → tell_sides (first_of j.is_second_live j.live j.other) (second_of j.is_second_live j.live j.other) ≡ Some files → Holds held files
+    → (d : DiskState) × (j.live.told ≡ Some d) × LiveOf (newest_of j.other) j.format j.generation j.end cursor held.payloads d × (held.format ≡ j.format)
+holds_live j cursor is_shut room sound works files held tells holds = go j.other refl
   where
-    go : (o : Option Side) → j.other ≡ o → (d : DiskState) × (j.live.told ≡ Some d) × LiveOf (newest_of j.other) j.format j.generation j.end cursor payloads d
+    go : (o : Option Side) → j.other ≡ o → (d : DiskState) × (j.live.told ≡ Some d) × LiveOf (newest_of j.other) j.format j.generation j.end cursor held.payloads d × (held.format ≡ j.format)
     go None is =
         let one = told_one j.is_second_live j.live files (ap (λ o. tell_sides (first_of j.is_second_live j.live o) (second_of j.is_second_live j.live o)) (sym is) ∙ tells) in
-        let alone = subst (λ n. IsLive n j.format j.generation j.end cursor one.0) (ap newest_of is) (sound.live works one.0 one.1) in (
+        let alone = subst (λ n. IsLive n j.format j.generation j.end cursor one.0) (ap newest_of is) (sound.live works one.0 one.1) in
+        let same = holds_once (image j.format alone.payloads) held (record { first = one.0; second = None }) (holds_one j.format j.generation j.end cursor one.0 alone) (subst (Holds held) one.2 holds) in (
           one.0,
           one.1,
-          live_of (newest_of j.other) One j.format j.generation j.end cursor payloads one.0 (ap newest_of is) alone
-              (holds_once alone.payloads payloads (record { first = one.0; second = None }) (holds_one j.format j.generation j.end cursor one.0 alone) (subst (Holds payloads) one.2 holds)),
+          live_of (newest_of j.other) One j.format j.generation j.end cursor held.payloads one.0 (ap newest_of is) alone (ap (λ (i : Image). i.payloads) same),
+          sym (ap (λ (i : Image). i.format) same),
         )
     go (Some side) is =
         let two = told_two j.is_second_live j.live side files (ap (λ o. tell_sides (first_of j.is_second_live j.live o) (second_of j.is_second_live j.live o)) (sym is) ∙ tells) in
-        let paired = subst (λ n. IsLive n j.format j.generation j.end cursor two.0) (ap newest_of is) (sound.live works two.0 two.2) in (
+        let paired = subst (λ n. IsLive n j.format j.generation j.end cursor two.0) (ap newest_of is) (sound.live works two.0 two.2) in
+        let same =
+        holds_once (image j.format paired.payloads) held (files_in j.is_second_live two.0 (Some two.1))
+        (holds_two j.format j.generation j.end cursor two.0 j.is_second_live is_shut j.staged two.1 paired (sound.waits works side is two.1 two.3)) (subst (Holds held) two.4 holds) in (
           two.0,
           two.2,
-          live_of (newest_of j.other) Two j.format j.generation j.end cursor payloads two.0 (ap newest_of is) paired
-              (holds_once paired.payloads payloads (files_in j.is_second_live two.0 (Some two.1)) (holds_two j.format j.generation j.end cursor two.0 j.is_second_live is_shut j.staged two.1 paired (sound.waits works side is two.1 two.3)) (subst (Holds payloads) two.4 holds)),
+          live_of (newest_of j.other) Two j.format j.generation j.end cursor held.payloads two.0 (ap newest_of is) paired (ap (λ (i : Image). i.payloads) same),
+          sym (ap (λ (i : Image). i.format) same),
         )
 
 newest_two : (other : Option Side) → is_alone other ≡ false → newest_of other ≡ Two
@@ -76,12 +80,16 @@ newest_two None paired = absurd (let e : true ≡ false = paired in cc)
 newest_two (Some side) paired = refl
 
 -- the Generation of a pair is the first payload that it holds
-pub holds_first : (j : JournalState) (cursor : Cursor) (is_shut : Bool) (room : ℕ) (sound : IsSound j cursor is_shut room) (works : j.is_broken ≡ false) → is_alone j.other ≡ false → (files : Files) (payloads : List (List ℕ))
-    → tell_sides (first_of j.is_second_live j.live j.other) (second_of j.is_second_live j.live j.other) ≡ Some files → Holds payloads files
-    → j.generation ≡ first_generation payloads
-holds_first j cursor is_shut room sound works paired files payloads tells holds =
-    let live = holds_live j cursor is_shut room sound works files payloads tells holds in
+pub holds_first : (j : JournalState) (cursor : Cursor) (is_shut : Bool) (room : ℕ) (sound : IsSound j cursor is_shut room) (works : j.is_broken ≡ false) → is_alone j.other ≡ false → (files : Files) (held : Image)
+    → tell_sides (first_of j.is_second_live j.live j.other) (second_of j.is_second_live j.live j.other) ≡ Some files → Holds held files
+    → j.generation ≡ first_generation held.payloads
+holds_first j cursor is_shut room sound works paired files held tells holds =
+    let live = holds_live j cursor is_shut room sound works files held tells holds in
     sym (live.2.numbered (newest_two j.other paired))
+
+-- the format of what it holds is its own
+pub holds_format : (j : JournalState) (cursor : Cursor) (is_shut : Bool) (room : ℕ) (sound : IsSound j cursor is_shut room) → HoldsFormat j
+holds_format j cursor is_shut room sound works files tells held holds = (holds_live j cursor is_shut room sound works files held tells holds).3
 
 length-records : (payloads : List (List ℕ)) → 9 + length (records payloads) ≡ file_length payloads
 length-records [] = refl
@@ -93,9 +101,9 @@ ends_at newest format payloads end bytes rest = omega (arith, rest.end_is, lengt
 
 -- so it is with a journal
 pub measured : (j : JournalState) (cursor : Cursor) (is_shut : Bool) (room : ℕ) (sound : IsSound j cursor is_shut room) → IsMeasured j
-measured j cursor is_shut room sound works files tells payloads holds =
-    let live = holds_live j cursor is_shut room sound works files payloads tells holds in
-    ends_at (newest_of j.other) j.format payloads j.end live.0.bytes live.2.settled.file
+measured j cursor is_shut room sound works files tells held holds =
+    let live = holds_live j cursor is_shut room sound works files held tells holds in
+    ends_at (newest_of j.other) j.format held.payloads j.end live.0.bytes live.2.settled.file
 
 -- the rows of payloads
 not_generation : (payload : List ℕ) → generation_in payload ≡ None → is_generation payload ≡ false

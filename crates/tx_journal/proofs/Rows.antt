@@ -2,8 +2,8 @@
 use Rattle.std.proofs.Common.{◌≡◌, ℕ, false, List, [], ◌∷◌, ◌++◌, Ok, Err, refl, lit≤}
 use Rattle.disk_model.specs.Disk.{DiskState, MayLeave, fresh, changed, flushed, overwritten}
 use Rattle.disk_model.specs.declared.change.Change.TheVariants.{Over}
-use Rattle.tx_journal.specs.declared.format.Format.TheVariants.{One}
-use Rattle.tx_journal.specs.File.{spelled, framed, journal_payloads, is_made}
+use Rattle.tx_journal.specs.declared.format.Format.TheVariants.{One, Two}
+use Rattle.tx_journal.specs.File.{image, spelled, framed, file_image, journal_payloads, is_made}
 
 -- `hi`
 abbrev hi : List ℕ
@@ -25,6 +25,16 @@ new_file_has_no_records = refl
 
 one_record_is_read : journal_payloads one ≡ Ok (hi ∷ [])
 one_record_is_read = refl
+
+-- the name of a file tells its format; a file of its own has the first
+first_name_tells_first : file_image Two one ≡ Ok (image One (hi ∷ []))
+first_name_tells_first = refl
+
+second_name_tells_second : file_image Two (spelled Two [] ++ 0 ∷ []) ≡ Ok (image Two [])
+second_name_tells_second = refl
+
+second_name_is_other_alone : file_image One (spelled Two [] ++ 0 ∷ []) ≡ Err 1
+second_name_is_other_alone = refl
 
 -- the four calls of the append, and the bytes that a read gives after each
 first_write : overwritten new 9 (framed hi ++ 0 ∷ []) ≡ 1 ∷ 65 ∷ 67 ∷ 84 ∷ 74 ∷ 82 ∷ 78 ∷ 49 ∷ 0 ∷ 0 ∷ 0 ∷ 0 ∷ 2 ∷ 104 ∷ 105 ∷ 0 ∷ []

@@ -5,18 +5,19 @@ use Rattle.disk_model.specs.Disk.{Tells}
 use Rattle.disk_model.proofs.Stages.{told_before, tells_map_at, tells_same}
 use Rattle.tx_journal.specs.declared.error.JournalError.{JournalError}
 use Rattle.tx_journal.specs.declared.error.JournalError.TheVariants.{DiskFault, Damaged, TooLong, Full, Reopen, NotStarted, OneDisk, Spent, OutOfMemory}
-use Rattle.tx_journal.specs.File.{longest, most_bytes}
+use Rattle.tx_journal.specs.declared.format.Format.TheVariants.{Two}
+use Rattle.tx_journal.specs.File.{longest, most_bytes, Image, image, with_payload}
 use Rattle.tx_journal.specs.Pair.{Files, Claim, generation_row, number, LeavesOpened, SinceOpened, Holds, IsJust, IsEither}
 use Rattle.tx_journal.specs.Journal.{is_fault}
 use Rattle.tx_journal.specs.Calls.{Side, JournalState, first_of, second_of, tell_sides, told, append_refusal, Appends, Commits, Committed, is_alone, is_last, is_none, next_number, start_refusal, Starts, Keeps, Kept, HasBegun, row_refusal, add_refusal, given_up, Adds, HasRow, end_refusal, Turns, Replaces, Replaced, staged_payloads}
 use Rattle.tx_journal.proofs.Claims.{leaves_weaker, since_opened_weaker, opened_now, opened_here}
 use Rattle.tx_journal.specs.Runs.{JournalCall, Append, Begin, Add, Turn, Look, Answer, AppendMoves, BeginMoves, AddMoves, TurnMoves, LookMoves, Moves, Ledger, settled, GivenUp, outcome_of, with_row, rows_or, ledger_after, Stands, Runs, RisksOne, RisksEach}
 
-held_leaves : (held maybe : List (List ℕ)) (files : Files) → Holds held files → LeavesOpened (IsEither held maybe) files
+held_leaves : (held maybe : Image) (files : Files) → Holds held files → LeavesOpened (IsEither held maybe) files
 held_leaves held maybe files holds = leaves_weaker (IsJust held) (IsEither held maybe) files.first files.second (λ r is. inl is) holds.leaves
 
 -- a journal that holds what is acknowledged, and has nothing under way but these rows
-stands_settled : (held : List (List ℕ)) (rows : Option (List (List ℕ))) (j : JournalState) → j.is_broken ≡ false → ((files : Files) → told j ≡ Some files → Holds held files)
+stands_settled : (held : Image) (rows : Option (List (List ℕ))) (j : JournalState) → j.is_broken ≡ false → ((files : Files) → told j ≡ Some files → Holds held files)
     → ((more : List (List ℕ)) → rows ≡ Some more → (files : Files) → told j ≡ Some files → staged_payloads j.is_second_live files ≡ Ok more)
     → ((at : ℕ) → j.staged ≡ Some at → (more : List (List ℕ)) × (rows ≡ Some more)) → Stands (settled held rows) j
 stands_settled held rows j works holds staged begun = record {
@@ -27,7 +28,7 @@ stands_settled held rows j works holds staged begun = record {
 }
 
 -- a journal that met a fault
-stands_broken : (held maybe : List (List ℕ)) (j : JournalState) → j.is_broken ≡ true → ((files : Files) → told j ≡ Some files → LeavesOpened (IsEither held maybe) files) → Stands (record { held = held; maybe = maybe; rows = None }) j
+stands_broken : (held maybe : Image) (j : JournalState) → j.is_broken ≡ true → ((files : Files) → told j ≡ Some files → LeavesOpened (IsEither held maybe) files) → Stands (record { held = held; maybe = maybe; rows = None }) j
 stands_broken held maybe j broken leaves = record {
   leaves = leaves;
   holds = λ works. absurd (let e : true ≡ false = sym broken ∙ works in cc);
@@ -73,14 +74,14 @@ module _ (l : Ledger) (n : ℕ) (old new : JournalState) (stands : Stands l old)
   append_taken : (payload : List ℕ) (answer : Answer) → Appends payload answer old new → Tells (Commits payload) (told old) (told new) → OnOk answer (Tells (Committed payload) (told old) (told new)) → Stands (ledger_after n (Append payload) (outcome_of answer) l) new
   append_taken payload (Ok x) appends crash done =
       let staged : new.staged ≡ None = ap (λ (j : JournalState). j.staged) appends.0 in
-      stands_settled (l.held ++ payload ∷ []) None new (ap (λ (j : JournalState). j.is_broken) appends.0 ∙ works)
-      (from_before (Committed payload) (Holds (l.held ++ payload ∷ [])) old new done (λ f g is committed. committed l.held (stands.holds works f is)))
+      stands_settled (with_payload payload l.held) None new (ap (λ (j : JournalState). j.is_broken) appends.0 ∙ works)
+      (from_before (Committed payload) (Holds (with_payload payload l.held)) old new done (λ f g is committed. committed l.held (stands.holds works f is)))
       (λ more is. absurd (let e : None ≡ Some more = is in cc))
       (no_rows new staged)
   append_taken payload (Err DiskFault) appends crash done =
-      stands_broken l.held (l.held ++ payload ∷ []) new (ap (λ (j : JournalState). j.is_broken) appends.0)
-      (from_before (Commits payload) (LeavesOpened (IsEither l.held (l.held ++ payload ∷ []))) old new crash
-      (λ f g is commits. opened_now (IsEither l.held (l.held ++ payload ∷ [])) f.first f.second g.first g.second (commits l.held (stands.holds works f is))))
+      stands_broken l.held (with_payload payload l.held) new (ap (λ (j : JournalState). j.is_broken) appends.0)
+      (from_before (Commits payload) (LeavesOpened (IsEither l.held (with_payload payload l.held))) old new crash
+      (λ f g is commits. opened_now (IsEither l.held (with_payload payload l.held)) f.first f.second g.first g.second (commits l.held (stands.holds works f is))))
   append_taken payload (Err (Damaged offset)) appends crash done = absurd appends
   append_taken payload (Err (TooLong k)) appends crash done = absurd appends
   append_taken payload (Err (Full len)) appends crash done = absurd appends
@@ -223,18 +224,18 @@ module _ (l : Ledger) (n : ℕ) (old new : JournalState) (stands : Stands l old)
   turn_taken : (answer : Answer) (at : ℕ) → old.staged ≡ Some at → Turns answer old new → Tells (Replaces old.is_second_live) (told old) (told new) → OnOk answer (Tells (Replaced old.is_second_live) (told old) (told new)) → Stands (ledger_after n Turn (outcome_of answer) l) new
   turn_taken (Ok x) at staged turns crash done =
       let rows = stands.begun works at staged in
-      let is_rows : rows_or l.rows l.held ≡ rows.0 = ap (λ (r : Option (List (List ℕ))). rows_or r l.held) rows.1 in
+      let is_rows : rows_or l.rows l.held ≡ image Two rows.0 = ap (λ (r : Option (List (List ℕ))). rows_or r l.held) rows.1 in
       stands_settled (rows_or l.rows l.held) None new (ap (λ (j : JournalState). j.is_broken) turns.0)
       (from_before (Replaced old.is_second_live) (Holds (rows_or l.rows l.held)) old new done (λ f g is replaced. subst (λ m. Holds m g) (sym is_rows) (replaced rows.0 (stands.rows works rows.0 rows.1 f is))))
       (λ more is. absurd (let e : None ≡ Some more = is in cc))
       (no_rows new (ap (λ (j : JournalState). j.staged) turns.0))
   turn_taken (Err DiskFault) at staged turns crash done =
       let rows = stands.begun works at staged in
-      let is_rows : rows_or l.rows l.held ≡ rows.0 = ap (λ (r : Option (List (List ℕ))). rows_or r l.held) rows.1 in
+      let is_rows : rows_or l.rows l.held ≡ image Two rows.0 = ap (λ (r : Option (List (List ℕ))). rows_or r l.held) rows.1 in
       subst (λ m. Stands (record { held = l.held; maybe = m; rows = None }) new) (sym is_rows)
-      (stands_broken l.held rows.0 new (ap (λ (j : JournalState). j.is_broken) turns.0)
-      (from_before (Replaces old.is_second_live) (LeavesOpened (IsEither l.held rows.0)) old new crash
-      (λ f g is replaces. opened_now (IsEither l.held rows.0) f.first f.second g.first g.second (replaces l.held rows.0 (stands.holds works f is) (stands.rows works rows.0 rows.1 f is)))))
+      (stands_broken l.held (image Two rows.0) new (ap (λ (j : JournalState). j.is_broken) turns.0)
+      (from_before (Replaces old.is_second_live) (LeavesOpened (IsEither l.held (image Two rows.0))) old new crash
+      (λ f g is replaces. opened_now (IsEither l.held (image Two rows.0)) f.first f.second g.first g.second (replaces l.held rows.0 (stands.holds works f is) (stands.rows works rows.0 rows.1 f is)))))
   turn_taken (Err (Damaged offset)) at staged turns crash done = absurd turns
   turn_taken (Err (TooLong k)) at staged turns crash done = absurd turns
   turn_taken (Err (Full len)) at staged turns crash done = absurd turns
@@ -340,7 +341,7 @@ still P old new same leaves = tells_map_at (λ f g. g ≡ f) (SinceOpened P) (to
 
 risks_one : (l : Ledger) (call : JournalCall) (answer : Answer) (old new : JournalState) → Stands l old → Moves call answer old new → RisksOne l call old new
 risks_one l (Append payload) answer old new stands moves works =
-    tells_map_at (Commits payload) (SinceOpened (IsEither l.held (l.held ++ payload ∷ []))) (told old) (told new) (λ f g is commits. commits l.held (stands.holds works f is)) moves.crash
+    tells_map_at (Commits payload) (SinceOpened (IsEither l.held (with_payload payload l.held))) (told old) (told new) (λ f g is commits. commits l.held (stands.holds works f is)) moves.crash
 risks_one l Begin answer old new stands moves works =
     tells_map_at Keeps (SinceOpened (IsEither l.held l.held)) (told old) (told new) (λ f g is keeps. keeps_either l 0 old new stands works f g keeps is) moves.crash
 risks_one l (Add payload) answer old new stands moves works =
@@ -349,8 +350,8 @@ risks_one l Look answer old new stands moves works =
     still (IsEither l.held l.held) old new (looked l 0 old new stands works answer moves) (λ files is. held_leaves l.held l.held files (stands.holds works files is))
 risks_one l Turn answer old new stands moves works = go l.rows refl
   where
-    started : (rows : List (List ℕ)) → l.rows ≡ Some rows → Tells (SinceOpened (IsEither l.held rows)) (told old) (told new)
-    started rows is = tells_map_at (Replaces old.is_second_live) (SinceOpened (IsEither l.held rows)) (told old) (told new)
+    started : (rows : List (List ℕ)) → l.rows ≡ Some rows → Tells (SinceOpened (IsEither l.held (image Two rows))) (told old) (told new)
+    started rows is = tells_map_at (Replaces old.is_second_live) (SinceOpened (IsEither l.held (image Two rows))) (told old) (told new)
         (λ f g tells replaces. replaces l.held rows (stands.holds works f tells) (stands.rows works rows is f tells)) moves.crash
 
     refused : (staged : Option ℕ) → old.staged ≡ staged → l.rows ≡ None → new ≡ old

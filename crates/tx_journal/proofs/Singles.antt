@@ -7,28 +7,30 @@ use Rattle.tx_journal.specs.declared.error.JournalError.{JournalError}
 use Rattle.tx_journal.specs.declared.error.JournalError.TheVariants.{DiskFault, Damaged, TooLong, Full, Reopen, NotStarted, OneDisk, Spent, OutOfMemory}
 use Rattle.tx_journal.specs.declared.format.Format.{Format}
 use Rattle.tx_journal.specs.declared.format.Format.TheVariants.{One, Two}
+use Rattle.tx_journal.specs.File.{image}
 use Rattle.tx_journal.specs.Pair.{Files, ReadsAs, IsJust}
 use Rattle.tx_journal.specs.Journal.{is_to_make, MayBeLeft, KeepsFile, OpensAs, Opens, Refuses}
 use Rattle.tx_journal.specs.Calls.{tell_one, FindsIn, OpensFiles, MayBeLeftIn, KeepsFiles, RefusesFiles}
 use Rattle.tx_journal.specs.Found.{at_first}
 use Rattle.tx_journal.specs.Sound.{IsLive}
-use Rattle.tx_journal.proofs.Rests.{rest_image}
+use Rattle.tx_journal.proofs.Openings.{opened_stands}
+use Rattle.tx_journal.proofs.Rests.{rest_stands, damaged}
 
 abbrev alone : DiskState → Files
 alone d = record { first = d; second = None }
 
-finds_one : (b : Bool) (d : DiskState) (payloads : List (List ℕ)) → OpensAs One b d.bytes payloads → FindsIn b (alone d) payloads
-finds_one true d payloads as_ = as_
-finds_one false d payloads as_ = as_
-
 opens_one : (create : Bool) (found : ℕ × Format) (d e : DiskState) → Opens One create found d e → OpensFiles create (alone d) (alone e)
 opens_one create found d e opens =
-    let image = rest_image opens.1 found.0 e.bytes opens.3 in (
-      opens.1,
-      finds_one (is_to_make create d.bytes) d opens.1 opens.2,
-      record { reads = image; small = opens.3.small; leaves = leaves_durable (ReadsAs (IsJust opens.1) One) e opens.4 (image, opens.3.small) },
+    let stands = rest_stands opens.1 found.0 e.bytes opens.3 in (
+      image found.1 opens.1,
+      finds (is_to_make create d.bytes) refl opens.2,
+      record { reads = stands; small = opens.3.small; leaves = leaves_durable (ReadsAs (IsJust (image found.1 opens.1)) One) e opens.4 (stands, opens.3.small) },
       opens.5,
     )
+  where
+    finds : (b : Bool) → is_to_make create d.bytes ≡ b → OpensAs One b d.bytes opens.1 → FindsIn b (alone d) (image found.1 opens.1)
+    finds true is as_ = as_
+    finds false is as_ = opened_stands One create found d e opens is
 
 left_one : (b : Bool) (d : DiskState) (f : List ℕ) → MayBeLeft One b d.bytes f → MayBeLeftIn b d None f None
 left_one true d f left = left
@@ -50,7 +52,7 @@ one_kept create a b tells = tells_alone (KeepsFiles create) (KeepsFile One creat
 
 refuses_alone : (create : Bool) (e : JournalError) (d : DiskState) → Refuses One create e d → RefusesFiles create e (alone d)
 refuses_alone create DiskFault d refuses = tt
-refuses_alone create (Damaged offset) d refuses = refuses
+refuses_alone create (Damaged offset) d refuses = (refuses.0, damaged One d.bytes offset refuses.1)
 refuses_alone create (TooLong n) d refuses = refuses
 refuses_alone create (Full len) d refuses = refuses
 refuses_alone create Reopen d refuses = refuses

@@ -6,9 +6,9 @@ use Rattle.tx_journal.specs.declared.error.JournalError.{JournalError}
 use Rattle.tx_journal.specs.declared.error.JournalError.TheVariants.{DiskFault, Damaged, TooLong, Full, Reopen, NotStarted, OneDisk, Spent, OutOfMemory}
 use Rattle.tx_journal.specs.declared.format.Format.{Format}
 use Rattle.tx_journal.specs.declared.format.Format.TheVariants.{One, Two}
-use Rattle.tx_journal.specs.File.{longest, most_bytes, is_made, opened, file_length, file_payloads, IsBeingMade}
+use Rattle.tx_journal.specs.File.{longest, most_bytes, is_made, opened, file_length, file_payloads, Image, image, with_payload, IsBeingMade}
 use Rattle.tx_journal.specs.Journal.{Rises}
-use Rattle.tx_journal.specs.Pair.{Files, generation_row, generation_in, without_generation, file_generation, number, live_bytes, read_payloads, SinceOpened, Holds, IsJust, IsEither}
+use Rattle.tx_journal.specs.Pair.{Files, generation_row, generation_in, without_generation, file_generation, number, live_bytes, read_files, SinceOpened, Holds, IsJust, IsEither}
 
 -- a disk of a journal: its state, if it reports it, and how often it failed
 pub record Side : Type 0 where
@@ -122,13 +122,13 @@ Appends payload (Err (Spent count)) old new = ⊥
 Appends payload (Err OutOfMemory) old new = ⊥
 
 -- Whatever a crash leaves at any moment of an append stands for the payloads that the journal held, with the new one or
--- without it.
+-- without it, and has the same format.
 abbrev pub Commits : List ℕ → Files → Files → Type 0
-Commits payload old new = (payloads : List (List ℕ)) → Holds payloads old → SinceOpened (IsEither payloads (payloads ++ payload ∷ [])) old new
+Commits payload old new = (held : Image) → Holds held old → SinceOpened (IsEither held (with_payload payload held)) old new
 
 -- Once it is answered Ok, the journal holds the new one too.
 abbrev pub Committed : List ℕ → Files → Files → Type 0
-Committed payload old new = (payloads : List (List ℕ)) → Holds payloads old → Holds (payloads ++ payload ∷ []) new
+Committed payload old new = (held : Image) → Holds held old → Holds (with_payload payload held) new
 
 -- the payloads that a replay counts: in a pair, those after the Generation
 abbrev pub rows_in : Option Side → List (List ℕ) → List (List ℕ)
@@ -203,13 +203,13 @@ Adds payload (Err OneDisk) old new = ⊥
 Adds payload (Err (Spent count)) old new = ⊥
 Adds payload (Err OutOfMemory) old new = ⊥
 
--- whatever a crash leaves at any moment of a start or a row stands for the payloads that the journal held
+-- whatever a crash leaves at any moment of a start or a row stands for what the journal held
 abbrev pub Keeps : Files → Files → Type 0
-Keeps old new = (payloads : List (List ℕ)) → Holds payloads old → SinceOpened (IsJust payloads) old new
+Keeps old new = (held : Image) → Holds held old → SinceOpened (IsJust held) old new
 
 -- the journal holds what it held
 abbrev pub Kept : Files → Files → Type 0
-Kept old new = (payloads : List (List ℕ)) → Holds payloads old → Holds payloads new
+Kept old new = (held : Image) → Holds held old → Holds held new
 
 -- what the file that isn't live would stand for if its gate were open
 abbrev pub staged_in : Bool → DiskState → Option DiskState → Result (List (List ℕ)) ℕ
@@ -254,28 +254,28 @@ Turns (Err OneDisk) old new = ⊥
 Turns (Err (Spent count)) old new = ⊥
 Turns (Err OutOfMemory) old new = ⊥
 
--- whatever a crash leaves at any moment of the end of a compaction stands for the payloads that the journal held, or
--- for the rows
+-- whatever a crash leaves at any moment of the end of a compaction stands for what the journal held, or for the rows in
+-- the second format
 abbrev pub Replaces : Bool → Files → Files → Type 0
-Replaces is_second_live old new = (payloads rows : List (List ℕ)) → Holds payloads old → staged_payloads is_second_live old ≡ Ok rows → SinceOpened (IsEither payloads rows) old new
+Replaces is_second_live old new = (held : Image) (rows : List (List ℕ)) → Holds held old → staged_payloads is_second_live old ≡ Ok rows → SinceOpened (IsEither held (image Two rows)) old new
 
--- once it is answered Ok, the journal holds the rows
+-- once it is answered Ok, the journal holds the rows in the second format
 abbrev pub Replaced : Bool → Files → Files → Type 0
-Replaced is_second_live old new = (rows : List (List ℕ)) → staged_payloads is_second_live old ≡ Ok rows → Holds rows new
+Replaced is_second_live old new = (rows : List (List ℕ)) → staged_payloads is_second_live old ≡ Ok rows → Holds (image Two rows) new
 
 -- an opening makes a file if that is asked for and none is made
 abbrev pub is_making : Bool → DiskState → Option DiskState → Bool
 is_making create first None = create && not (is_made first.bytes)
 is_making create first (Some second) = create && not (is_made first.bytes) && not (is_made second.bytes)
 
--- what an opening finds: no payloads if it makes the first file, else the payloads of the live one
-abbrev pub FindsIn : Bool → Files → List (List ℕ) → Type 0
-FindsIn true files payloads = payloads ≡ []
-FindsIn false files payloads = read_payloads files ≡ Ok payloads
+-- what an opening finds: no payloads if it makes the first file, else what the live one stands for
+abbrev pub FindsIn : Bool → Files → Image → Type 0
+FindsIn true files found = found.payloads ≡ []
+FindsIn false files found = read_files files ≡ Ok found
 
 -- an opening that is done; the live file that it found wasn't longer than a journal takes
 abbrev pub OpensFiles : Bool → Files → Files → Type 0
-OpensFiles create old new = (payloads : List (List ℕ)) × FindsIn (is_making create old.first old.second) old payloads × Holds payloads new × (length (live_bytes old.first old.second) ≤ most_bytes)
+OpensFiles create old new = (held : Image) × FindsIn (is_making create old.first old.second) old held × Holds held new × (length (live_bytes old.first old.second) ≤ most_bytes)
 
 -- what a crash in an opening leaves: if the first file is being made, one that isn't made or has no records; else the
 -- files as they were read
@@ -301,7 +301,7 @@ KeepsFiles create old new = LaterBoth (MayBeLeftIn (is_making create old.first o
 -- the cause of a refused opening
 abbrev pub RefusesFiles : Bool → JournalError → Files → Type 0
 RefusesFiles create DiskFault files = Unit {0}
-RefusesFiles create (Damaged offset) files = (is_making create files.first files.second ≡ false) × (read_payloads files ≡ Err offset)
+RefusesFiles create (Damaged offset) files = (is_making create files.first files.second ≡ false) × (read_files files ≡ Err offset)
 RefusesFiles create (TooLong n) files = ⊥
 RefusesFiles create (Full len) files = (len ≡ length (live_bytes files.first files.second)) × (most_bytes < len)
 RefusesFiles create Reopen files = ⊥
@@ -324,7 +324,11 @@ IsOpened j = (j.is_broken ≡ false) × (j.staged ≡ None)
 
 -- a journal that has met no fault ends where a file of the payloads that it holds does
 abbrev pub IsMeasured : JournalState → Type 0
-IsMeasured j = j.is_broken ≡ false → (files : Files) → told j ≡ Some files → (payloads : List (List ℕ)) → Holds payloads files → j.end ≡ file_length payloads
+IsMeasured j = j.is_broken ≡ false → (files : Files) → told j ≡ Some files → (held : Image) → Holds held files → j.end ≡ file_length held.payloads
+
+-- the format of what it holds is its own
+abbrev pub HoldsFormat : JournalState → Type 0
+HoldsFormat j = j.is_broken ≡ false → (files : Files) → told j ≡ Some files → (held : Image) → Holds held files → held.format ≡ j.format
 
 -- this disk's count of faults has not fallen since it was the number
 abbrev pub KeepsCount : ℕ → Option Side → Type 0

@@ -107,6 +107,31 @@ file_payloads newest file =
     else
     Err 0
 
+-- a file as it is read: the format that its name tells, and its payloads
+pub record Image : Type 0 where
+  pub format : Format
+  pub payloads : List (List ℕ)
+
+abbrev pub image : Format → List (List ℕ) → Image
+image format payloads = record { format = format; payloads = payloads }
+
+-- the same with one more payload
+abbrev pub with_payload : List ℕ → Image → Image
+with_payload payload i = image i.format (i.payloads ++ payload ∷ [])
+
+-- the format of which a known name is
+abbrev pub format_of : List ℕ → Format
+format_of text = if same_bytes text (name Two) then Two else One
+
+-- payloads that were read of a file of this format
+abbrev pub in_format : Format → Result (List (List ℕ)) ℕ → Result Image ℕ
+in_format format (Ok payloads) = Ok (image format payloads)
+in_format format (Err offset) = Err offset
+
+-- what a file stands for to a journal that knows the formats up to this one, or the offset at which it is damaged
+abbrev pub file_image : Format → List ℕ → Result Image ℕ
+file_image newest file = in_format (format_of (take 7 (drop 1 file))) (file_payloads newest file)
+
 -- the payloads of a file of its own, which has the first format
 abbrev pub journal_payloads : List ℕ → Result (List (List ℕ)) ℕ
 journal_payloads file = file_payloads One file

@@ -5,7 +5,7 @@ use Rattle.disk_model.specs.Disk.{DiskState}
 use Rattle.disk_model.specs.Crash.{LeavesOnly, Since}
 use Rattle.tx_journal.specs.declared.format.Format.{Format}
 use Rattle.tx_journal.specs.declared.format.Format.TheVariants.{One, Two}
-use Rattle.tx_journal.specs.File.{most_bytes, same_bytes, is_made, is_known, file_payloads, journal_payloads}
+use Rattle.tx_journal.specs.File.{most_bytes, same_bytes, is_made, is_known, Image, file_payloads, file_image}
 
 -- how the payload of a Generation begins: the moment 0, the kind 128
 abbrev pub generation_kind : List ℕ
@@ -73,27 +73,27 @@ pub record Files : Type 0 where
   pub first : DiskState
   pub second : Option DiskState
 
--- the payloads for which the bytes that reads give stand
-abbrev pub read_both : DiskState → Option DiskState → Result (List (List ℕ)) ℕ
-read_both first None = journal_payloads first.bytes
-read_both first (Some second) = live_payloads first.bytes second.bytes
+-- what the bytes that reads give stand for
+abbrev pub read_both : DiskState → Option DiskState → Result Image ℕ
+read_both first None = file_image One first.bytes
+read_both first (Some second) = file_image Two (live_file first.bytes second.bytes)
 
 -- the same for the files of a journal
-abbrev pub read_payloads : Files → Result (List (List ℕ)) ℕ
-read_payloads files = read_both files.first files.second
+abbrev pub read_files : Files → Result Image ℕ
+read_files files = read_both files.first files.second
 
 -- the bytes of the live file
 abbrev pub live_bytes : DiskState → Option DiskState → List ℕ
 live_bytes first None = first.bytes
 live_bytes first (Some second) = live_file first.bytes second.bytes
 
--- a claim about the payloads for which files stand
+-- a claim about what files stand for
 abbrev pub Claim : Type 1
-Claim = Result (List (List ℕ)) ℕ → Type 0
+Claim = Result Image ℕ → Type 0
 
 -- P holds of what the file stands for, and the file is no longer than a journal takes
 abbrev pub ReadsAs : Claim → Format → List ℕ → Type 0
-ReadsAs P newest file = P (file_payloads newest file) × (length file ≤ most_bytes)
+ReadsAs P newest file = P (file_image newest file) × (length file ≤ most_bytes)
 
 -- whatever a crash may leave now of the files opens as P says; the live one is no longer than a journal takes
 abbrev pub LeavesBoth : Claim → DiskState → Option DiskState → Type 0
@@ -116,17 +116,17 @@ SinceBoth P first (Some second) first_new (Some second_new) = Since (λ f. Since
 abbrev pub SinceOpened : Claim → Files → Files → Type 0
 SinceOpened P old new = SinceBoth P old.first old.second new.first new.second
 
--- the files stand for these payloads, and so does whatever a crash may leave now; the live one is no longer than a
--- journal takes
-pub record Holds (payloads : List (List ℕ)) (files : Files) : Type 0 where
-  pub reads : read_payloads files ≡ Ok payloads
+-- the files stand for this format and these payloads, and so does whatever a crash may leave now; the live one is no
+-- longer than a journal takes
+pub record Holds (held : Image) (files : Files) : Type 0 where
+  pub reads : read_files files ≡ Ok held
   pub small : length (live_bytes files.first files.second) ≤ most_bytes
-  pub leaves : LeavesOpened (λ r. r ≡ Ok payloads) files
+  pub leaves : LeavesOpened (λ r. r ≡ Ok held) files
 
--- the payloads as they were
-abbrev pub IsJust : List (List ℕ) → Claim
-IsJust payloads r = r ≡ Ok payloads
+-- what the files stood for
+abbrev pub IsJust : Image → Claim
+IsJust held r = r ≡ Ok held
 
--- these payloads or those
-abbrev pub IsEither : List (List ℕ) → List (List ℕ) → Claim
-IsEither payloads others r = (r ≡ Ok payloads) ⊎ (r ≡ Ok others)
+-- this or that
+abbrev pub IsEither : Image → Image → Claim
+IsEither held other r = (r ≡ Ok held) ⊎ (r ≡ Ok other)

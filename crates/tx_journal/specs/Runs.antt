@@ -3,6 +3,8 @@ use Rattle.std.specs.Prelude.{◌≡◌, ℕ, true, false, List, [], ◌∷◌, 
 use Rattle.disk_model.specs.Disk.{Tells}
 use Rattle.tx_journal.specs.declared.error.JournalError.{JournalError}
 use Rattle.tx_journal.specs.declared.error.JournalError.TheVariants.{DiskFault, Damaged, TooLong, Full, Reopen, NotStarted, OneDisk, Spent, OutOfMemory}
+use Rattle.tx_journal.specs.declared.format.Format.TheVariants.{Two}
+use Rattle.tx_journal.specs.File.{Image, image, with_payload}
 use Rattle.tx_journal.specs.Journal.{is_fault}
 use Rattle.tx_journal.specs.Pair.{Files, generation_row, LeavesOpened, SinceOpened, Holds, IsEither}
 use Rattle.tx_journal.specs.Calls.{JournalState, told, append_refusal, Appends, Commits, Committed, next_number, start_refusal, Starts, Keeps, Kept, HasBegun, add_refusal, given_up, Adds, HasRow, end_refusal, Turns, Replaces, Replaced, staged_payloads}
@@ -63,15 +65,15 @@ Moves (Add payload) answer old new = AddMoves payload answer old new
 Moves Turn answer old new = TurnMoves answer old new
 Moves Look answer old new = LookMoves answer old new
 
--- The payloads that were acknowledged; those that a crash may leave in place of them, once a call has met a fault; and
--- the rows of a compaction under way.
+-- What was acknowledged, by its format and its payloads; what a crash may leave in place of it, once a call has met a
+-- fault; and the rows of a compaction under way.
 pub record Ledger : Type 0 where
-  pub held : List (List ℕ)
-  pub maybe : List (List ℕ)
+  pub held : Image
+  pub maybe : Image
   pub rows : Option (List (List ℕ))
 
 -- no outcome is open
-abbrev pub settled : List (List ℕ) → Option (List (List ℕ)) → Ledger
+abbrev pub settled : Image → Option (List (List ℕ)) → Ledger
 settled held rows = record { held = held; maybe = held; rows = rows }
 
 -- what came of a call
@@ -98,14 +100,14 @@ abbrev pub with_row : List ℕ → Option (List (List ℕ)) → Option (List (Li
 with_row payload None = None
 with_row payload (Some rows) = Some (rows ++ payload ∷ [])
 
--- the rows of a compaction under way; without one the payloads as they are
-abbrev pub rows_or : Option (List (List ℕ)) → List (List ℕ) → List (List ℕ)
+-- the rows of a compaction under way, in the second format; without one all as it is
+abbrev pub rows_or : Option (List (List ℕ)) → Image → Image
 rows_or None held = held
-rows_or (Some rows) held = rows
+rows_or (Some rows) held = image Two rows
 
--- the payloads that a crash within this call may leave in place of those acknowledged
-abbrev pub under_way : JournalCall → Ledger → List (List ℕ)
-under_way (Append payload) l = l.held ++ payload ∷ []
+-- what a crash within this call may leave in place of what was acknowledged
+abbrev pub under_way : JournalCall → Ledger → Image
+under_way (Append payload) l = with_payload payload l.held
 under_way Begin l = l.held
 under_way (Add payload) l = l.held
 under_way Turn l = rows_or l.rows l.held
@@ -115,7 +117,7 @@ under_way Look l = l.held
 abbrev pub ledger_after : ℕ → JournalCall → Outcome → Ledger → Ledger
 ledger_after number call Refused l = l
 ledger_after number call Failed l = record { held = l.held; maybe = under_way call l; rows = None }
-ledger_after number (Append payload) Done l = settled (l.held ++ payload ∷ []) None
+ledger_after number (Append payload) Done l = settled (with_payload payload l.held) None
 ledger_after number (Append payload) GivenUp l = l
 ledger_after number Begin Done l = settled l.held (Some (generation_row number ∷ []))
 ledger_after number Begin GivenUp l = l

@@ -1,10 +1,10 @@
 // The journal over one disk, or over the live one of two.
 ghost use Rattle.std.specs.Prelude.{◌≡◌, ◌<◌, ◌≤◌, ℕ, List, length, take, drop, true, false, ◌||◌, IsErrOf, OnOk, IfOk, IfErr, IfSome, IfNone, Some, None, option_map};
 ghost use Rattle.disk_model.specs.Disk.{DiskState, Tells};
-ghost use Rattle.tx_journal.specs.File.{name};
+ghost use Rattle.tx_journal.specs.File.{Image, name};
 ghost use Rattle.tx_journal.specs.Pair.{Files, Holds, first_generation};
 ghost use Rattle.tx_journal.specs.Journal.{IsOpenError, Rises, Replays, Costs, is_fault};
-ghost use Rattle.tx_journal.specs.Calls.{Side, JournalState, told, tell_one, first_side, second_side, append_refusal, Appends, Commits, Committed, rows_in, is_alone, IsMeasured, IsOpened, OpensFiles, RefusesFiles, KeepsFiles};
+ghost use Rattle.tx_journal.specs.Calls.{Side, JournalState, told, tell_one, first_side, second_side, append_refusal, Appends, Commits, Committed, rows_in, is_alone, HoldsFormat, IsMeasured, IsOpened, OpensFiles, RefusesFiles, KeepsFiles};
 
 use crate::error::JournalError;
 use crate::find::{Cursor, FIRST, find, place_of, start_at};
@@ -159,6 +159,7 @@ impl<D: Disk> Journal<D> {
     pub fn format(&self) -> u8
         ensures first { self.now.format ≡ Format.One → result ≡ 1 }
         ensures second { self.now.format ≡ Format.Two → result ≡ 2 }
+        ensures held { HoldsFormat self.now }
         ensures name { self.now.is_broken ≡ false → (d : DiskState) → self.now.live.told ≡ Some d → take 7 (drop 1 d.bytes) ≡ name self.now.format }
     {
         match self.format {
@@ -170,7 +171,7 @@ impl<D: Disk> Journal<D> {
     /// The number of the live file's Generation, if it has one.
     pub fn generation(&self) -> Option<u64>
         ensures number { result ≡ self.now.generation }
-        ensures first { self.now.is_broken ≡ false → is_alone self.now.other ≡ false → (files : Files) → told self.now ≡ Some files → (payloads : List (List ℕ)) → Holds payloads files → result ≡ first_generation payloads }
+        ensures first { self.now.is_broken ≡ false → is_alone self.now.other ≡ false → (files : Files) → told self.now ≡ Some files → (held : Image) → Holds held files → result ≡ first_generation held.payloads }
     {
         self.generation
     }
@@ -186,7 +187,7 @@ impl<D: Disk> Journal<D> {
     /// In a pair, a Generation isn't counted.
     pub fn replay(&mut self, alloc: Global, index: u64) -> Result<Option<Vec<u8>>, JournalError>
         ensures reopen { self.old.is_broken ≡ true → (IsErrOf result JournalError.Reopen) × (self.new ≡ self.old) }
-        ensures found { self.old.is_broken ≡ false → (files : Files) → told self.old ≡ Some files → (payloads : List (List ℕ)) → Holds payloads files → Replays (rows_in self.old.other payloads) index result }
+        ensures found { self.old.is_broken ≡ false → (files : Files) → told self.old ≡ Some files → (held : Image) → Holds held files → Replays (rows_in self.old.other held.payloads) index result }
         ensures same { self.new ≡ record self.old { live = record { told = self.old.live.told; faults = self.new.live.faults }; is_broken = self.new.is_broken } }
         ensures broken { self.new.is_broken ≡ (self.old.is_broken || is_fault result) }
         ensures cause { Costs self.old.live.faults self.new.live.faults result }

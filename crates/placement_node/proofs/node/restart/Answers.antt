@@ -19,7 +19,7 @@ follow_all-requires-clause-fits g c = subst RoomsFit (sym c.in_ok-replay.ensures
 pub returns-in_err-follow_all-clause-refused : goal.returns-in_err-follow_all-clause-refused
 returns-in_err-follow_all-clause-refused g c = let p = err_from_is_err_and c.from_residual-in_err-follow_all.result c.from_residual-in_err-follow_all.ensures.1 in rw (p.1, p.2)
     (let e = c.in_err-follow_all.field-0.0 in
-    (c.in_err-follow_all.ensures.errors, λ files is payloads holds. start_refused c.args.now e c.in_ok-replay.replay payloads c.in_ok-replay.ensures c.in_err-follow_all.ensures.errors (c.in_err-follow_all.ensures.refused files is payloads holds)))
+    (c.in_err-follow_all.ensures.errors, λ files is held holds. start_refused c.args.now e c.in_ok-replay.replay held.payloads c.in_ok-replay.ensures c.in_err-follow_all.ensures.errors (c.in_err-follow_all.ensures.refused files is held holds)))
 
 pub write_record-requires-clause-fits : goal.write_record-requires-clause-fits
 write_record-requires-clause-fits g c =
@@ -70,11 +70,11 @@ returns-clause-crash g c =
     restart_commits c.args.now old mid c.write_record.new.journal c.in_ok-replay.replay c.follow_all.new.replay c.in_ok-placement.placement.recent c.in_ok-replay.ensures c.in_ok-follow_all.ensures.found c.in_ok-placement.ensures.recent here c.write_record.result c.write_record.ensures
 
 pub returns-clause-opened : goal.returns-clause-opened
-returns-clause-opened g c = λ files is payloads holds.
+returns-clause-opened g c = λ files is held holds.
     let old = c.args.journal.now in
     let mid = c.follow_all.new.journal in
     let same = c.in_ok-follow_all.ensures.same in
     let alone : mid.other ≡ None = ap (λ (k : JournalState). k.other) same ∙ c.requires.alone in
     let here : told mid ≡ told old = told_same old mid c.requires.alone alone (ap (λ (k : JournalState). k.live.told) same) in
-    ap (λ (r : Result (List SpaceRoom) PlacementOpenError). restarted_of r c.args.now) (all_are c.args.now old mid c.write_record.new.journal c.in_ok-replay.replay c.follow_all.new.replay c.in_ok-placement.placement.recent c.in_ok-replay.ensures c.in_ok-follow_all.ensures.found c.in_ok-placement.ensures.recent here files is payloads holds)
+    ap (λ (r : Result (List SpaceRoom) PlacementOpenError). restarted_of r c.args.now) (all_are c.args.now old mid c.write_record.new.journal c.in_ok-replay.replay c.follow_all.new.replay c.in_ok-placement.placement.recent c.in_ok-replay.ensures c.in_ok-follow_all.ensures.found c.in_ok-placement.ensures.recent here files is held holds)
     ∙ ap (λ (s : PlacementState). Ok s) (sym c.in_ok-placement.ensures.state)

@@ -40,11 +40,11 @@ returns-in-Err-add_rows-clause-compacts g c =
 
 pub returns-in-Err-compact-clause-compacts : goal.returns-in-Err-compact-clause-compacts
 returns-in-Err-compact-clause-compacts g c =
-    rw (c.reserve_walk.ensures.tables, c.ended-in-Err-compact.ensures) (end_refused c.args.tables.now.tables c.args.now c.args.least c.args.journal.now (sym c.is_broken.ensures ∙ c.if-is_broken.false) c.requires.consistent (subst (λ (n : ℕ). c.args.least ≤ n) c.len-len.ensures.end c.if-len-least.false) (compacted_contents (next_number c.args.journal.now.generation) c.args.now c.args.tables.now.tables c.payload_law.ensures.today c.payload_law.ensures.snapshot c.requires.now c.requires.fits c.rows_law.ensures.restores c.rows_law.ensures.order) c.compact_start.new.self (started c.args.tables.now.tables c.args.now c.args.least c.args.journal.now (sym c.is_broken.ensures ∙ c.if-is_broken.false) c.requires.consistent (subst (λ (n : ℕ). c.args.least ≤ n) c.len-len.ensures.end c.if-len-least.false) c.in_default.field-0 c.compact_start.new.self (record { refused = c.in_default.ensures.refused; taken = c.in_default.ensures.taken; crash = c.in_default.ensures.crash; kept = c.in_default.ensures.kept; count = c.in_default.ensures.count; begun = c.in_default.ensures.begun })) c.add_rows.new.journal (subst (λ (u : Tables). IsStaged u (snapshot_payloads c.args.now u) c.compact_start.new.self c.add_rows.new.journal) c.reserve_walk.ensures.tables c.in-Ok.ensures.1) c.in-Err-compact.error c.compact.new.self (record { refused = c.in-Err-compact.ensures.refused; taken = c.in-Err-compact.ensures.taken; crash = c.in-Err-compact.ensures.crash; done = c.in-Err-compact.ensures.done }))
+    rw (c.reserve_walk.ensures.tables, c.ended-in-Err-compact.ensures) (end_refused c.args.tables.now.tables c.args.now c.args.least c.args.journal.now (sym c.is_broken.ensures ∙ c.if-is_broken.false) c.requires.consistent (subst (λ (n : ℕ). c.args.least ≤ n) c.len-len.ensures.end c.if-len-least.false) (compacted_contents (next_number c.args.journal.now.generation) c.args.now c.args.tables.now.tables c.payload_law.ensures.snapshot c.requires.now c.requires.fits c.rows_law.ensures.restores c.rows_law.ensures.order) c.compact_start.new.self (started c.args.tables.now.tables c.args.now c.args.least c.args.journal.now (sym c.is_broken.ensures ∙ c.if-is_broken.false) c.requires.consistent (subst (λ (n : ℕ). c.args.least ≤ n) c.len-len.ensures.end c.if-len-least.false) c.in_default.field-0 c.compact_start.new.self (record { refused = c.in_default.ensures.refused; taken = c.in_default.ensures.taken; crash = c.in_default.ensures.crash; kept = c.in_default.ensures.kept; count = c.in_default.ensures.count; begun = c.in_default.ensures.begun })) c.add_rows.new.journal (subst (λ (u : Tables). IsStaged u (snapshot_payloads c.args.now u) c.compact_start.new.self c.add_rows.new.journal) c.reserve_walk.ensures.tables c.in-Ok.ensures.1) c.in-Err-compact.error c.compact.new.self (record { refused = c.in-Err-compact.ensures.refused; taken = c.in-Err-compact.ensures.taken; crash = c.in-Err-compact.ensures.crash; done = c.in-Err-compact.ensures.done }))
 
 pub returns-clause-compacts : goal.returns-clause-compacts
 returns-clause-compacts g c =
-    rw (c.reserve_walk.ensures.tables) (end_made c.args.tables.now.tables c.args.now c.args.least c.args.journal.now (sym c.is_broken.ensures ∙ c.if-is_broken.false) c.requires.consistent (subst (λ (n : ℕ). c.args.least ≤ n) c.len-len.ensures.end c.if-len-least.false) (compacted_contents (next_number c.args.journal.now.generation) c.args.now c.args.tables.now.tables c.payload_law.ensures.today c.payload_law.ensures.snapshot c.requires.now c.requires.fits c.rows_law.ensures.restores c.rows_law.ensures.order) c.compact_start.new.self (started c.args.tables.now.tables c.args.now c.args.least c.args.journal.now (sym c.is_broken.ensures ∙ c.if-is_broken.false) c.requires.consistent (subst (λ (n : ℕ). c.args.least ≤ n) c.len-len.ensures.end c.if-len-least.false) c.in_default.field-0 c.compact_start.new.self (record { refused = c.in_default.ensures.refused; taken = c.in_default.ensures.taken; crash = c.in_default.ensures.crash; kept = c.in_default.ensures.kept; count = c.in_default.ensures.count; begun = c.in_default.ensures.begun })) c.add_rows.new.journal (subst (λ (u : Tables). IsStaged u (snapshot_payloads c.args.now u) c.compact_start.new.self c.add_rows.new.journal) c.reserve_walk.ensures.tables c.in-Ok.ensures.1) c.in_default-compact.field-0 c.in-Ok.rows c.compact.new.self (c.in-Ok.ensures.0 ∙ ap (λ (u : Tables). length (snapshot_payloads c.args.now u)) c.reserve_walk.ensures.tables) (record { refused = c.in_default-compact.ensures.refused; taken = c.in_default-compact.ensures.taken; crash = c.in_default-compact.ensures.crash; done = c.in_default-compact.ensures.done }))
+    rw (c.reserve_walk.ensures.tables) (end_made c.args.tables.now.tables c.args.now c.args.least c.args.journal.now (sym c.is_broken.ensures ∙ c.if-is_broken.false) c.requires.consistent (subst (λ (n : ℕ). c.args.least ≤ n) c.len-len.ensures.end c.if-len-least.false) (compacted_contents (next_number c.args.journal.now.generation) c.args.now c.args.tables.now.tables c.payload_law.ensures.snapshot c.requires.now c.requires.fits c.rows_law.ensures.restores c.rows_law.ensures.order) c.compact_start.new.self (started c.args.tables.now.tables c.args.now c.args.least c.args.journal.now (sym c.is_broken.ensures ∙ c.if-is_broken.false) c.requires.consistent (subst (λ (n : ℕ). c.args.least ≤ n) c.len-len.ensures.end c.if-len-least.false) c.in_default.field-0 c.compact_start.new.self (record { refused = c.in_default.ensures.refused; taken = c.in_default.ensures.taken; crash = c.in_default.ensures.crash; kept = c.in_default.ensures.kept; count = c.in_default.ensures.count; begun = c.in_default.ensures.begun })) c.add_rows.new.journal (subst (λ (u : Tables). IsStaged u (snapshot_payloads c.args.now u) c.compact_start.new.self c.add_rows.new.journal) c.reserve_walk.ensures.tables c.in-Ok.ensures.1) c.in_default-compact.field-0 c.in-Ok.rows c.compact.new.self (c.in-Ok.ensures.0 ∙ ap (λ (u : Tables). length (snapshot_payloads c.args.now u)) c.reserve_walk.ensures.tables) (record { refused = c.in_default-compact.ensures.refused; taken = c.in_default-compact.ensures.taken; crash = c.in_default-compact.ensures.crash; done = c.in_default-compact.ensures.done }))
 
 pub returns-in-Err-clause-pair : goal.returns-in-Err-clause-pair
 returns-in-Err-clause-pair g c = start_paired c.in-Err.error c.args.journal.now c.compact_start.new.self c.requires.pair (record { refused = c.in-Err.ensures.refused; taken = c.in-Err.ensures.taken; crash = c.in-Err.ensures.crash; kept = c.in-Err.ensures.kept; count = c.in-Err.ensures.count; begun = c.in-Err.ensures.begun })

@@ -13,7 +13,7 @@ loop-index-init g c = record {
   same = refl;
   fits = c.requires.fits;
   faults = omega arith;
-  read = λ files tells payloads holds.
+  read = λ files tells held holds.
       first_read c.args.is_first (is_some c.args.journal.now.generation) _ _ _ (c.first_place-at.ensures ∙ ap first_place (c.is_some.ensures ∙ ap is_some c.generation.ensures.number)) c.requires.start;
 }
 
@@ -21,10 +21,10 @@ pub returns-in-Ok-None-clause-read : goal.returns-in-Ok-None-clause-read
 returns-in-Ok-None-clause-read g c =
     let so_far = c.loop-index.invariant in
     all_folded c.args.journal.now c.loop-index.journal so_far.same c.requires.pair c.args.is_first c.requires.form c.args.journal.now.generation
-    (λ files tells payloads holds. sym c.generation.ensures.number ∙ c.generation.ensures.first c.requires.works c.requires.pair files tells payloads holds)
+    (λ files tells held holds. sym c.generation.ensures.number ∙ c.generation.ensures.first c.requires.works c.requires.pair files tells held holds)
     Global c.loop-index.index c.loop-index.at c.loop-index.fold so_far.read
-    (λ files tells payloads holds.
-    subst (λ o. Replays (rows_in c.loop-index.journal.other payloads) c.loop-index.index (Ok o)) c.in-Ok-None.field-0-is (c.in-Ok-None.ensures.found so_far.works files tells payloads holds))
+    (λ files tells held holds.
+    subst (λ o. Replays (rows_in c.loop-index.journal.other held.payloads) c.loop-index.index (Ok o)) c.in-Ok-None.field-0-is (c.in-Ok-None.ensures.found so_far.works files tells held holds))
 
 pub returns-in-Err-clause-fault : goal.returns-in-Err-clause-fault
 returns-in-Err-clause-fault g c = port_fault c.read_fault.result c.args.journal.now c.read_fault.ensures.kind
@@ -37,11 +37,11 @@ pub returns-then-not-taken-clause-fault : goal.returns-then-not-taken-clause-fau
 returns-then-not-taken-clause-fault g c =
     let so_far = c.loop-index.invariant in
     fault_folded c.args.journal.now c.loop-index.journal so_far.same c.requires.pair c.args.is_first c.requires.form c.args.journal.now.generation
-    (λ files tells payloads holds. sym c.generation.ensures.number ∙ c.generation.ensures.first c.requires.works c.requires.pair files tells payloads holds)
+    (λ files tells held holds. sym c.generation.ensures.number ∙ c.generation.ensures.first c.requires.works c.requires.pair files tells held holds)
     Global c.loop-index.index c.loop-index.at c.loop-index.fold so_far.read
     c.in-Ok-Some.payload c.as_slice.result.now c.as_slice.ensures.value
-    (λ files tells payloads holds.
-    subst (λ o. Replays (rows_in c.loop-index.journal.other payloads) c.loop-index.index (Ok o)) c.in-Ok-Some.field-0-is (c.in-Ok-Some.ensures.found so_far.works files tells payloads holds))
+    (λ files tells held holds.
+    subst (λ o. Replays (rows_in c.loop-index.journal.other held.payloads) c.loop-index.index (Ok o)) c.in-Ok-Some.field-0-is (c.in-Ok-Some.ensures.found so_far.works files tells held holds))
     (rw c.if-not-taken.true at c.in-Ok.ensures.folded)
 
 pub loop-index-preserved : goal.loop-index-preserved
@@ -55,11 +55,11 @@ loop-index-preserved g c =
       faults = omega (arith, so_far.faults, c.in-Ok-Some.ensures.cause);
       read =
           more_folded c.args.journal.now c.loop-index.journal so_far.same c.requires.pair c.args.is_first c.requires.form c.args.journal.now.generation
-          (λ files tells payloads holds. sym c.generation.ensures.number ∙ c.generation.ensures.first c.requires.works c.requires.pair files tells payloads holds)
+          (λ files tells held holds. sym c.generation.ensures.number ∙ c.generation.ensures.first c.requires.works c.requires.pair files tells held holds)
           Global c.loop-index.index c.loop-index.at c.loop-index.fold so_far.read
           c.in-Ok-Some.payload c.as_slice.result.now c.as_slice.ensures.value
-          (λ files tells payloads holds.
-          subst (λ o. Replays (rows_in c.loop-index.journal.other payloads) c.loop-index.index (Ok o)) c.in-Ok-Some.field-0-is (c.in-Ok-Some.ensures.found so_far.works files tells payloads holds))
+          (λ files tells held holds.
+          subst (λ o. Replays (rows_in c.loop-index.journal.other held.payloads) c.loop-index.index (Ok o)) c.in-Ok-Some.field-0-is (c.in-Ok-Some.ensures.found so_far.works files tells held holds))
           c.take.new.self c.in-Some.next
           (rw c.if-not-taken.false at c.in-Ok.ensures.folded)
           (c.in-Some.ensures ∙ ap (λ (l : List ℕ). c.loop-index.at + 5 + length l) (c.as_slice-in-loop-index.ensures.value ∙ sym c.as_slice.ensures.value));

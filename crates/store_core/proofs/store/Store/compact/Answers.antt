@@ -13,7 +13,7 @@ invariant_of-self g c =
     let new : StoreState = record { contents = c.compact.new.tables.tables; journal = c.compact.new.journal } in
     record {
       current =
-          current_compacts c.args.now old c.payload_law.ensures.today c.payload_law.ensures.snapshot c.requires c.self.invariant.fits c.rows_law.ensures.restores c.rows_law.ensures.order
+          current_compacts c.args.now old c.payload_law.ensures.snapshot c.requires c.self.invariant.fits c.rows_law.ensures.restores c.rows_law.ensures.order
           c.args.least c.compact.result new c.self.invariant.current c.compact.ensures.compacts;
       fits = subst TablesFit (sym c.compact.ensures.tables) c.self.invariant.fits;
       paired = c.compact.ensures.pair;

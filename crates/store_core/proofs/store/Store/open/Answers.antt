@@ -1,11 +1,11 @@
 use Rattle.std.proofs.Common.{◌≡◌, ◌⊎◌, inl, inr, true, false, Some, Err, Ok, refl, ap, sym, subst, ◌∙◌}
 use Rattle.disk_model.specs.Disk.{Tells}
 use Rattle.tx_journal.specs.Calls.{Side, JournalState, told, tell_both, is_alone, first_side, second_side, OpensFiles, KeepsFiles, IsNumbered}
-use Rattle.store_core.specs.Opens.{HasForm, KeepsStore}
+use Rattle.store_core.specs.Opens.{KeepsStore}
 use Rattle.store_core.specs.Store.{StoreState}
-use Rattle.store_core.proofs.Openings.{told_read, paired_read, number_read, form_told, folded_told}
-use Rattle.store_core.proofs.Opened.{opened_tells, opened_consistent, opened_current, refused_tells, as_store, as_store_error, open_error, told_closed, risen, refused_aged}
-use Rattle.store_core.proofs.Migrated.{kept_keeps, migrated_is, migration_refuses, migration_error, was_opened, rewritten_opens, rewritten_keeps, rewritten_aged, fault_rises}
+use Rattle.store_core.proofs.Openings.{told_read, paired_read, number_read}
+use Rattle.store_core.proofs.Opened.{opened_tells, opened_consistent, opened_current, refused_tells, as_store, as_store_error, open_error, told_closed, risen}
+use Rattle.store_core.proofs.Migrated.{kept_keeps, migrated_is, migration_refuses, migration_error, was_opened, was_old, rewritten_opens, rewritten_keeps, fault_rises}
 use Rattle.store_core.proofs.store.Store.open.Goals as goal
 
 -- ---- the journal isn't opened
@@ -52,23 +52,23 @@ returns-in-Err-read_tables-clause-cause g c is =
 pub invariant_of-result : goal.invariant_of-result
 invariant_of-result g c = record {
   current =
-      opened_current c.args.create _ c.in-Ok.journal c.in-Ok.ensures.opened c.in-Ok-read_tables.found.tables.tables c.read_tables.new.journal (told_read c.in-Ok.journal c.read_tables.new.journal c.read_tables.ensures.same) c.in-Ok-read_tables.ensures.read
-      (subst (λ b. HasForm b c.in-Ok.journal) (c.is_up_to_date.ensures.today c.if-is_up_to_date.true).0 c.in-Ok-read_tables.ensures.form);
+      opened_current c.args.create _ c.in-Ok.journal c.in-Ok.ensures.opened c.in-Ok-read_tables.tables.tables c.read_tables.new.journal (told_read c.in-Ok.journal c.read_tables.new.journal c.read_tables.ensures.same) c.in-Ok-read_tables.ensures.read
+      c.is_up_to_date.ensures.held (c.is_up_to_date.ensures.today c.if-is_up_to_date.true);
   fits = c.in-Ok-read_tables.ensures.fits;
   paired = paired_read c.in-Ok.journal c.read_tables.new.journal c.read_tables.ensures.same c.in-Ok.ensures.state.1;
 }
 
 pub returns-then-is_up_to_date-clause-opened : goal.returns-then-is_up_to_date-clause-opened
 returns-then-is_up_to_date-clause-opened g c =
-    opened_tells c.args.create _ c.in-Ok.journal c.in-Ok.ensures.opened c.in-Ok-read_tables.found.tables.tables c.read_tables.new.journal (told_read c.in-Ok.journal c.read_tables.new.journal c.read_tables.ensures.same) c.in-Ok-read_tables.ensures.read
+    opened_tells c.args.create _ c.in-Ok.journal c.in-Ok.ensures.opened c.in-Ok-read_tables.tables.tables c.read_tables.new.journal (told_read c.in-Ok.journal c.read_tables.new.journal c.read_tables.ensures.same) c.in-Ok-read_tables.ensures.read
 
 pub returns-then-is_up_to_date-clause-current : goal.returns-then-is_up_to_date-clause-current
 returns-then-is_up_to_date-clause-current g c =
-    opened_current c.args.create _ c.in-Ok.journal c.in-Ok.ensures.opened c.in-Ok-read_tables.found.tables.tables c.read_tables.new.journal (told_read c.in-Ok.journal c.read_tables.new.journal c.read_tables.ensures.same) c.in-Ok-read_tables.ensures.read
-    (subst (λ b. HasForm b c.in-Ok.journal) (c.is_up_to_date.ensures.today c.if-is_up_to_date.true).0 c.in-Ok-read_tables.ensures.form)
+    opened_current c.args.create _ c.in-Ok.journal c.in-Ok.ensures.opened c.in-Ok-read_tables.tables.tables c.read_tables.new.journal (told_read c.in-Ok.journal c.read_tables.new.journal c.read_tables.ensures.same) c.in-Ok-read_tables.ensures.read
+    c.is_up_to_date.ensures.held (c.is_up_to_date.ensures.today c.if-is_up_to_date.true)
 
 pub returns-then-is_up_to_date-clause-format : goal.returns-then-is_up_to_date-clause-format
-returns-then-is_up_to_date-clause-format g c = (c.is_up_to_date.ensures.today c.if-is_up_to_date.true).1
+returns-then-is_up_to_date-clause-format g c = c.is_up_to_date.ensures.today c.if-is_up_to_date.true
 
 pub returns-then-is_up_to_date-clause-migrated : goal.returns-then-is_up_to_date-clause-migrated
 returns-then-is_up_to_date-clause-migrated g c =
@@ -86,7 +86,7 @@ returns-then-is_up_to_date-clause-crash g c =
 
 pub migrate-requires-clause-consistent : goal.migrate-requires-clause-consistent
 migrate-requires-clause-consistent g c =
-    opened_consistent c.args.create _ c.in-Ok.journal c.in-Ok.ensures.opened c.in-Ok-read_tables.found.tables.tables c.read_tables.new.journal (told_read c.in-Ok.journal c.read_tables.new.journal c.read_tables.ensures.same) c.in-Ok-read_tables.ensures.read
+    opened_consistent c.args.create _ c.in-Ok.journal c.in-Ok.ensures.opened c.in-Ok-read_tables.tables.tables c.read_tables.new.journal (told_read c.in-Ok.journal c.read_tables.new.journal c.read_tables.ensures.same) c.in-Ok-read_tables.ensures.read
 
 pub migrate-requires-clause-pair : goal.migrate-requires-clause-pair
 migrate-requires-clause-pair g c = paired_read c.in-Ok.journal c.read_tables.new.journal c.read_tables.ensures.same c.in-Ok.ensures.state.1
@@ -96,11 +96,11 @@ migrate-requires-clause-number g c = number_read c.in-Ok.journal c.read_tables.n
 
 pub returns-in-Ok-migrate-clause-opened : goal.returns-in-Ok-migrate-clause-opened
 returns-in-Ok-migrate-clause-opened g c =
-    let old : StoreState = record { contents = c.in-Ok-read_tables.found.tables.tables; journal = c.read_tables.new.journal } in
+    let old : StoreState = record { contents = c.in-Ok-read_tables.tables.tables; journal = c.read_tables.new.journal } in
     let new : StoreState = record { contents = c.migrate.new.tables.tables; journal = c.migrate.new.journal } in
     rw (c.migrate.ensures.tables)
-    (rewritten_opens c.args.create _ c.in-Ok-read_tables.found.is_first old new
-    (was_opened c.args.create _ c.in-Ok-read_tables.found.tables.tables c.in-Ok-read_tables.found.is_first c.in-Ok.journal c.read_tables.new.journal c.read_tables.ensures.same c.in-Ok.ensures.opened c.in-Ok.ensures.crash c.in-Ok-read_tables.ensures.read c.in-Ok-read_tables.ensures.form c.in-Ok-read_tables.ensures.number)
+    (rewritten_opens c.args.create _ old new
+    (was_opened c.args.create _ c.in-Ok-read_tables.tables.tables c.in-Ok.journal c.read_tables.new.journal c.read_tables.ensures.same c.in-Ok.ensures.opened c.in-Ok.ensures.crash c.in-Ok-read_tables.ensures.read c.in-Ok-read_tables.ensures.number c.in-Ok.ensures.made)
     {T = Unit {0}} (Ok tt) c.in-Ok-migrate.ensures.rewrites)
 
 pub returns-in-Ok-migrate-clause-state : goal.returns-in-Ok-migrate-clause-state
@@ -113,69 +113,47 @@ returns-in-Ok-migrate-clause-format g c = ap (λ (k : JournalState). k.format) c
 
 pub returns-in-Ok-migrate-clause-migrated : goal.returns-in-Ok-migrate-clause-migrated
 returns-in-Ok-migrate-clause-migrated g c =
-    let old : StoreState = record { contents = c.in-Ok-read_tables.found.tables.tables; journal = c.read_tables.new.journal } in
+    let old : StoreState = record { contents = c.in-Ok-read_tables.tables.tables; journal = c.read_tables.new.journal } in
     let new : StoreState = record { contents = c.migrate.new.tables.tables; journal = c.migrate.new.journal } in
-    let was = (was_opened c.args.create _ c.in-Ok-read_tables.found.tables.tables c.in-Ok-read_tables.found.is_first c.in-Ok.journal c.read_tables.new.journal c.read_tables.ensures.same c.in-Ok.ensures.opened c.in-Ok.ensures.crash c.in-Ok-read_tables.ensures.read c.in-Ok-read_tables.ensures.form c.in-Ok-read_tables.ensures.number) in
+    let was = (was_opened c.args.create _ c.in-Ok-read_tables.tables.tables c.in-Ok.journal c.read_tables.new.journal c.read_tables.ensures.same c.in-Ok.ensures.opened c.in-Ok.ensures.crash c.in-Ok-read_tables.ensures.read c.in-Ok-read_tables.ensures.number c.in-Ok.ensures.made) in
     inr
-    (migrated_is c.args.create _ c.in-Ok-read_tables.found.is_first old was.opens was.form c.in-Ok-read_tables.ensures.unbroken c.is_up_to_date.ensures.named new c.in-Ok-migrate.ensures.rewrites.0 was.has (c.is_up_to_date.ensures.old c.if-is_up_to_date.false) c.in-Ok-migrate.ensures.rewrites.1)
+    (migrated_is c.args.create _ old was.opens (was_old c.args.create _ c.in-Ok-read_tables.tables.tables c.read_tables.new.journal was c.in-Ok-read_tables.ensures.unbroken c.is_up_to_date.ensures.held (c.is_up_to_date.ensures.old c.if-is_up_to_date.false)) c.is_up_to_date.ensures.named new c.in-Ok-migrate.ensures.rewrites.0 was.has c.in-Ok-migrate.ensures.rewrites.1)
 
 pub returns-in-Ok-migrate-clause-crash : goal.returns-in-Ok-migrate-clause-crash
 returns-in-Ok-migrate-clause-crash g c =
-    let old : StoreState = record { contents = c.in-Ok-read_tables.found.tables.tables; journal = c.read_tables.new.journal } in
+    let old : StoreState = record { contents = c.in-Ok-read_tables.tables.tables; journal = c.read_tables.new.journal } in
     let new : StoreState = record { contents = c.migrate.new.tables.tables; journal = c.migrate.new.journal } in
-    rewritten_keeps c.args.create _ c.in-Ok-read_tables.found.is_first old new
-    (was_opened c.args.create _ c.in-Ok-read_tables.found.tables.tables c.in-Ok-read_tables.found.is_first c.in-Ok.journal c.read_tables.new.journal c.read_tables.ensures.same c.in-Ok.ensures.opened c.in-Ok.ensures.crash c.in-Ok-read_tables.ensures.read c.in-Ok-read_tables.ensures.form c.in-Ok-read_tables.ensures.number)
-    {T = Unit {0}} (Ok tt) c.in-Ok-migrate.ensures.rewrites c.migrate.ensures.pair (c.is_up_to_date.ensures.old c.if-is_up_to_date.false) c.in-Ok-read_tables.ensures.unbroken c.is_up_to_date.ensures.named
+    let was = (was_opened c.args.create _ c.in-Ok-read_tables.tables.tables c.in-Ok.journal c.read_tables.new.journal c.read_tables.ensures.same c.in-Ok.ensures.opened c.in-Ok.ensures.crash c.in-Ok-read_tables.ensures.read c.in-Ok-read_tables.ensures.number c.in-Ok.ensures.made) in
+    rewritten_keeps c.args.create _ old new was {T = Unit {0}} (Ok tt) c.in-Ok-migrate.ensures.rewrites
+    (was_old c.args.create _ c.in-Ok-read_tables.tables.tables c.read_tables.new.journal was c.in-Ok-read_tables.ensures.unbroken c.is_up_to_date.ensures.held (c.is_up_to_date.ensures.old c.if-is_up_to_date.false))
 
 -- ---- its compaction is refused
 
 pub returns-in-Err-migrate-clause-refused : goal.returns-in-Err-migrate-clause-refused
 returns-in-Err-migrate-clause-refused g c =
-    let old : StoreState = record { contents = c.in-Ok-read_tables.found.tables.tables; journal = c.read_tables.new.journal } in
+    let old : StoreState = record { contents = c.in-Ok-read_tables.tables.tables; journal = c.read_tables.new.journal } in
     let new : StoreState = record { contents = c.migrate.new.tables.tables; journal = c.migrate.new.journal } in
-    let was = (was_opened c.args.create _ c.in-Ok-read_tables.found.tables.tables c.in-Ok-read_tables.found.is_first c.in-Ok.journal c.read_tables.new.journal c.read_tables.ensures.same c.in-Ok.ensures.opened c.in-Ok.ensures.crash c.in-Ok-read_tables.ensures.read c.in-Ok-read_tables.ensures.form c.in-Ok-read_tables.ensures.number) in (
+    let was = (was_opened c.args.create _ c.in-Ok-read_tables.tables.tables c.in-Ok.journal c.read_tables.new.journal c.read_tables.ensures.same c.in-Ok.ensures.opened c.in-Ok.ensures.crash c.in-Ok-read_tables.ensures.read c.in-Ok-read_tables.ensures.number c.in-Ok.ensures.made) in (
       migration_error (Unit {0}) c.in-Err-migrate.error old new c.in-Err-migrate.ensures.rewrites,
-      λ files is. migration_refuses c.args.create _ old new was.opens was.folded files is (Unit {0}) c.in-Err-migrate.error c.in-Err-migrate.ensures.rewrites,
+      λ files is. migration_refuses c.args.create _ old new was.opens was.folded (was_old c.args.create _ c.in-Ok-read_tables.tables.tables c.read_tables.new.journal was c.in-Ok-read_tables.ensures.unbroken c.is_up_to_date.ensures.held (c.is_up_to_date.ensures.old c.if-is_up_to_date.false)) files is (Unit {0}) c.in-Err-migrate.error c.in-Err-migrate.ensures.rewrites,
     )
 
 pub returns-in-Err-migrate-clause-crash_refused : goal.returns-in-Err-migrate-clause-crash_refused
 returns-in-Err-migrate-clause-crash_refused g c =
-    let old : StoreState = record { contents = c.in-Ok-read_tables.found.tables.tables; journal = c.read_tables.new.journal } in
+    let old : StoreState = record { contents = c.in-Ok-read_tables.tables.tables; journal = c.read_tables.new.journal } in
     let new : StoreState = record { contents = c.migrate.new.tables.tables; journal = c.migrate.new.journal } in
     let first : Side = record { told = g.D.Disk.told c.close_pair-first-in-Err-migrate.result.0; faults = g.D.Disk.disk_faults c.close_pair-first-in-Err-migrate.result.0 } in
     let second : Side = record { told = g.D.Disk.told c.close_pair-first-in-Err-migrate.result.1; faults = g.D.Disk.disk_faults c.close_pair-first-in-Err-migrate.result.1 } in
+    let was = (was_opened c.args.create _ c.in-Ok-read_tables.tables.tables c.in-Ok.journal c.read_tables.new.journal c.read_tables.ensures.same c.in-Ok.ensures.opened c.in-Ok.ensures.crash c.in-Ok-read_tables.ensures.read c.in-Ok-read_tables.ensures.number c.in-Ok.ensures.made) in
     subst (Tells (KeepsStore c.args.create) (tell_both (g.D.Disk.told c.args.first) (g.D.Disk.told c.args.second)))
     (told_closed c.migrate.new.journal first second c.close_pair-first-in-Err-migrate.ensures.first (sym c.close_pair-first-in-Err-migrate.ensures.second))
-    (rewritten_keeps c.args.create _ c.in-Ok-read_tables.found.is_first old new
-    (was_opened c.args.create _ c.in-Ok-read_tables.found.tables.tables c.in-Ok-read_tables.found.is_first c.in-Ok.journal c.read_tables.new.journal c.read_tables.ensures.same c.in-Ok.ensures.opened c.in-Ok.ensures.crash c.in-Ok-read_tables.ensures.read c.in-Ok-read_tables.ensures.form c.in-Ok-read_tables.ensures.number)
-    {T = Unit {0}} (Err c.in-Err-migrate.error) c.in-Err-migrate.ensures.rewrites c.migrate.ensures.pair (c.is_up_to_date.ensures.old c.if-is_up_to_date.false) c.in-Ok-read_tables.ensures.unbroken c.is_up_to_date.ensures.named)
+    (rewritten_keeps c.args.create _ old new was {T = Unit {0}} (Err c.in-Err-migrate.error) c.in-Err-migrate.ensures.rewrites
+    (was_old c.args.create _ c.in-Ok-read_tables.tables.tables c.read_tables.new.journal was c.in-Ok-read_tables.ensures.unbroken c.is_up_to_date.ensures.held (c.is_up_to_date.ensures.old c.if-is_up_to_date.false)))
 
 pub returns-in-Err-migrate-clause-cause : goal.returns-in-Err-migrate-clause-cause
 returns-in-Err-migrate-clause-cause g c is =
     let new : StoreState = record { contents = c.migrate.new.tables.tables; journal = c.migrate.new.journal } in
     let first : Side = record { told = g.D.Disk.told c.close_pair-first-in-Err-migrate.result.0; faults = g.D.Disk.disk_faults c.close_pair-first-in-Err-migrate.result.0 } in
     let second : Side = record { told = g.D.Disk.told c.close_pair-first-in-Err-migrate.result.1; faults = g.D.Disk.disk_faults c.close_pair-first-in-Err-migrate.result.1 } in
-    fault_rises c.in-Ok-read_tables.found.tables.tables c.in-Ok.journal c.read_tables.new.journal new _ _ first second c.read_tables.ensures.same c.in-Ok.ensures.state.1 c.in-Ok.ensures.count_first c.in-Ok.ensures.count_second
+    fault_rises c.in-Ok-read_tables.tables.tables c.in-Ok.journal c.read_tables.new.journal new _ _ first second c.read_tables.ensures.same c.in-Ok.ensures.state.1 c.in-Ok.ensures.count_first c.in-Ok.ensures.count_second
     (rw is at c.in-Err-migrate.ensures.rewrites) c.close_pair-first-in-Err-migrate.ensures.first (sym c.close_pair-first-in-Err-migrate.ensures.second)
-
--- ---- what is refused for its compaction is old
-
-pub returns-in-Err-clause-aged : goal.returns-in-Err-clause-aged
-returns-in-Err-clause-aged g c before after is also = inl (c.in-Err.ensures.refused.1 before is)
-
-pub returns-in-Err-read_tables-clause-aged : goal.returns-in-Err-read_tables-clause-aged
-returns-in-Err-read_tables-clause-aged g c before after is also =
-    refused_aged c.args.create _ c.in-Ok.journal c.in-Ok.ensures.opened c.in-Err-read_tables.error c.in-Err-read_tables.ensures.fault before after is
-
-pub returns-in-Err-migrate-clause-aged : goal.returns-in-Err-migrate-clause-aged
-returns-in-Err-migrate-clause-aged g c before after is also =
-    let old : StoreState = record { contents = c.in-Ok-read_tables.found.tables.tables; journal = c.read_tables.new.journal } in
-    let new : StoreState = record { contents = c.migrate.new.tables.tables; journal = c.migrate.new.journal } in
-    let first : Side = record { told = g.D.Disk.told c.close_pair-first-in-Err-migrate.result.0; faults = g.D.Disk.disk_faults c.close_pair-first-in-Err-migrate.result.0 } in
-    let second : Side = record { told = g.D.Disk.told c.close_pair-first-in-Err-migrate.result.1; faults = g.D.Disk.disk_faults c.close_pair-first-in-Err-migrate.result.1 } in
-    inr
-    (inr
-    (rewritten_aged c.args.create _ c.in-Ok-read_tables.found.is_first old new
-    (was_opened c.args.create _ c.in-Ok-read_tables.found.tables.tables c.in-Ok-read_tables.found.is_first c.in-Ok.journal c.read_tables.new.journal c.read_tables.ensures.same c.in-Ok.ensures.opened c.in-Ok.ensures.crash c.in-Ok-read_tables.ensures.read c.in-Ok-read_tables.ensures.form c.in-Ok-read_tables.ensures.number)
-    {T = Unit {0}} (Err c.in-Err-migrate.error) c.in-Err-migrate.ensures.rewrites c.migrate.ensures.pair (c.is_up_to_date.ensures.old c.if-is_up_to_date.false) c.in-Ok-read_tables.ensures.unbroken c.is_up_to_date.ensures.named before after is
-    (told_closed c.migrate.new.journal first second c.close_pair-first-in-Err-migrate.ensures.first (sym c.close_pair-first-in-Err-migrate.ensures.second) ∙ also)))

@@ -8,37 +8,37 @@ use Rattle.tx_journal.proofs.Rowed.{holds_live, replay_rows, rows_few, some_mapp
 use Rattle.tx_journal.proofs.journal.Journal.replay.Goals as goal
 
 pub returns-then-index-ge-MOST_BYTES-clause-found : goal.returns-then-index-ge-MOST_BYTES-clause-found
-returns-then-index-ge-MOST_BYTES-clause-found g c works files tells payloads holds =
+returns-then-index-ge-MOST_BYTES-clause-found g c works files tells held holds =
     let tells_in = ap told c.self.view_is ∙ tells in
-    let live = holds_live _ _ _ _ c.self.invariant c.if-self.false files payloads tells_in holds in
+    let live = holds_live _ _ _ _ c.self.invariant c.if-self.false files held tells_in holds in
     let settled = live.2.settled in
-    rw (← c.self.view_is) ((omega (arith, rows_few (option_map (λ d. record { told = g.D.Disk.told d; faults = g.D.Disk.disk_faults d }) c.self.inside.other) payloads c.self.inside.end live.0.bytes settled.file, c.self.invariant.few, c.if-index-ge-MOST_BYTES.true)))
+    rw (← c.self.view_is) ((omega (arith, rows_few (option_map (λ d. record { told = g.D.Disk.told d; faults = g.D.Disk.disk_faults d }) c.self.inside.other) held.payloads c.self.inside.end live.0.bytes settled.file, c.self.invariant.few, c.if-index-ge-MOST_BYTES.true)))
 
 pub returns-in-Ok-Some-clause-found : goal.returns-in-Ok-Some-clause-found
-returns-in-Ok-Some-clause-found g c works files tells payloads holds =
+returns-in-Ok-Some-clause-found g c works files tells held holds =
     let tells_in = ap told c.self.view_is ∙ tells in
-    let live = holds_live _ _ _ _ c.self.invariant c.if-self.false files payloads tells_in holds in
+    let live = holds_live _ _ _ _ c.self.invariant c.if-self.false files held tells_in holds in
     let settled = live.2.settled in
-    let found = c.in-Ok-Some.ensures.found live.0 live.1 _ _ payloads c.self.inside.end settled.file (c.start_at-from.ensures.gate payloads settled.gate) in
-    rw (← c.self.view_is) (replay_rows Global (option_map (λ d. record { told = g.D.Disk.told d; faults = g.D.Disk.disk_faults d }) c.self.inside.other) c.self.inside.generation payloads payloads c.args.index c.place_of-place.result c.is_some.result (Some (c.in-Ok-Some.payload, c.in-Ok-Some.gate)) live.2.numbered refl
-    c.place_of-place.ensures (c.is_some.ensures ∙ sym (some_mapped (λ d. record { told = g.D.Disk.told d; faults = g.D.Disk.disk_faults d }) c.self.inside.other)) (subst (λ o. Finds payloads c.place_of-place.result (Ok o)) c.in-Ok-Some.field-0-is found))
+    let found = c.in-Ok-Some.ensures.found live.0 live.1 _ _ held.payloads c.self.inside.end settled.file (c.start_at-from.ensures.gate held.payloads settled.gate) in
+    rw (← c.self.view_is) (replay_rows Global (option_map (λ d. record { told = g.D.Disk.told d; faults = g.D.Disk.disk_faults d }) c.self.inside.other) c.self.inside.generation held.payloads held.payloads c.args.index c.place_of-place.result c.is_some.result (Some (c.in-Ok-Some.payload, c.in-Ok-Some.gate)) live.2.numbered refl
+    c.place_of-place.ensures (c.is_some.ensures ∙ sym (some_mapped (λ d. record { told = g.D.Disk.told d; faults = g.D.Disk.disk_faults d }) c.self.inside.other)) (subst (λ o. Finds held.payloads c.place_of-place.result (Ok o)) c.in-Ok-Some.field-0-is found))
 
 pub returns-in-Ok-None-clause-found : goal.returns-in-Ok-None-clause-found
-returns-in-Ok-None-clause-found g c works files tells payloads holds =
+returns-in-Ok-None-clause-found g c works files tells held holds =
     let tells_in = ap told c.self.view_is ∙ tells in
-    let live = holds_live _ _ _ _ c.self.invariant c.if-self.false files payloads tells_in holds in
+    let live = holds_live _ _ _ _ c.self.invariant c.if-self.false files held tells_in holds in
     let settled = live.2.settled in
-    let found = c.in-Ok-None.ensures.found live.0 live.1 _ _ payloads c.self.inside.end settled.file (c.start_at-from.ensures.gate payloads settled.gate) in
-    rw (← c.self.view_is) (replay_rows Global (option_map (λ d. record { told = g.D.Disk.told d; faults = g.D.Disk.disk_faults d }) c.self.inside.other) c.self.inside.generation payloads payloads c.args.index c.place_of-place.result c.is_some.result None live.2.numbered refl
-    c.place_of-place.ensures (c.is_some.ensures ∙ sym (some_mapped (λ d. record { told = g.D.Disk.told d; faults = g.D.Disk.disk_faults d }) c.self.inside.other)) (subst (λ o. Finds payloads c.place_of-place.result (Ok o)) c.in-Ok-None.field-0-is found))
+    let found = c.in-Ok-None.ensures.found live.0 live.1 _ _ held.payloads c.self.inside.end settled.file (c.start_at-from.ensures.gate held.payloads settled.gate) in
+    rw (← c.self.view_is) (replay_rows Global (option_map (λ d. record { told = g.D.Disk.told d; faults = g.D.Disk.disk_faults d }) c.self.inside.other) c.self.inside.generation held.payloads held.payloads c.args.index c.place_of-place.result c.is_some.result None live.2.numbered refl
+    c.place_of-place.ensures (c.is_some.ensures ∙ sym (some_mapped (λ d. record { told = g.D.Disk.told d; faults = g.D.Disk.disk_faults d }) c.self.inside.other)) (subst (λ o. Finds held.payloads c.place_of-place.result (Ok o)) c.in-Ok-None.field-0-is found))
 
 pub returns-in-Err-clause-found : goal.returns-in-Err-clause-found
-returns-in-Err-clause-found g c works files tells payloads holds =
+returns-in-Err-clause-found g c works files tells held holds =
     let tells_in = ap told c.self.view_is ∙ tells in
-    let live = holds_live _ _ _ _ c.self.invariant c.if-self.false files payloads tells_in holds in
+    let live = holds_live _ _ _ _ c.self.invariant c.if-self.false files held tells_in holds in
     let settled = live.2.settled in
-    let found = c.in-Err.ensures.found live.0 live.1 _ _ payloads c.self.inside.end settled.file (c.start_at-from.ensures.gate payloads settled.gate) in
-    replay_found Global payloads (rows_in c.args.self.now.other payloads) c.place_of-place.result c.args.index c.in-Err.error found
+    let found = c.in-Err.ensures.found live.0 live.1 _ _ held.payloads c.self.inside.end settled.file (c.start_at-from.ensures.gate held.payloads settled.gate) in
+    replay_found Global held.payloads (rows_in c.args.self.now.other held.payloads) c.place_of-place.result c.args.index c.in-Err.error found
 
 pub invariant_of-self : goal.invariant_of-self
 invariant_of-self g c = record {
