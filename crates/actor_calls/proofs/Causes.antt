@@ -1,12 +1,14 @@
 -- Which entries a served call makes, and what its refusal goes back to, by the cases of the relation.
-use Rattle.std.proofs.Common.{◌≡◌, ◌⊎◌, ◌<◌, ◌+◌, refl, sym, ap, subst, inl, inr, ℕ, Bool, true, false, List, [], ◌∷◌, ◌++◌, length, append_assoc, arith, length-append, Option, Some, None, Ok, Err}
+use Rattle.std.proofs.Common.{◌≡◌, ◌⊎◌, ◌<◌, ◌≤◌, ◌+◌, refl, sym, ap, subst, inl, inr, ℕ, Bool, true, false, List, [], ◌∷◌, ◌++◌, length, append_assoc, arith, length-append, Option, Some, None, Ok, Err}
 use Rattle.std.specs.Prelude.{nat_lt, ◌==◌}
+use Rattle.std.proofs.lemmas.List.{append-nil}
 use Rattle.std.proofs.lemmas.Bool.{cond_both, eqb-true, ltb-true, ltb-false}
 use Rattle.step_gate.specs.declared.gate.Spent.{Spent}
 use Rattle.actor_names.specs.declared.member.Member.{Member}
 use Rattle.actor_names.specs.declared.address.Address.{Address}
 use Rattle.place_table.specs.declared.host.HostInfo.{HostInfo}
 use Rattle.part_model.specs.declared.event.PartEvent.{PartEvent}
+use Rattle.part_model.specs.declared.event.PartEvent.TheVariants.{Draw}
 use Rattle.part_model.specs.Receipts.{PartReply}
 use Rattle.part_model.specs.declared.event.Reply.TheVariants as replies
 use Rattle.member_core.specs.Routes.{HopStep, last_or, rising_hop, route_hop, IsRisingFrom, IsRising}
@@ -15,6 +17,7 @@ use Rattle.actor_ports.specs.Traffic.{Place, Traffic}
 use Rattle.http_edge.specs.Carry.{Carried}
 use Rattle.http_edge.specs.Replies.{HasNoReading}
 use Rattle.http_edge.specs.Settled.{IsNamed}
+use Rattle.call_names.specs.declared.name.CallName.{CallName}
 use Rattle.http_edge.specs.declared.message.HttpRequest.{HttpRequest}
 use Rattle.http_edge.specs.declared.message.HttpResponse.{HttpResponse}
 use Rattle.http_edge.specs.declared.error.EdgeError.{EdgeError}
@@ -31,7 +34,7 @@ use Rattle.app_texts.specs.PeerReplies.{reply_reading, GivesReply}
 use Rattle.sidecar_node.specs.declared.node.Seats.{Seats}
 use Rattle.sidecar_node.specs.Entries.{PartEntry}
 use Rattle.sidecar_node.specs.Nodes.{SpentAt}
-use Rattle.sidecar_node.specs.Turns.{Said, Either, asks_again, Polls, ask_of, AfterAsk, Begins, Ends as EndsTurn}
+use Rattle.sidecar_node.specs.Turns.{Said, Either, asks_again, Polls, ask_of, AfterAsk, Begins, MakesOne, Ends as EndsTurn}
 use Rattle.exchanges.specs.Exchanges.{Exchange, total_rise, Comes}
 use Rattle.exchanges.specs.Replies.{Got, place_at, HttpCarries, IsHttpExchange}
 use Rattle.actor_calls.specs.declared.invoke.Invoke.{Invoke}
@@ -40,7 +43,7 @@ use Rattle.actor_calls.specs.declared.next.Next.TheVariants.{Answered, Moves}
 use Rattle.actor_calls.specs.Texts.{call_text, forward_text}
 use Rattle.actor_calls.specs.Outcomes.{refusal_of, next_of, app_answer, ended_answer, turn_answer, hop_refusal, peer_fault, peer_next, ReadsPeer}
 use Rattle.actor_calls.specs.Turns.{IsIdle, Follows, IsAsked}
-use Rattle.actor_calls.specs.Hops.{IsPeerAsked, IsHop, IsRouted, Stops, Ends, HopsOn}
+use Rattle.actor_calls.specs.Hops.{is_fault, TriesOn, AtMostTwice, AtMostThrice, IsPeerAsked, name_of, AfterDraw, IsForwarded, IsHop, IsRouted, Stops, Ends, HopsOn}
 use Rattle.actor_calls.specs.Serving.{GoesOn, IsInvoked}
 use Rattle.actor_calls.specs.Causes.{IsCallEvent, AreCallEntries, HasReply, IsRefusedSo, LinkRead, HasRead, IsReply, IsUnread, IsPassedOn, PassesOn, NamesOwner, IsUnreadPeer, IsMoved, AreTold, HasCause, AnswerHasCause}
 use Rattle.actor_calls.proofs.Routings.{goes}
@@ -74,6 +77,11 @@ ends_entries : (q : Invoke) (call now : ℕ) (es : List PartEntry) (said : Said)
 ends_entries q call now [] said h = tt
 ends_entries q call now (e ∷ []) said h = (subst (λ (m : PartEvent). IsCallEvent q m) (sym h.0) tt, tt)
 ends_entries q call now (e ∷ f ∷ es) said h = absurd h
+
+draws_entries : (q : Invoke) (es : List PartEntry) (said : Said) → MakesOne Draw es said → AreCallEntries q es
+draws_entries q [] said h = tt
+draws_entries q (e ∷ []) said h = (subst (λ (m : PartEvent). IsCallEvent q m) (sym h.0) tt, tt)
+draws_entries q (e ∷ f ∷ es) said h = absurd h
 
 entries_then : (q : Invoke) (es fs : List PartEntry) → AreCallEntries q es → AreCallEntries q fs → AreCallEntries q (es ++ fs)
 entries_then q [] fs a b = b
@@ -116,6 +124,11 @@ ends_reply : (call now : ℕ) (es : List PartEntry) (reply : PartReply) → Ends
 ends_reply call now [] reply h = absurd h
 ends_reply call now (e ∷ []) reply h = inl (reply_in e.reply reply h.1)
 ends_reply call now (e ∷ f ∷ es) reply h = absurd h
+
+one_reply : (event : PartEvent) (es : List PartEntry) (reply : PartReply) → MakesOne event es (Ok reply) → HasReply reply es
+one_reply event [] reply h = absurd h
+one_reply event (e ∷ []) reply h = inl (reply_in e.reply reply h.1)
+one_reply event (e ∷ f ∷ es) reply h = absurd h
 
 refused_so : (reply : PartReply) (es : List PartEntry) → HasReply reply es → IsRefusedSo (refusal_of reply) es
 refused_so reply [] h = absurd h
@@ -186,6 +199,13 @@ exchange_shows text at (x ∷ []) (Err edge.OutOfMemory) h = tt
 exchange_shows text at (x ∷ []) (Err error) h = inl (link_unread text x.link x.rise error tt h.1)
 exchange_shows text at (x ∷ y ∷ xs) got h = absurd h
 
+-- ---- exchanges that are made again after a fault
+
+-- a fault raised the count by so much
+abbrev FaultRises : ℕ → List Exchange → Got → Type 0
+FaultRises n xs (Err edge.ConnFault) = n ≤ total_rise xs
+FaultRises n xs got = Unit {0}
+
 -- other bytes that are read where these are
 link_map : (P Q : List ℕ → Type 0) (link : Option Carried) → ((bytes : List ℕ) → P bytes → Q bytes) → LinkRead P link → LinkRead Q link
 link_map P Q None f h = absurd h
@@ -201,6 +221,13 @@ read_map P Q (x ∷ xs) f (inr h) = inr (read_map P Q xs f h)
 rise_then : (xs ys : List Exchange) → total_rise (xs ++ ys) ≡ total_rise xs + total_rise ys
 rise_then [] ys = omega arith
 rise_then (x ∷ xs) ys = let h = rise_then xs ys in omega arith
+
+-- the same of three
+many_left : (xs ys : List Exchange) → 3 ≤ total_rise xs → 3 ≤ total_rise (xs ++ ys)
+many_left xs ys h = let e = rise_then xs ys in omega arith
+
+many_right : (xs ys : List Exchange) → 3 ≤ total_rise ys → 3 ≤ total_rise (xs ++ ys)
+many_right xs ys h = let e = rise_then xs ys in omega arith
 
 rises_left : (xs ys : List Exchange) → 0 < total_rise xs → 0 < total_rise (xs ++ ys)
 rises_left xs ys h = let e = rise_then xs ys in omega arith
@@ -235,6 +262,70 @@ refused_right : (refusal : ApiRefusal) (es fs : List PartEntry) → IsRefusedSo 
 refused_right refusal [] fs h = h
 refused_right refusal (e ∷ es) fs h = inr (refused_right refusal es fs h)
 
+shows_left : (xs ys : List Exchange) (got : Got) → Shows xs got → Shows (xs ++ ys) got
+shows_left xs ys (Ok reply) s = read_left (IsReply reply) xs ys s
+shows_left xs ys (Err edge.ConnFault) s = rises_left xs ys s
+shows_left xs ys (Err edge.OutOfMemory) s = tt
+shows_left xs ys (Err error) s = read_left IsUnread xs ys s
+
+shows_right : (xs ys : List Exchange) (got : Got) → Shows ys got → Shows (xs ++ ys) got
+shows_right xs ys (Ok reply) s = read_right (IsReply reply) xs ys s
+shows_right xs ys (Err edge.ConnFault) s = rises_right xs ys s
+shows_right xs ys (Err edge.OutOfMemory) s = tt
+shows_right xs ys (Err error) s = read_right IsUnread xs ys s
+
+one_rises : (xs : List Exchange) (got : Got) → Shows xs got → FaultRises 1 xs got
+one_rises xs (Ok reply) s = tt
+one_rises xs (Err edge.ConnFault) s = omega arith
+one_rises xs (Err error) s = tt
+
+-- a fault on top of one fault more
+fault_more : (n : ℕ) (xs ys : List Exchange) (first got : Got) → is_fault first ≡ true → FaultRises 1 xs first → FaultRises n ys got → FaultRises (n + 1) (xs ++ ys) got
+fault_more n xs ys first (Ok reply) e one more = tt
+fault_more n xs ys (Err edge.ConnFault) (Err edge.ConnFault) e one more = let t = rise_then xs ys in omega arith
+fault_more n xs ys (Ok reply) (Err edge.ConnFault) e one more = absurd (let h : ⊥ = cc in h)
+fault_more n xs ys (Err error) (Err edge.ConnFault) e one more = absurd (let h : ⊥ = cc in h)
+fault_more n xs ys first (Err error) e one more = tt
+
+no_fault : (n : ℕ) (xs : List Exchange) (got : Got) → is_fault got ≡ false → FaultRises n xs got
+no_fault n xs (Ok reply) e = tt
+no_fault n xs (Err edge.ConnFault) e = absurd (let h : ⊥ = cc in h)
+no_fault n xs (Err error) e = tt
+
+module _ (One More : List Exchange → Got → Type 0) (one : (xs : List Exchange) (got : Got) → One xs got → Shows xs got) (more : (xs : List Exchange) (got : Got) → More xs got → Shows xs got) where
+  either_shows : (b : Bool) (front back : List Exchange) (first got : Got) → Shows front first → Either b (More back got) ((back ≡ []) × (got ≡ first)) → Shows (front ++ back) got
+  either_shows true front back first got s m = shows_right front back got (more back got m)
+  either_shows false front back first got s m = subst (λ (g : Got). Shows (front ++ back) g) (sym m.1) (shows_left front back first s)
+
+  tries_show : (ys : List Exchange) (got : Got) → TriesOn One More ys got → Shows ys got
+  tries_show ys got t = subst (λ (l : List Exchange). Shows l got) (sym t.exchanges) (either_shows (is_fault t.first) t.front t.back t.first got (one t.front t.first t.one) t.more)
+
+  module _ (n : ℕ) (rises : (xs : List Exchange) (got : Got) → More xs got → FaultRises n xs got) where
+    either_rises : (b : Bool) (front back : List Exchange) (first got : Got) → is_fault first ≡ b → FaultRises 1 front first → Either b (More back got) ((back ≡ []) × (got ≡ first)) → FaultRises (n + 1) (front ++ back) got
+    either_rises true front back first got e r m = fault_more n front back first got e r (rises back got m)
+    either_rises false front back first got e r m = subst (λ (g : Got). FaultRises (n + 1) (front ++ back) g) (sym m.1) (no_fault (n + 1) (front ++ back) first e)
+
+    tries_rise : (ys : List Exchange) (got : Got) → TriesOn One More ys got → FaultRises (n + 1) ys got
+    tries_rise ys got t =
+        subst (λ (l : List Exchange). FaultRises (n + 1) l got) (sym t.exchanges)
+        (either_rises (is_fault t.first) t.front t.back t.first got refl (one_rises t.front t.first (one t.front t.first t.one)) t.more)
+
+module _ (text : List ℕ) (at : Place) where
+  twice_shows : (ys : List Exchange) (got : Got) → AtMostTwice text at ys got → Shows ys got
+  twice_shows ys got t = tries_show (IsHttpExchange text at) (IsHttpExchange text at) (exchange_shows text at) (exchange_shows text at) ys got t
+
+  thrice_shows : (ys : List Exchange) (got : Got) → AtMostThrice text at ys got → Shows ys got
+  thrice_shows ys got t = tries_show (IsHttpExchange text at) (AtMostTwice text at) (exchange_shows text at) twice_shows ys got t
+
+  once_rises : (ys : List Exchange) (got : Got) → IsHttpExchange text at ys got → FaultRises 1 ys got
+  once_rises ys got h = one_rises ys got (exchange_shows text at ys got h)
+
+  twice_rises : (ys : List Exchange) (got : Got) → AtMostTwice text at ys got → FaultRises 2 ys got
+  twice_rises ys got t = tries_rise (IsHttpExchange text at) (IsHttpExchange text at) (exchange_shows text at) (exchange_shows text at) 1 once_rises ys got t
+
+  thrice_rises : (ys : List Exchange) (got : Got) → AtMostThrice text at ys got → FaultRises 3 ys got
+  thrice_rises ys got t = tries_rise (IsHttpExchange text at) (AtMostTwice text at) (exchange_shows text at) twice_shows 2 twice_rises ys got t
+
 module _ (part : ℕ) (after : Seats) where
   abbrev NextHasCause : List PartEntry → List Exchange → List Exchange → Next → Type 0
   NextHasCause es xs ys (Answered answer) = AnswerHasCause part after es xs ys answer
@@ -260,7 +351,7 @@ module _ (es fs : List PartEntry) (ys ws : List Exchange) where
 module _ (part : ℕ) (after : Seats) (es fs : List PartEntry) (xs vs ys ws : List Exchange) where
   cause_left : (refusal : ApiRefusal) → HasCause part after es xs ys refusal → HasCause part after (es ++ fs) (xs ++ vs) (ys ++ ws) refusal
   cause_left refusals.AppFault h = rises_left xs vs h
-  cause_left refusals.PeerFault h = rises_left ys ws h
+  cause_left refusals.PeerFault h = many_left ys ws h
   cause_left refusals.AppReply h = read_left IsUnread xs vs h
   cause_left refusals.PeerReply h = read_left IsUnreadPeer ys ws h
   cause_left refusals.OutOfMemory h = tt
@@ -272,7 +363,7 @@ module _ (part : ℕ) (after : Seats) (es fs : List PartEntry) (xs vs ys ws : Li
 
   cause_right : (refusal : ApiRefusal) → HasCause part after fs vs ws refusal → HasCause part after (es ++ fs) (xs ++ vs) (ys ++ ws) refusal
   cause_right refusals.AppFault h = rises_right xs vs h
-  cause_right refusals.PeerFault h = rises_right ys ws h
+  cause_right refusals.PeerFault h = many_right ys ws h
   cause_right refusals.AppReply h = read_right IsUnread xs vs h
   cause_right refusals.PeerReply h = read_right IsUnreadPeer ys ws h
   cause_right refusals.OutOfMemory h = tt
@@ -295,6 +386,10 @@ module _ (part : ℕ) (after : Seats) (es fs : List PartEntry) (xs vs ys ws : Li
   answer_right (api.Invoked reply) (inr h) = inr (read_right (PassesOn reply) ys ws h)
   answer_right (api.Elsewhere version owner) h = reply_right (replies.Elsewhere version owner) es fs h
   answer_right answer h = absurd h
+
+  next_right : (next : Next) → NextHasCause part after fs vs ws next → NextHasCause part after (es ++ fs) (xs ++ vs) (ys ++ ws) next
+  next_right (Answered answer) h = answer_right answer h
+  next_right (Moves version owner) h = moved_right es fs ys ws version owner h
 
   next_left : (next : Next) → NextHasCause part after es xs ys next → NextHasCause part after (es ++ fs) (xs ++ vs) (ys ++ ws) next
   next_left (Answered answer) h = answer_left answer h
@@ -390,14 +485,14 @@ module _ (part : ℕ) (after : Seats) (ys : List Exchange) where
   reply_next reply peers.Unreadable is s = read_map (IsReply reply) IsUnreadPeer ys (λ bytes h. inr (reply, h, is)) s
   reply_next reply peers.OutOfMemory is s = tt
 
-  fault_next : (error : EdgeError) → Shows ys (Err error) → AnswerHasCause part after [] [] ys (peer_fault error)
-  fault_next edge.ConnFault s = s
-  fault_next edge.OutOfMemory s = tt
-  fault_next error s = read_map IsUnread IsUnreadPeer ys (λ bytes h. inl h) s
+  fault_next : (error : EdgeError) → FaultRises 3 ys (Err error) → Shows ys (Err error) → AnswerHasCause part after [] [] ys (peer_fault error)
+  fault_next edge.ConnFault many s = many
+  fault_next edge.OutOfMemory many s = tt
+  fault_next error many s = read_map IsUnread IsUnreadPeer ys (λ bytes h. inl h) s
 
-  reads_next : (got : Got) (next : Next) → ReadsPeer got next → Shows ys got → NextHasCause part after [] [] ys next
-  reads_next (Ok reply) next r s = subst (λ (m : Next). NextHasCause part after [] [] ys m) (sym r.2) (reply_next reply r.0 r.1 s)
-  reads_next (Err error) next r s = subst (λ (m : Next). NextHasCause part after [] [] ys m) (sym r) (fault_next error s)
+  reads_next : (got : Got) (next : Next) → ReadsPeer got next → FaultRises 3 ys got → Shows ys got → NextHasCause part after [] [] ys next
+  reads_next (Ok reply) next r many s = subst (λ (m : Next). NextHasCause part after [] [] ys m) (sym r.2) (reply_next reply r.0 r.1 s)
+  reads_next (Err error) next r many s = subst (λ (m : Next). NextHasCause part after [] [] ys m) (sym r) (fault_next error many s)
 
 -- ---- the relation
 
@@ -429,18 +524,30 @@ module _ (part : ℕ) (after : Seats) (app : Address) (q : Invoke) (request : Ht
       (follows_caused a.said a.middle last a.front a.back xs next a.full (began q least a.middle a.front a.said a.begins) a.follows)
 
 module _ (part : ℕ) (after : Seats) (me : Member) (app : Address) (q : Invoke) (request : HttpRequest) where
-  peer_caused : (least : ℕ) (owner : HostInfo) (ys : List Exchange) (next : Next) → IsPeerAsked request least owner ys next → NextHasCause part after [] [] ys next
-  peer_caused least owner ys next p = reads_next part after ys p.got next p.reads (exchange_shows (forward_text owner.address request least) (place_at owner.address) ys p.got p.exchange)
+  peer_caused : (least : ℕ) (owner : HostInfo) (call : CallName) (ys : List Exchange) (next : Next) → IsPeerAsked request least owner call ys next → NextHasCause part after [] [] ys next
+  peer_caused least owner call ys next p =
+      let text = forward_text owner.address request least call in
+      reads_next part after ys p.got next p.reads (thrice_rises text (place_at owner.address) ys p.got p.exchange) (thrice_shows text (place_at owner.address) ys p.got p.exchange)
+
+  -- a Draw, and what followed
+  drawn_caused : (least : ℕ) (owner : HostInfo) (said : Said) (es : List PartEntry) (ys : List Exchange) (next : Next) → SpentAt part said after → MakesOne Draw es said → AfterDraw part me request least owner said ys next → NextHasCause part after es [] ys next
+  drawn_caused least owner (Ok (replies.Drawn number)) es ys next full d f =
+      subst (λ (l : List PartEntry). NextHasCause part after l [] ys next) (append-nil es) (next_right part after es [] [] [] [] ys next (peer_caused least owner (name_of me part number) ys next f))
+  drawn_caused least owner (Ok reply) es ys next full d f =
+      subst (λ (m : Next). NextHasCause part after es [] ys m) (sym f.1) (row_caused part after es [] ys reply (one_reply Draw es reply d))
+  drawn_caused least owner (Err spent) es ys next full d f = subst (λ (m : Next). NextHasCause part after es [] ys m) (sym f.1) (inl full.1)
+
+  forward_caused : (least : ℕ) (owner : HostInfo) (es : List PartEntry) (ys : List Exchange) (next : Next) → IsForwarded part after me request least owner es ys next → NextHasCause part after es [] ys next
+  forward_caused least owner es ys next f = drawn_caused least owner f.said es ys next f.full f.draws f.follows
 
   hop_caused : (least : ℕ) (owner : HostInfo) (first last : ℕ) (es : List PartEntry) (xs ys : List Exchange) (next : Next) → IsHop part after me app q request least owner first last es xs ys next → NextHasCause part after es xs ys next
   hop_caused least owner first last es xs ys next (inl h) = subst (λ (l : List Exchange). NextHasCause part after es xs l next) (sym h.1) (asked_caused part after app q request (Some least) first last es xs next h.2)
   hop_caused least owner first last es xs ys next (inr h) =
-      subst (λ (l : List PartEntry). NextHasCause part after l xs ys next) (sym h.1.entries)
-      (subst (λ (l : List Exchange). NextHasCause part after [] l ys next) (sym h.1.exchanges) (peer_caused least owner ys next h.2))
+      subst (λ (l : List Exchange). NextHasCause part after es l ys next) (sym h.2) (forward_caused least owner es ys next h.3)
 
   hop_entries : (least : ℕ) (owner : HostInfo) (first last : ℕ) (es : List PartEntry) (xs ys : List Exchange) (next : Next) → IsHop part after me app q request least owner first last es xs ys next → AreCallEntries q es
   hop_entries least owner first last es xs ys next (inl h) = asked_entries part after app q request (Some least) first last es xs next h.2
-  hop_entries least owner first last es xs ys next (inr h) = idle_entries q first last es xs h.1
+  hop_entries least owner first last es xs ys next (inr h) = draws_entries q es h.3.said h.3.draws
 
   -- what was done before the route went on counts too: each version was told then
   route_caused : {hops : List ℕ} {version : ℕ} {owner : HostInfo} {first last : ℕ} {es : List PartEntry} {xs ys : List Exchange} {answer : ApiReply}

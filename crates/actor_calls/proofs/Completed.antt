@@ -5,7 +5,7 @@ use Rattle.actor_names.specs.declared.member.Member.{Member}
 use Rattle.actor_names.specs.declared.address.Address.{Address}
 use Rattle.actor_ports.specs.Traffic.{Place}
 use Rattle.place_table.specs.declared.host.HostInfo.{HostInfo}
-use Rattle.part_model.specs.declared.event.PartEvent.TheVariants.{End}
+use Rattle.part_model.specs.declared.event.PartEvent.TheVariants.{End, Draw}
 use Rattle.part_model.specs.Receipts.{PartReply}
 use Rattle.part_model.specs.declared.event.Reply.TheVariants as replies
 use Rattle.http_edge.specs.Carry.{Carried}
@@ -19,7 +19,7 @@ use Rattle.actors_api.specs.declared.side.Side.TheVariants.{Caller, Peer}
 use Rattle.actors_api.specs.declared.reply.ApiReply.{ApiReply}
 use Rattle.sidecar_node.specs.declared.node.Seats.{Seats}
 use Rattle.sidecar_node.specs.Entries.{PartEntry}
-use Rattle.sidecar_node.specs.Turns.{Said, Either, asks_again, Polls, ask_of, AfterAsk, Begins, Ends as EndsTurn}
+use Rattle.sidecar_node.specs.Turns.{Said, Either, asks_again, Polls, ask_of, AfterAsk, Begins, MakesOne, Ends as EndsTurn}
 use Rattle.exchanges.specs.Exchanges.{Exchange, total_rise, Comes}
 use Rattle.exchanges.specs.Replies.{Got, place_at, HttpCarries, IsHttpExchange}
 use Rattle.actor_calls.specs.declared.invoke.Invoke.{Invoke}
@@ -56,6 +56,12 @@ begins_unended : (q : Invoke) (least : Option ℕ) (now : ℕ) (es : List PartEn
 begins_unended q least now [] said b h = h
 begins_unended q least now (e ∷ es) said b (inl h) = asks_no_end q least now h.0 h.1 (sym b.0 ∙ h.3)
 begins_unended q least now (e ∷ es) said b (inr h) = after_unended e.reply es said b.1 h
+
+draws_unended : (es : List PartEntry) (said : Said) → MakesOne Draw es said → HasEnded es → ⊥
+draws_unended [] said d h = h
+draws_unended (e ∷ []) said d (inl h) = let is = d.0 in let end = h.3 in cc
+draws_unended (e ∷ []) said d (inr h) = h
+draws_unended (e ∷ f ∷ es) said d h = d
 
 ends_so : (call now : ℕ) (es : List PartEntry) (said : Said) → EndsTurn call now es said → HasEnded es → (next : Option ℕ) × (said ≡ Ok (replies.Ended next))
 ends_so call now [] said e h = absurd h
@@ -149,12 +155,12 @@ module _ (reply : HttpResponse) where
     hop_completes : (least : ℕ) (to : HostInfo) (first last : ℕ) (es : List PartEntry) (xs ys : List Exchange) (answer : ApiReply)
         → IsHop part after me app q request least to first last es xs ys (Answered answer) → HasRead (Replied reply) xs → total_rise xs ≡ 0 → HasEnded es → IsItsAnswer reply answer
     hop_completes least to first last es xs ys answer (inl k) r calm h = its_answer answer (Answered answer) refl (asked_completes part after app q request (Some least) first last es xs (Answered answer) k.2 r calm h)
-    hop_completes least to first last es xs ys answer (inr k) r calm h = absurd (unread (Replied reply) xs k.1.exchanges r)
+    hop_completes least to first last es xs ys answer (inr k) r calm h = absurd (unread (Replied reply) xs k.2 r)
 
     hop_moves : (least : ℕ) (to : HostInfo) (first last : ℕ) (es : List PartEntry) (xs ys : List Exchange) (version : ℕ) (owner : HostInfo)
         → IsHop part after me app q request least to first last es xs ys (Moves version owner) → (xs ≡ []) × (HasEnded es → ⊥)
     hop_moves least to first last es xs ys version owner (inl k) = asked_moves part after app q request (Some least) first last es xs version owner k.2
-    hop_moves least to first last es xs ys version owner (inr k) = (k.1.exchanges, λ h. subst HasEnded k.1.entries h)
+    hop_moves least to first last es xs ys version owner (inr k) = (k.2, λ h. draws_unended es k.3.said k.3.draws h)
 
     route_completes : {hops : List ℕ} {version : ℕ} {owner : HostInfo} {first last : ℕ} {es : List PartEntry} {xs ys : List Exchange} {answer : ApiReply}
         → IsRouted part after me app q request hops version owner first last es xs ys answer → HasRead (Replied reply) xs → total_rise xs ≡ 0 → HasEnded es → IsItsAnswer reply answer

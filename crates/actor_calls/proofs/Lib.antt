@@ -6,3 +6,5 @@ mod PeerReads
 mod Causes
 mod Completed
 pub mod Acting
+pub mod Tries
+pub mod Forwards

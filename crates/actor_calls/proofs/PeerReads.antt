@@ -16,7 +16,8 @@ use Rattle.app_texts.specs.declared.peer_reply.PeerReply.TheVariants as peers
 use Rattle.app_texts.specs.PeerReplies.{owner_reading, elsewhere_as, reply_reading}
 use Rattle.std.specs.Prelude.{codes}
 use Rattle.actor_calls.specs.PeerReads.{word_for, told_owner, told_to_peer, CanBeTold}
-use Rattle.actor_calls.proofs.OwnerTexts.{ReadsMembers, ReadsAddresses, owner_read}
+use Rattle.call_names.proofs.CallTexts.{ReadsMembers}
+use Rattle.actor_calls.proofs.OwnerTexts.{ReadsAddresses, owner_read}
 
 -- the application's reply has no field but its Content-Type
 passed_read : (status : ℕ) (kind : Option (List ℕ)) (body : List ℕ) → reply_reading (response status (field_of (codes "Content-Type") kind) body) ≡ peers.Application
@@ -61,6 +62,12 @@ refusal_read refusals.AppReply = refl
 refusal_read refusals.PeerReply = refl
 refusal_read refusals.StoreReply = refl
 refusal_read (refusals.StoreRefused code) = refl
+refusal_read refusals.CallRunning = refl
+refusal_read (refusals.AnswerGone status) = refl
+refusal_read (refusals.CallOld floor) = refl
+refusal_read (refusals.CallBoot boot) = refl
+refusal_read refusals.CallLanes = refl
+refusal_read refusals.BookFull = refl
 refusal_read refusals.Spent = refl
 
 pub told_read : ReadsMembers → ReadsAddresses → (reply : ApiReply) → CanBeTold reply → reply_reading (response_of Peer reply) ≡ told_to_peer reply
@@ -75,4 +82,6 @@ told_read members addresses replies.ReminderDeleted t = refl
 told_read members addresses replies.TimerSet t = refl
 told_read members addresses replies.TimerDeleted t = refl
 told_read members addresses (replies.Elsewhere version owner) t = elsewhere_read (owner_text version owner) ∙ ap elsewhere_as (owner_read version owner members addresses t)
+told_read members addresses (replies.Made response) t = refl
+told_read members addresses replies.Unanswered t = refl
 told_read members addresses (replies.Refused refusal) t = refusal_read refusal

@@ -8,6 +8,7 @@ use Rattle.actor_names.specs.declared.address.Address.{Address}
 use Rattle.place_table.specs.declared.host.HostInfo.{HostInfo}
 use Rattle.part_model.specs.Receipts.{PartReply}
 use Rattle.part_model.specs.declared.event.Reply.TheVariants as replies
+use Rattle.call_names.specs.declared.name.CallName.{CallName}
 use Rattle.http_edge.specs.declared.message.HttpRequest.{HttpRequest}
 use Rattle.actors_api.specs.declared.reply.ApiReply.{ApiReply}
 use Rattle.actors_api.specs.declared.side.Side.{Side}
@@ -18,8 +19,9 @@ use Rattle.sidecar_node.specs.declared.node.SidecarNode.{SidecarNode}
 use Rattle.sidecar_node.specs.declared.node.Seats.{Seats}
 use Rattle.actors_api.specs.declared.refusal.ApiRefusal.{ApiRefusal}
 use Rattle.actors_api.specs.Commands.{command_of, ReadsCommand}
+use Rattle.part_model.specs.declared.event.PartEvent.TheVariants.{Draw}
 use Rattle.sidecar_node.specs.Nodes.{host_of, SpentAt}
-use Rattle.sidecar_node.specs.Entries.{PartEntry, NodeEntry}
+use Rattle.sidecar_node.specs.Entries.{PartEntry, NodeEntry, one_entry}
 use Rattle.sidecar_node.specs.Turns.{Said, Begins}
 use Rattle.exchanges.specs.Exchanges.{Exchange}
 use Rattle.actor_calls.specs.declared.invoke.Invoke.{Invoke}
@@ -29,9 +31,10 @@ use Rattle.actor_calls.specs.declared.served.Served.{Served}
 use Rattle.actor_calls.specs.declared.served.Served.TheVariants as served
 use Rattle.http_edge.specs.declared.error.EdgeError.{EdgeError}
 use Rattle.http_edge.specs.declared.error.EdgeError.TheVariants as edge
-use Rattle.actor_calls.specs.Outcomes.{refused, next_of, ended_answer, turn_answer}
+use Rattle.actor_calls.specs.Outcomes.{refused, refusal_of, next_of, ended_answer, turn_answer}
 use Rattle.actor_calls.specs.Turns.{IsIdle, Follows, IsAsked}
-use Rattle.actor_calls.specs.Hops.{IsHop}
+use Rattle.actor_calls.specs.Hops.{AfterDraw, IsForwarded, IsHop}
+use Rattle.actor_calls.proofs.Tries.{makes_one}
 use Rattle.actor_calls.specs.Serving.{GoesOn, IsInvoked, IsDone, FollowsRead, IsServed}
 
 pub idle : (now : ℕ) → IsIdle now now [] []
@@ -84,10 +87,36 @@ module _ (part : ℕ) (before after : Seats) (app : Address) (q : Invoke) (reque
       let f = moves_follows a.said a.middle last a.back xs a.follows in
       record { middle = a.middle; front = a.front; back = a.back; said = a.said; entries = a.entries; later = a.later; begins = a.begins; full = f.0; follows = f.1 }
 
+  forward_moves : (me : Member) (least : ℕ) (to : HostInfo) (es : List PartEntry) (ys : List Exchange) → IsForwarded part before me request least to es ys (Moves version owner) → IsForwarded part after me request least to es ys (Moves version owner)
+  forward_moves me least to es ys f =
+      record { said = f.said; draws = f.draws; full = drawn_full me least to f.said ys f.follows; follows = f.follows }
+    where
+      drawn_full : (me : Member) (least : ℕ) (to : HostInfo) (said : Said) (ys : List Exchange) → AfterDraw part me request least to said ys (Moves version owner) → SpentAt part said after
+      drawn_full me least to (Ok reply) ys f = tt
+      drawn_full me least to (Err spent) ys f = let e = f.1 in absurd (let h : ⊥ = cc in h)
+
   pub hop_moves : (me : Member) (least : ℕ) (to : HostInfo) (first last : ℕ) (es : List PartEntry) (xs ys : List Exchange)
       → IsHop part before me app q request least to first last es xs ys (Moves version owner) → IsHop part after me app q request least to first last es xs ys (Moves version owner)
   hop_moves me least to first last es xs ys (inl h) = inl (h.0, h.1, asked_moves (Some least) first last es xs h.2)
-  hop_moves me least to first last es xs ys (inr h) = inr h
+  hop_moves me least to first last es xs ys (inr h) = inr (h.0, h.1, h.2, forward_moves me least to es ys h.3)
+
+-- a Draw that was refused
+pub draw_refused : (part : ℕ) (me : Member) (request : HttpRequest) (least : ℕ) (owner : HostInfo) (reply : PartReply) (next : Next)
+    → next ≡ Answered (refused (refusal_of reply)) → ((n : ℕ) → reply ≢ replies.Drawn n) → AfterDraw part me request least owner (Ok reply) [] next
+draw_refused part me request least owner (replies.Drawn n) next e h = absurd (h n refl)
+draw_refused part me request least owner reply next e h = (refl, e)
+
+-- a Draw on the part, which goes by two names, and what followed
+pub forward_at :
+    (place part : ℕ) → place ≡ part → (after : Seats) (me : Member) (request : HttpRequest) (least : ℕ) (owner : HostInfo) (said : Said) (ys : List Exchange) (next : Next)
+    → SpentAt place said after → AfterDraw place me request least owner said ys next → IsForwarded part after me request least owner (one_entry Draw said) ys next
+forward_at place part e after me request least owner said ys next s f =
+    record {
+      said = said;
+      draws = makes_one Draw said;
+      full = subst (λ (p : ℕ). SpentAt p said after) e s;
+      follows = subst (λ (p : ℕ). AfterDraw p me request least owner said ys next) e f;
+    }
 
 module _ (part : ℕ) (after : Seats) (host : Member) (app : Address) (q : Invoke) (request : HttpRequest) (side : Side) where
   -- the first Ask answered the call
@@ -134,9 +163,9 @@ module _ (node : SidecarNode) (after : Seats) (app : Address) (side : Side) (req
 
   -- any other command than a call is handed back
   pub follows_command : (command : ApiCommand) (now : ℕ)
-      → ((actor : ActorKey) (method : List ℕ) (chain : Option (List ℕ)) (least : Option ℕ) → command ≢ commands.Invoke actor method chain least)
+      → ((actor : ActorKey) (method : List ℕ) (chain : Option (List ℕ)) (least : Option ℕ) (call : Option CallName) → command ≢ commands.Invoke actor method chain least call)
       → FollowsRead node after app side request (Ok command) now now [] [] [] (served.Other command)
-  follows_command (commands.Invoke actor method chain least) now h = absurd (h actor method chain least refl)
+  follows_command (commands.Invoke actor method chain least call) now h = absurd (h actor method chain least call refl)
   follows_command command now h = done now (served.Other command)
 
   -- a request was read, and what followed

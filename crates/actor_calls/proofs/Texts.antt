@@ -11,6 +11,6 @@ pub call_text_of : (app : Address) (c : MethodCall) → invoke_text app c ≡ ca
 unfolding invoke_text call_text
 call_text_of app c = refl
 
-pub forward_text_of : (at : Address) (c : PeerCall) → peer_text at c ≡ forward_text at c.request.now c.least
+pub forward_text_of : (at : Address) (c : PeerCall) → peer_text at c ≡ forward_text at c.request.now c.least c.name.now
 unfolding peer_text forward_text
 forward_text_of at c = refl

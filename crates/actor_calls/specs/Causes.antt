@@ -2,7 +2,7 @@
 use Rattle.std.specs.Prelude.{◌≡◌, ◌⊎◌, ◌<◌, ◌≤◌, ℕ, List, [], ◌∷◌, length, Option, Some, None}
 use Rattle.place_table.specs.declared.host.HostInfo.{HostInfo}
 use Rattle.part_model.specs.declared.event.PartEvent.{PartEvent}
-use Rattle.part_model.specs.declared.event.PartEvent.TheVariants.{Ask, AskAt, Poll, End}
+use Rattle.part_model.specs.declared.event.PartEvent.TheVariants.{Ask, AskAt, Poll, End, Draw}
 use Rattle.part_model.specs.Receipts.{PartReply}
 use Rattle.part_model.specs.declared.event.Reply.TheVariants as replies
 use Rattle.member_core.specs.Routes.{IsRising}
@@ -28,12 +28,14 @@ use Rattle.actor_calls.specs.Outcomes.{refusal_of}
 
 -- ---- entries
 
--- a call is asked for, under the chain that its request told, and polled, and its turn is ended
+-- A call is asked for, under the chain that its request told, and polled, and its turn is ended. A number is drawn where
+-- it is handed on.
 abbrev pub IsCallEvent : Invoke → PartEvent → Type 0
 IsCallEvent q (Ask key chain now) = (key ≡ q.actor) × (chain ≡ q.chain)
 IsCallEvent q (AskAt key chain least now) = (key ≡ q.actor) × (chain ≡ q.chain)
 IsCallEvent q (Poll call) = Unit {0}
 IsCallEvent q (End call now) = Unit {0}
+IsCallEvent q Draw = Unit {0}
 IsCallEvent q event = ⊥
 
 abbrev pub AreCallEntries : Invoke → List PartEntry → Type 0
@@ -109,13 +111,13 @@ AreTold es ys (v ∷ vs) = ((owner : HostInfo) × IsMoved es ys v owner) × AreT
 -- In what follows `es` are the entries, `xs` and `ys` the exchanges with the application and with other sidecars, `part` is
 -- the number of the actor's part, and `after` are the seats that the call left.
 module _ (part : ℕ) (after : Seats) where
-  -- The cause of a refusal. A fault raised the count of the application's dialler or of that of other sidecars. Bytes
+  -- The cause of a refusal. A fault raised the count of the application's dialler; three raised that of other sidecars. Bytes
   -- without a reading were read of a link. Spent is the reply of the part, or its gate has taken all the entries that it
   -- can. A hop was refused by its version, which wasn't above that of the last one, or as the eighth; each version was told
   -- in this call. What isn't named here goes back to a part's reply in this call.
   abbrev pub HasCause : List PartEntry → List Exchange → List Exchange → ApiRefusal → Type 0
   HasCause es xs ys refusals.AppFault = 0 < total_rise xs
-  HasCause es xs ys refusals.PeerFault = 0 < total_rise ys
+  HasCause es xs ys refusals.PeerFault = 3 ≤ total_rise ys
   HasCause es xs ys refusals.AppReply = HasRead IsUnread xs
   HasCause es xs ys refusals.PeerReply = HasRead IsUnreadPeer ys
   HasCause es xs ys refusals.OutOfMemory = Unit {0}

@@ -3,13 +3,14 @@ use Rattle.std.specs.Prelude.{◌≡◌, ◌≤◌, ◌<◌, ◌^◌, ℕ, None,
 use Rattle.actor_names.specs.Names.{space_fault, node_fault, app_id_fault}
 use Rattle.place_table.specs.declared.host.HostInfo.{HostInfo}
 use Rattle.actors_api.specs.declared.reply.ApiReply.{ApiReply}
-use Rattle.actors_api.specs.declared.reply.ApiReply.TheVariants.{Elsewhere, Refused}
+use Rattle.actors_api.specs.declared.reply.ApiReply.TheVariants.{Elsewhere, Made, Refused}
 use Rattle.actors_api.specs.declared.refusal.ApiRefusal.{ApiRefusal}
 use Rattle.actors_api.specs.declared.refusal.ApiRefusal.TheVariants as refusals
 use Rattle.app_texts.specs.declared.word.RefusalWord.{RefusalWord}
 use Rattle.app_texts.specs.declared.word.RefusalWord.TheVariants as words
 use Rattle.app_texts.specs.declared.peer_reply.PeerReply.{PeerReply}
 use Rattle.app_texts.specs.declared.peer_reply.PeerReply.TheVariants as peers
+use Rattle.app_texts.specs.PeerReplies.{reply_reading}
 
 -- the word of each refusal
 abbrev pub word_for : ApiRefusal → RefusalWord
@@ -44,16 +45,23 @@ word_for refusals.AppReply = words.AppReply
 word_for refusals.PeerReply = words.PeerReply
 word_for refusals.StoreReply = words.StoreReply
 word_for (refusals.StoreRefused code) = words.StoreRefused
+word_for refusals.CallRunning = words.CallRunning
+word_for (refusals.AnswerGone status) = words.AnswerGone
+word_for (refusals.CallOld floor) = words.CallOld
+word_for (refusals.CallBoot boot) = words.CallBoot
+word_for refusals.CallLanes = words.CallLanes
+word_for refusals.BookFull = words.BookFull
 word_for refusals.Spent = words.Spent
 
 -- an owner as another sidecar knows it, which isn't told its types
 abbrev pub told_owner : HostInfo → HostInfo
 told_owner owner = record { member = owner.member; app = owner.app; address = owner.address; kinds = [] }
 
--- what a reply says to the sidecar that handed the call on
+-- what a reply says to the sidecar that handed the call on; a response that was made before is read as it was then
 abbrev pub told_to_peer : ApiReply → PeerReply
 told_to_peer (Elsewhere version owner) = peers.Elsewhere version (told_owner owner)
 told_to_peer (Refused refusal) = peers.Refusal (word_for refusal)
+told_to_peer (Made response) = reply_reading response
 told_to_peer reply = peers.Application
 
 -- A version of a table, and an owner, with the names and numbers that such values have: the law below ranges over all

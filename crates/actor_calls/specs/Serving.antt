@@ -1,21 +1,27 @@
 -- A served call: the request, its entries on the part of its actor, its exchanges with the application and with other
 -- sidecars, and its answer. Own.
-use Rattle.std.specs.Prelude.{◌≡◌, ◌⊎◌, ◌≤◌, ℕ, List, [], ◌++◌, Result, Ok, Err}
+use Rattle.std.specs.Prelude.{◌≡◌, ◌⊎◌, ◌≤◌, ℕ, List, [], ◌++◌, Option, Some, None, Result, Ok, Err}
 use Rattle.actor_names.specs.declared.member.Member.{Member}
 use Rattle.actor_names.specs.declared.address.Address.{Address}
+use Rattle.step_gate.specs.declared.gate.Spent.{Spent}
+use Rattle.call_names.specs.declared.name.CallName.{CallName}
+use Rattle.call_book.specs.declared.event.BookReply.{BookReply}
+use Rattle.call_book.specs.declared.event.BookReply.TheVariants as book
 use Rattle.http_edge.specs.declared.message.HttpRequest.{HttpRequest}
 use Rattle.actors_api.specs.declared.reply.ApiReply.{ApiReply}
 use Rattle.actors_api.specs.declared.side.Side.{Side}
 use Rattle.actors_api.specs.declared.side.Side.TheVariants.{Caller, Peer}
 use Rattle.actors_api.specs.declared.reply.ApiReply.TheVariants as replies
 use Rattle.actors_api.specs.declared.refusal.ApiRefusal.{ApiRefusal}
+use Rattle.actors_api.specs.declared.refusal.ApiRefusal.TheVariants as refusals
+use Rattle.actors_api.specs.Responses.{response_of}
 use Rattle.actors_api.specs.declared.command.ApiCommand.{ApiCommand}
 use Rattle.actors_api.specs.declared.command.ApiCommand.TheVariants as commands
 use Rattle.actors_api.specs.Commands.{command_of, ReadsCommand}
 use Rattle.sidecar_node.specs.declared.node.SidecarNode.{SidecarNode}
 use Rattle.sidecar_node.specs.declared.node.Seats.{Seats}
-use Rattle.sidecar_node.specs.Entries.{PartEntry, NodeEntry, at_part}
-use Rattle.sidecar_node.specs.Nodes.{host_of, part_at}
+use Rattle.sidecar_node.specs.Entries.{PartEntry, NodeEntry, at_part, at_calls, one_entry}
+use Rattle.sidecar_node.specs.Nodes.{host_of, part_at, ActsAtCalls, SpentAtCalls}
 use Rattle.exchanges.specs.Exchanges.{Exchange}
 use Rattle.actor_calls.specs.declared.invoke.Invoke.{Invoke}
 use Rattle.actor_calls.specs.declared.next.Next.{Next}
@@ -24,6 +30,8 @@ use Rattle.actor_calls.specs.declared.served.Served.{Served}
 use Rattle.actor_calls.specs.declared.served.Served.TheVariants as served
 use Rattle.actor_calls.specs.Turns.{IsIdle, IsAsked}
 use Rattle.actor_calls.specs.Hops.{IsRouted}
+use Rattle.actor_calls.specs.Outcomes.{refused}
+use Rattle.actor_calls.specs.Forwards.{begin_of, finish_of, known_answer, GoesOut, finish_answer}
 
 -- In what follows `after` are the seats that the call left, and `part` is the number of the actor's part.
 module _ (part : ℕ) (after : Seats) (me : Member) (app : Address) (q : Invoke) (request : HttpRequest) where
@@ -48,6 +56,13 @@ module _ (part : ℕ) (after : Seats) (me : Member) (app : Address) (q : Invoke)
 
 -- ---- requests that are read first; `ns` are the entries on all gates of the node
 
+-- no entry and no exchange was made, and the clock wasn't read
+pub record IsNothing (first last : ℕ) (ns : List NodeEntry) (xs ys : List Exchange) : Type 0 where
+  pub now : last ≡ first
+  pub entries : ns ≡ []
+  pub app : xs ≡ []
+  pub peers : ys ≡ []
+
 -- nothing was done
 pub record IsDone (first last : ℕ) (ns : List NodeEntry) (xs ys : List Exchange) (what outcome : Served) : Type 0 where
   pub now : last ≡ first
@@ -57,18 +72,56 @@ pub record IsDone (first last : ℕ) (ns : List NodeEntry) (xs ys : List Exchang
   pub is : outcome ≡ what
 
 module _ (node : SidecarNode) (after : Seats) (app : Address) (side : Side) (request : HttpRequest) where
-  -- a call was served, with entries on the part of its actor alone
-  pub record IsCallServed (q : Invoke) (first last : ℕ) (ns : List NodeEntry) (xs ys : List Exchange) (outcome : Served) : Type 0 where
+  -- a caller's call was served, with entries on the part of its actor alone
+  pub record IsOwnServed (q : Invoke) (first last : ℕ) (ns : List NodeEntry) (xs ys : List Exchange) (answer : ApiReply) : Type 0 where
     pub es : List PartEntry
-    pub answer : ApiReply
     pub entries : ns ≡ at_part (part_at node q.actor) es
     pub invoked : IsInvoked (part_at node q.actor) after (host_of node).member app q request side first last es xs ys answer
+
+  -- A forwarded call that is new: it is served, after which the seats are `middle`; and then the book of forwarded calls
+  -- has one Finish, with the response that goes out.
+  pub record IsNewServed (call : CallName) (q : Invoke) (first last : ℕ) (ns : List NodeEntry) (xs ys : List Exchange) (answer : ApiReply) : Type 0 where
+    pub es : List PartEntry
+    pub reply : ApiReply
+    pub sent : ApiReply
+    pub said : Result BookReply Spent
+    pub middle : Seats
+    pub entries : ns ≡ at_part (part_at node q.actor) es ++ at_calls (one_entry (finish_of call (response_of side sent)) said)
+    pub invoked : IsInvoked (part_at node q.actor) middle (host_of node).member app q request side first last es xs ys reply
+    pub goes_out : GoesOut side reply sent
+    pub kept : ActsAtCalls (one_entry (finish_of call (response_of side sent)) said) middle after
+    pub full : SpentAtCalls said after
+    pub answered : answer ≡ finish_answer said sent
+
+  -- what follows the reply to the Begin: only a call that is new is served
+  abbrev pub AfterBegin : CallName → Invoke → Result BookReply Spent → ℕ → ℕ → List NodeEntry → List Exchange → List Exchange → ApiReply → Type 0
+  AfterBegin call q (Ok book.New) first last ns xs ys answer = IsNewServed call q first last ns xs ys answer
+  AfterBegin call q (Ok reply) first last ns xs ys answer = IsNothing first last ns xs ys × (answer ≡ known_answer reply)
+  AfterBegin call q (Err spent) first last ns xs ys answer = IsNothing first last ns xs ys × (answer ≡ refused refusals.Spent)
+
+  -- a forwarded call: one Begin on the book of forwarded calls, and what follows
+  pub record IsForwardServed (call : CallName) (q : Invoke) (first last : ℕ) (ns : List NodeEntry) (xs ys : List Exchange) (answer : ApiReply) : Type 0 where
+    pub said : Result BookReply Spent
+    pub back : List NodeEntry
+    pub entries : ns ≡ at_calls (one_entry (begin_of call) said) ++ back
+    pub full : SpentAtCalls said after
+    pub follows : AfterBegin call q said first last back xs ys answer
+
+  -- a call was served; one that a peer forwards has a name
+  abbrev pub IsCallAnswered : Option CallName → Invoke → ℕ → ℕ → List NodeEntry → List Exchange → List Exchange → ApiReply → Type 0
+  IsCallAnswered None q first last ns xs ys answer = IsOwnServed q first last ns xs ys answer
+  IsCallAnswered (Some call) q first last ns xs ys answer = IsForwardServed call q first last ns xs ys answer
+
+  -- the same as what became of a request
+  pub record IsCallServed (call : Option CallName) (q : Invoke) (first last : ℕ) (ns : List NodeEntry) (xs ys : List Exchange) (outcome : Served) : Type 0 where
+    pub answer : ApiReply
+    pub answered : IsCallAnswered call q first last ns xs ys answer
     pub is : outcome ≡ served.Answered answer
 
   -- what follows the reading of a request: a refusal is its answer, and any other command than a call is handed back
   abbrev pub FollowsRead : Result ApiCommand ApiRefusal → ℕ → ℕ → List NodeEntry → List Exchange → List Exchange → Served → Type 0
-  FollowsRead (Ok (commands.Invoke actor method chain least)) first last ns xs ys outcome =
-      IsCallServed (record { actor = actor; method = method; chain = chain; least = least }) first last ns xs ys outcome
+  FollowsRead (Ok (commands.Invoke actor method chain least call)) first last ns xs ys outcome =
+      IsCallServed call (record { actor = actor; method = method; chain = chain; least = least }) first last ns xs ys outcome
   FollowsRead (Ok command) first last ns xs ys outcome = IsDone first last ns xs ys (served.Other command) outcome
   FollowsRead (Err refusal) first last ns xs ys outcome = IsDone first last ns xs ys (served.Answered (replies.Refused refusal)) outcome
 

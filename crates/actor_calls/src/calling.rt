@@ -4,7 +4,8 @@ ghost use Rattle.std.specs.Option.{option_copied};
 ghost use Rattle.exchanges.specs.Exchanges.{Exchange, Dialling};
 ghost use Rattle.exchanges.specs.Replies.{IsHttpExchange, place_at};
 ghost use Rattle.actor_calls.specs.Texts.{call_text, forward_text};
-ghost use Rattle.actor_calls.specs.Hops.{IsPeerAsked};
+ghost use Rattle.http_edge.specs.Texts.{request_text};
+ghost use Rattle.actor_calls.specs.Hops.{is_fault, AtMostTwice, AtMostThrice, IsPeerAsked};
 
 use crate::invoke::Invoke;
 use crate::next::Next;
@@ -12,6 +13,7 @@ use crate::peers::peer_next;
 use actor_names::{Address, ChainId};
 use actor_ports::Dial;
 use app_texts::{MethodCall, PeerCall, invoke_request, peer_request};
+use call_names::CallName;
 use exchanges::{Links, exchange_at};
 use http_edge::{EdgeError, HttpRequest, HttpResponse};
 use place_table::HostInfo;
@@ -58,7 +60,50 @@ pub(crate) fn call_app<L: Dial>(
     call_method(alloc, &mut links.app, &at, &call)
 }
 
-// One exchange with the sidecar at this address.
+// Whether an exchange failed with its link, so that it isn't known whether the other side acted.
+fn is_fault(got: &Result<HttpResponse, EdgeError>) -> bool
+    ensures { result ≡ is_fault got.now }
+{
+    matches!(got, Err(EdgeError::ConnFault))
+}
+
+// One exchange with the sidecar at this address, and after a fault of its link one more.
+fn ask_twice<L: Dial>(
+    alloc: Global,
+    peers: &mut L,
+    at: &Address,
+    asked: &HttpRequest,
+) -> Result<HttpResponse, EdgeError>
+    ensures { (ys : List Exchange)
+        × AtMostTwice (request_text asked.now) (place_at at.now) ys result
+        × Dialling ys (L.dialled peers.old) (L.dialled peers.new) (L.dial_faults peers.old) (L.dial_faults peers.new) }
+{
+    let got = exchange_at(alloc, peers, at, asked);
+    if is_fault(&got) {
+        return exchange_at(alloc, peers, at, asked);
+    }
+    got
+}
+
+// The same, and after a fault of that link yet one more.
+fn ask_thrice<L: Dial>(
+    alloc: Global,
+    peers: &mut L,
+    at: &Address,
+    asked: &HttpRequest,
+) -> Result<HttpResponse, EdgeError>
+    ensures { (ys : List Exchange)
+        × AtMostThrice (request_text asked.now) (place_at at.now) ys result
+        × Dialling ys (L.dialled peers.old) (L.dialled peers.new) (L.dial_faults peers.old) (L.dial_faults peers.new) }
+{
+    let got = exchange_at(alloc, peers, at, asked);
+    if is_fault(&got) {
+        return ask_twice(alloc, peers, at, asked);
+    }
+    got
+}
+
+// Hands the call on to the sidecar at this address, at most three times.
 fn hand_on<L: Dial>(
     alloc: Global,
     peers: &mut L,
@@ -66,27 +111,32 @@ fn hand_on<L: Dial>(
     call: &PeerCall<'_>,
 ) -> Result<HttpResponse, EdgeError>
     ensures { (ys : List Exchange)
-        × IsHttpExchange (forward_text at.now call.now.request.now call.now.least) (place_at at.now) ys result
+        × AtMostThrice (forward_text at.now call.now.request.now call.now.least call.now.name.now) (place_at at.now) ys result
         × Dialling ys (L.dialled peers.old) (L.dialled peers.new) (L.dial_faults peers.old) (L.dial_faults peers.new) }
 {
     match peer_request(alloc, at, call) {
         Err(_) => Err(EdgeError::OutOfMemory),
-        Ok(asked) => exchange_at(alloc, peers, at, &asked),
+        Ok(asked) => ask_thrice(alloc, peers, at, &asked),
     }
 }
 
-// Hands the request on to the owner's sidecar, and says where the call stands then.
+/// Hands the request on to the owner's sidecar under this name, and says where the call stands then.
 pub(crate) fn call_peer<L: Dial>(
     alloc: Global,
     peers: &mut L,
     request: &HttpRequest,
     least: u64,
     owner: &HostInfo,
+    name: &CallName,
 ) -> Next
-    ensures { (ys : List Exchange) × IsPeerAsked request.now least owner.now ys result
+    ensures { (ys : List Exchange) × IsPeerAsked request.now least owner.now name.now ys result
         × Dialling ys (L.dialled peers.old) (L.dialled peers.new) (L.dial_faults peers.old) (L.dial_faults peers.new) }
 {
-    let call = PeerCall { request, least };
+    let call = PeerCall {
+        request,
+        least,
+        name,
+    };
     let got = hand_on(alloc, peers, &owner.address, &call);
     peer_next(alloc, got)
 }

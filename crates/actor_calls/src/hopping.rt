@@ -1,26 +1,96 @@
 // Hops of a caller's request from owner to owner.
-ghost use Rattle.std.specs.Prelude.{◌≡◌, ◌≤◌, List, length};
+ghost use Rattle.std.specs.Prelude.{◌≡◌, ◌≤◌, List, length, Ok};
 ghost use Rattle.sidecar_node.specs.Entries.{PartEntry};
 ghost use Rattle.sidecar_node.specs.Nodes.{part_at, IsSeatsOf, ActsAt};
 ghost use Rattle.exchanges.specs.Exchanges.{Exchange, Dialling};
-ghost use Rattle.actor_calls.specs.Hops.{IsHop, IsRouted};
+ghost use Rattle.actor_calls.specs.Hops.{AfterDraw, IsForwarded, IsHop, IsRouted};
 
 use crate::asking::ask_here;
 use crate::calling::call_peer;
 use crate::invoke::Invoke;
 use crate::next::Next;
-use actor_names::Member;
+use crate::outcomes::{refusal_of, refused};
+use actor_names::{ActorKey, Member};
 use actor_ports::{Clock, Dial};
 use actors_api::{ApiRefusal, ApiReply};
+use call_names::CallName;
 use exchanges::Links;
 use http_edge::HttpRequest;
 use member_core::{Hop, Route};
+use part_core::PartReply;
+use part_model::PartEvent;
 use place_table::HostInfo;
 use sidecar_node::{Seats, SidecarNode};
 use std::alloc::Global;
 use std::sync::Wait;
 
-// One hop: an AskAt here if the owner is this member, or else one exchange with the owner's sidecar.
+// What follows the reply to a Draw on the part of this number: the request is handed on under the number drawn, or the
+// refusal is its answer.
+fn forward_as<L: Dial>(
+    alloc: Global,
+    peers: &mut L,
+    me: &Member,
+    part: u8,
+    reply: PartReply,
+    request: &HttpRequest,
+    least: u64,
+    owner: &HostInfo,
+) -> Next
+    ensures { (ys : List Exchange) × AfterDraw part me.now request.now least owner.now (Ok reply) ys result
+        × Dialling ys (L.dialled peers.old) (L.dialled peers.new) (L.dial_faults peers.old) (L.dial_faults peers.new) }
+{
+    match reply {
+        PartReply::Drawn { n } => {
+            let name = CallName {
+                origin: me.copy(),
+                part,
+                number: n,
+            };
+            call_peer(alloc, peers, request, least, owner, &name)
+        }
+        other => Next::Answered {
+            reply: refused(refusal_of(&other)),
+        },
+    }
+}
+
+// Hands the request on under a number that the part of its actor draws.
+fn forward<R: Wait, L: Dial>(
+    rt: &R,
+    alloc: Global,
+    node: &SidecarNode,
+    mut seats: Seats,
+    me: &Member,
+    actor: &ActorKey,
+    request: &HttpRequest,
+    least: u64,
+    owner: &HostInfo,
+    peers: &mut L,
+) -> (Seats, Next)
+    requires { IsSeatsOf node.now seats }
+    ensures seats { IsSeatsOf node.now result.0 }
+    ensures forwarded { (es : List PartEntry) × (ys : List Exchange) × ActsAt (part_at node.now actor.now) es seats result.0
+        × Dialling ys (L.dialled peers.old) (L.dialled peers.new) (L.dial_faults peers.old) (L.dial_faults peers.new)
+        × IsForwarded (part_at node.now actor.now) result.0 me.now request.now least owner.now es ys result.1 }
+{
+    let _parts = node.parts();
+    let part = node.part_of(actor);
+    match node.step_part(rt, &mut seats, part, PartEvent::Draw) {
+        Err(_) => (
+            seats,
+            Next::Answered {
+                reply: refused(ApiRefusal::Spent),
+            },
+        ),
+        Ok(reply) => {
+            let next = forward_as(alloc, peers, me, part as u8, reply, request, least, owner);
+            (seats, next)
+        }
+    }
+}
+
+// One hop: an AskAt here if the owner is this member, or else a Draw, and the request is handed on to the owner's
+// sidecar.
 fn hop_once<R: Wait, L: Dial, K: Clock>(
     rt: &R,
     alloc: Global,
@@ -56,9 +126,17 @@ fn hop_once<R: Wait, L: Dial, K: Clock>(
             clock,
         );
     }
-    (
+    forward(
+        rt,
+        alloc,
+        node,
         seats,
-        call_peer(alloc, &mut links.peers, request, least, owner),
+        me,
+        &invoke.actor,
+        request,
+        least,
+        owner,
+        &mut links.peers,
     )
 }
 

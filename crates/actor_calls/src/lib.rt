@@ -4,12 +4,14 @@
 // of its actor, its exchanges with the application and with other sidecars, and its answer; what a reply of a part, of the
 // application or of another sidecar comes to is said exactly as it is defined (`specs/Outcomes`). A call is served as
 // `IsInvoked` says: its entries are on the part of its actor and on no other gate, a turn that began has one exchange with
-// the application and one End, and nothing else is dialled. Depends on `exchanges`, `sidecar_node`, `member_core`,
-// `actors_api`, `app_texts` and `http_edge`.
+// the application and one End, and nothing else is dialled. A call that another sidecar forwarded here is served only if
+// the book of forwarded calls says that it is new, and its response is noted there (`IsForwardServed`). Depends on
+// `call_names`, `call_book`, `exchanges`, `sidecar_node`, `member_core`, `actors_api`, `app_texts` and `http_edge`.
 #![tactic(auto)]
 
 mod asking;
 mod calling;
+mod forwarded;
 mod hopping;
 mod invoke;
 mod invoking;
@@ -20,6 +22,7 @@ mod peers;
 mod served;
 mod serving;
 
+pub use forwarded::serve_forwarded;
 pub use invoke::Invoke;
 pub use invoking::serve_invoke;
 pub use law::{call_law, peer_law};

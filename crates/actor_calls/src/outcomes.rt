@@ -16,7 +16,7 @@ pub(crate) fn refused(refusal: ApiRefusal) -> ApiReply
 }
 
 // The refusal that a step's reply is.
-fn refusal_of(reply: &PartReply) -> ApiRefusal
+pub(crate) fn refusal_of(reply: &PartReply) -> ApiRefusal
     ensures { result ≡ refusal_of reply.now }
 {
     match reply {

@@ -3,18 +3,50 @@ ghost use Rattle.std.specs.Prelude.{◌≡◌, List, Ok};
 ghost use Rattle.sidecar_node.specs.Entries.{NodeEntry};
 ghost use Rattle.sidecar_node.specs.Nodes.{IsSeatsOf, Acts};
 ghost use Rattle.exchanges.specs.Exchanges.{Exchange, Dialling};
-ghost use Rattle.actor_calls.specs.Serving.{FollowsRead, IsServed};
+ghost use Rattle.actor_calls.specs.Serving.{IsCallAnswered, FollowsRead, IsServed};
 
+use crate::forwarded::serve_forwarded;
 use crate::invoke::Invoke;
 use crate::invoking::serve_invoke;
 use crate::served::Served;
 use actor_ports::{Clock, Dial};
 use actors_api::{ApiCommand, ApiReply, Side, read_api};
+use call_names::CallName;
 use exchanges::Links;
 use http_edge::HttpRequest;
 use sidecar_node::{Seats, SidecarNode};
 use std::alloc::Global;
 use std::sync::Wait;
+
+// Serves a call of a caller, or one that another sidecar forwarded here under a name.
+fn serve_named<R: Wait, L: Dial, K: Clock>(
+    rt: &R,
+    alloc: Global,
+    node: &SidecarNode,
+    seats: Seats,
+    side: Side,
+    call: Option<CallName>,
+    invoke: &Invoke,
+    request: &HttpRequest,
+    links: &mut Links<L>,
+    clock: &mut K,
+) -> (Seats, ApiReply)
+    requires { IsSeatsOf node.now seats }
+    ensures seats { IsSeatsOf node.now result.0 }
+    ensures answered { (ns : List NodeEntry) × (xs : List Exchange) × (ys : List Exchange) × Acts ns seats result.0
+        × Dialling xs (L.dialled links.old.app) (L.dialled links.new.app) (L.dial_faults links.old.app) (L.dial_faults links.new.app)
+        × Dialling ys (L.dialled links.old.peers) (L.dialled links.new.peers) (L.dial_faults links.old.peers) (L.dial_faults links.new.peers)
+        × IsCallAnswered node.now result.0 links.old.app_at side request.now call invoke.now (K.shown clock.old) (K.shown clock.new) ns xs ys result.1 }
+    ensures places { (links.new.app_at ≡ links.old.app_at) × (links.new.store_at ≡ links.old.store_at) }
+    ensures store { links.new.store ≡ links.old.store }
+{
+    match call {
+        None => serve_invoke(rt, alloc, node, seats, side, invoke, request, links, clock),
+        Some(call) => serve_forwarded(
+            rt, alloc, node, seats, side, &call, invoke, request, links, clock,
+        ),
+    }
+}
 
 // Serves a call, or hands the command back.
 fn serve_command<R: Wait, L: Dial, K: Clock>(
@@ -43,6 +75,7 @@ fn serve_command<R: Wait, L: Dial, K: Clock>(
             method,
             chain,
             least,
+            call,
         } => {
             let invoke = Invoke {
                 actor,
@@ -50,8 +83,8 @@ fn serve_command<R: Wait, L: Dial, K: Clock>(
                 chain,
                 least,
             };
-            let (seats, reply) = serve_invoke(
-                rt, alloc, node, seats, side, &invoke, request, links, clock,
+            let (seats, reply) = serve_named(
+                rt, alloc, node, seats, side, call, &invoke, request, links, clock,
             );
             (seats, Served::Answered { reply })
         }

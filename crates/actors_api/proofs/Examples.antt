@@ -14,11 +14,13 @@ use Rattle.place_table.specs.declared.host.HostInfo.{HostInfo}
 use Rattle.schedule_text.specs.declared.error.ScheduleError.TheVariants.{BadDuration}
 use Rattle.state_rows.specs.declared.op.StateOp.TheVariants.{Delete}
 use Rattle.api_bodies.specs.Records.{body_reading}
+use Rattle.call_names.specs.declared.name.CallName.{CallName}
+use Rattle.call_names.specs.Readings.{call_reading}
 use Rattle.actors_api.specs.declared.side.Side.TheVariants.{Caller, Peer}
 use Rattle.actors_api.specs.declared.command.ApiCommand.TheVariants.{Invoke, Transact, GetState}
-use Rattle.actors_api.specs.declared.refusal.ApiName.TheVariants.{«Type», Id, Method, Key, Chain, Least}
-use Rattle.actors_api.specs.declared.refusal.ApiRefusal.TheVariants.{NoRoute, WrongMethod, BadName, BadSchedule, Moved}
-use Rattle.actors_api.specs.declared.reply.ApiReply.TheVariants.{Invoked, NoState, ReminderIs, Elsewhere, Refused}
+use Rattle.actors_api.specs.declared.refusal.ApiName.TheVariants.{«Type», Id, Method, Key, Chain, Least, Call}
+use Rattle.actors_api.specs.declared.refusal.ApiRefusal.TheVariants.{NoRoute, WrongMethod, BadName, BadSchedule, Moved, AnswerGone}
+use Rattle.actors_api.specs.declared.reply.ApiReply.TheVariants.{Invoked, NoState, ReminderIs, Elsewhere, Made, Unanswered, Refused}
 use Rattle.actors_api.specs.Commands.{command_of}
 use Rattle.actors_api.specs.Responses.{response_of}
 
@@ -34,17 +36,22 @@ abbrev actor : ActorKey
 actor = record { space = codes "shop"; kind = codes "order"; id = codes "42" }
 
 -- the method's text is passed on as it was spelled, with the query; the type is read with its escapes
-call : command_of (codes "shop") Caller (request (codes "DELETE") (codes "ord%65r/42/method/add/x%2f?by=2/3") [] []) 0 ≡ Ok (Invoke actor (codes "add/x%2f?by=2/3") None None)
+call : command_of (codes "shop") Caller (request (codes "DELETE") (codes "ord%65r/42/method/add/x%2f?by=2/3") [] []) 0 ≡ Ok (Invoke actor (codes "add/x%2f?by=2/3") None None None)
 unfolding command_of percent_decode
 call = refl
 
 -- a caller's chain is that of its own field; the first of two counts
-chain_of_a_caller : command_of (codes "shop") Caller (request (codes "GET") (codes "order/42/method/m") (field (codes "Actors-Chain") [] ∷ field (codes "dapr-reentrancy-id") (codes "c/1") ∷ field (codes "Dapr-Reentrancy-Id") [] ∷ []) []) 0 ≡ Ok (Invoke actor (codes "m") (Some (codes "c/1")) None)
+chain_of_a_caller : command_of (codes "shop") Caller (request (codes "GET") (codes "order/42/method/m") (field (codes "Actors-Chain") [] ∷ field (codes "dapr-reentrancy-id") (codes "c/1") ∷ field (codes "Dapr-Reentrancy-Id") [] ∷ []) []) 0 ≡ Ok (Invoke actor (codes "m") (Some (codes "c/1")) None None)
 unfolding command_of percent_decode
 chain_of_a_caller = refl
 
-call_of_a_peer : command_of (codes "shop") Peer (request (codes "GET") (codes "order/42/method/m") (field (codes "Dapr-Reentrancy-Id") [] ∷ field (codes "actors-least") (codes "4611686018427387904") ∷ field (codes "Actors-Chain") (codes "c") ∷ []) []) 0 ≡ Ok (Invoke actor (codes "m") (Some (codes "c")) (Some 4611686018427387904))
-unfolding command_of percent_decode
+abbrev name : CallName
+name = record { origin = record { space = codes "shop"; node = codes "a"; boot = 2 }; part = 3; number = 7 }
+
+-- a peer tells the least version and the name of the call
+call_of_a_peer : command_of (codes "shop") Peer (request (codes "GET") (codes "order/42/method/m") (field (codes "Dapr-Reentrancy-Id") [] ∷ field (codes "actors-least") (codes "4611686018427387904") ∷ field (codes "Actors-Chain") (codes "c") ∷ field (codes "actors-call") (codes "shop:a/2 3 7") ∷ field (codes "Actors-Call") [] ∷ []) []) 0
+    ≡ Ok (Invoke actor (codes "m") (Some (codes "c")) (Some 4611686018427387904) (Some name))
+unfolding command_of percent_decode call_reading
 call_of_a_peer = refl
 
 -- the chain is read before the least version
@@ -55,6 +62,19 @@ bad_chain_of_a_peer = refl
 no_least : command_of (codes "shop") Peer (request (codes "GET") (codes "order/42/method/m") [] []) 0 ≡ Err (BadName Least)
 unfolding command_of percent_decode
 no_least = refl
+
+-- the name of a call is read behind the least version, and a caller's isn't looked at
+bad_call_of_a_peer : command_of (codes "shop") Peer (request (codes "GET") (codes "order/42/method/m") (field (codes "Actors-Call") (codes "a/1 0") ∷ field (codes "Actors-Least") (codes "0") ∷ []) []) 0 ≡ Err (BadName Call)
+unfolding command_of percent_decode call_reading
+bad_call_of_a_peer = refl
+
+no_call : command_of (codes "shop") Peer (request (codes "GET") (codes "order/42/method/m") (field (codes "Actors-Least") (codes "0") ∷ []) []) 0 ≡ Err (BadName Call)
+unfolding command_of percent_decode call_reading
+no_call = refl
+
+call_name_of_a_caller : command_of (codes "shop") Caller (request (codes "GET") (codes "order/42/method/m") (field (codes "Actors-Call") (codes "a/1 0") ∷ []) []) 0 ≡ Ok (Invoke actor (codes "m") None None None)
+unfolding command_of percent_decode
+call_name_of_a_caller = refl
 
 -- a peer has no route but that of a call, whatever the method
 state_for_a_peer : command_of (codes "shop") Peer (request (codes "HEAD") (codes "order/42/state/k") [] []) 0 ≡ Err NoRoute
@@ -134,3 +154,16 @@ elsewhere = refl
 -- an application's caller isn't told
 elsewhere_for_a_caller : response_of Caller (Elsewhere 3 owner) ≡ record { status = 421; fields = []; body = [] }
 elsewhere_for_a_caller = refl
+
+-- what is kept of a forwarded call says no more than its status if its body was too long
+answer_is_gone : response_of Peer (Refused (AnswerGone 200))
+    ≡ record { status = 500; fields = field (codes "Content-Type") (codes "application/json") ∷ field (codes "Actors-Refusal") (codes "ERR_ANSWER_GONE") ∷ []; body = codes "{\"errorCode\":\"ERR_ANSWER_GONE\",\"message\":\"answered 200\"}" }
+unfolding escape_byte digits
+answer_is_gone = refl
+
+-- a response that is made goes out as it is, with its fields
+made : response_of Peer (Made (record { status = 500; fields = field (codes "Actors-Refusal") (codes "ERR_SPENT") ∷ []; body = codes "5" })) ≡ record { status = 500; fields = field (codes "Actors-Refusal") (codes "ERR_SPENT") ∷ []; body = codes "5" }
+made = refl
+
+unanswered : response_of Peer Unanswered ≡ record { status = 503; fields = []; body = [] }
+unanswered = refl

@@ -16,7 +16,7 @@ use Rattle.actors_api.specs.declared.refusal.ApiRefusal.{ApiRefusal}
 use Rattle.actors_api.specs.declared.refusal.ApiRefusal.TheVariants.{NoRoute, WrongMethod, OutOfMemory}
 use Rattle.actors_api.specs.Paths.{ApiRoute, path_of, query_of, route_of}
 use Rattle.actors_api.specs.Actions.{action_of}
-use Rattle.actors_api.specs.Parts.{actor_reading, record_reading, key_reading, method_reading, chain_reading, least_reading}
+use Rattle.actors_api.specs.Parts.{actor_reading, record_reading, key_reading, method_reading, chain_reading, least_reading, call_name_reading}
 use Rattle.actors_api.specs.Reading.{of_body}
 use Rattle.api_bodies.specs.Records.{reminder_reading, timer_reading}
 use Rattle.api_bodies.specs.Transactions.{ops_reading}
@@ -44,7 +44,8 @@ call_of actor side request rest =
     method_reading rest (query_of request.target) >>= λ method.
     chain_reading side request.fields >>= λ chain.
     least_reading side request.fields >>= λ least.
-    Ok (Invoke actor method chain least)
+    call_name_reading side request.fields >>= λ call.
+    Ok (Invoke actor method chain least call)
 
 -- the command of an action on the actor; `rest` is what the path has behind the place's word
 abbrev pub command_at : Action → ActorKey → Side → HttpRequest → List ℕ → ℕ → Result ApiCommand ApiRefusal

@@ -1,17 +1,8 @@
 -- How a peer is told the owner of an actor: `VERSION MEMBER APP ADDRESS`. Own.
-use Rattle.std.specs.Prelude.{ℕ, ◌/◌, ◌%◌, ◌^◌, if◌then◌else◌, bytes_eq, List, [], ◌++◌, codes, decimal}
-use Rattle.actor_names.specs.Names.{default_space}
-use Rattle.actor_names.specs.declared.member.Member.{Member}
+use Rattle.std.specs.Prelude.{ℕ, ◌/◌, ◌%◌, ◌^◌, List, ◌++◌, codes, decimal}
 use Rattle.actor_names.specs.declared.address.Address.{Address}
 use Rattle.place_table.specs.declared.host.HostInfo.{HostInfo}
-
--- a space and a colon; `default` isn't written
-abbrev pub space_text : List ℕ → List ℕ
-space_text space = if bytes_eq space default_space then [] else space ++ codes ":"
-
--- `NODE/BOOT` or `SPACE:NODE/BOOT`
-abbrev pub member_text : Member → List ℕ
-member_text m = space_text m.space ++ m.node ++ codes "/" ++ decimal m.boot
+use Rattle.call_names.specs.Texts.{member_text}
 
 -- the four bytes of an address in decimal, the highest first
 abbrev pub ip_text : ℕ → List ℕ

@@ -10,10 +10,12 @@ use Rattle.actor_names.specs.declared.error.NameError.{NameError}
 use Rattle.actor_names.specs.declared.actor_key.ActorKey.{ActorKey}
 use Rattle.actor_names.specs.Names.{actor_type_fault, actor_id_fault, record_name_fault, chain_id_fault}
 use Rattle.schedule_text.specs.Reading.{◌>>=◌}
+use Rattle.call_names.specs.declared.name.CallName.{CallName}
+use Rattle.call_names.specs.Readings.{call_reading}
 use Rattle.actors_api.specs.declared.side.Side.{Side}
 use Rattle.actors_api.specs.declared.side.Side.TheVariants.{Caller, Peer}
 use Rattle.actors_api.specs.declared.refusal.ApiName.{ApiName}
-use Rattle.actors_api.specs.declared.refusal.ApiName.TheVariants.{«Type», Id, Method, Key, Name, Chain, Least}
+use Rattle.actors_api.specs.declared.refusal.ApiName.TheVariants.{«Type», Id, Method, Key, Name, Chain, Least, Call}
 use Rattle.actors_api.specs.declared.refusal.ApiRefusal.{ApiRefusal}
 use Rattle.actors_api.specs.declared.refusal.ApiRefusal.TheVariants.{BadName}
 use Rattle.actors_api.specs.Paths.{ApiRoute}
@@ -73,3 +75,12 @@ version_of (Some version) = Ok (Some version)
 abbrev pub least_reading : Side → List HttpField → Result (Option ℕ) ApiRefusal
 least_reading Caller fields = Ok None
 least_reading Peer fields = version_of (option_and_then (number_of last_number) (first_value (codes "Actors-Least") fields))
+
+abbrev pub call_name_of : Option CallName → Result (Option CallName) ApiRefusal
+call_name_of None = Err (BadName Call)
+call_name_of (Some call) = Ok (Some call)
+
+-- the name of the call, which a peer has to tell
+abbrev pub call_name_reading : Side → List HttpField → Result (Option CallName) ApiRefusal
+call_name_reading Caller fields = Ok None
+call_name_reading Peer fields = call_name_of (option_and_then call_reading (first_value (codes "Actors-Call") fields))

@@ -7,9 +7,9 @@ use Rattle.timer_book.specs.declared.error.TimerError.TheVariants as timer
 use Rattle.schedule_text.specs.declared.error.ScheduleError.{ScheduleError}
 use Rattle.schedule_text.specs.declared.error.ScheduleError.TheVariants as schedule
 use Rattle.actors_api.specs.declared.refusal.ApiName.{ApiName}
-use Rattle.actors_api.specs.declared.refusal.ApiName.TheVariants.{«Type», Id, Method, Key, Name, Chain, Least}
+use Rattle.actors_api.specs.declared.refusal.ApiName.TheVariants.{«Type», Id, Method, Key, Name, Chain, Least, Call}
 use Rattle.actors_api.specs.declared.refusal.ApiRefusal.{ApiRefusal}
-use Rattle.actors_api.specs.declared.refusal.ApiRefusal.TheVariants.{NoRoute, WrongMethod, BadName, MalformedBody, OtherNumber, TooLarge, BadSchedule, OutOfMemory, MalformedHead, HeadTooLong, Chunked, BodyTooLong, NotActive, TimersFull, NoReminder, NoHost, Depth, QueueFull, PartFull, Aborted, Stopped, Moved, NotRising, Behind, AppFault, PeerFault, StoreFault, AppReply, PeerReply, StoreReply, StoreRefused, Spent}
+use Rattle.actors_api.specs.declared.refusal.ApiRefusal.TheVariants.{NoRoute, WrongMethod, BadName, MalformedBody, OtherNumber, TooLarge, BadSchedule, OutOfMemory, MalformedHead, HeadTooLong, Chunked, BodyTooLong, NotActive, TimersFull, NoReminder, NoHost, Depth, QueueFull, PartFull, Aborted, Stopped, Moved, NotRising, Behind, AppFault, PeerFault, StoreFault, AppReply, PeerReply, StoreReply, StoreRefused, CallRunning, AnswerGone, CallOld, CallBoot, CallLanes, BookFull, Spent}
 
 -- the status of a refusal, its code and its text
 pub record RefusalRow : Type 0 where
@@ -29,6 +29,7 @@ name_word Key = codes "key"
 name_word Name = codes "name"
 name_word Chain = codes "chain"
 name_word Least = codes "least"
+name_word Call = codes "call"
 
 -- A schedule's fault as the command `schedule` prints it, with its place. Reading a schedule takes no memory, so the
 -- last is never sent.
@@ -78,6 +79,12 @@ refusal_row AppReply = row 500 (codes "ERR_APP_REPLY") (codes "unreadable reply"
 refusal_row PeerReply = row 500 (codes "ERR_PEER_REPLY") (codes "unreadable reply")
 refusal_row StoreReply = row 500 (codes "ERR_STORE_REPLY") (codes "unreadable reply")
 refusal_row (StoreRefused code) = row 500 (codes "ERR_STORE_REFUSED") (codes "store code " ++ decimal code)
+refusal_row CallRunning = row 500 (codes "ERR_CALL_RUNNING") (codes "call is running")
+refusal_row (AnswerGone status) = row 500 (codes "ERR_ANSWER_GONE") (codes "answered " ++ decimal status)
+refusal_row (CallOld floor) = row 500 (codes "ERR_CALL_OLD") (codes "floor " ++ decimal floor)
+refusal_row (CallBoot boot) = row 500 (codes "ERR_CALL_BOOT") (codes "boot " ++ decimal boot)
+refusal_row CallLanes = row 500 (codes "ERR_CALL_LANES") (codes "4096 lanes")
+refusal_row BookFull = row 500 (codes "ERR_BOOK_FULL") (codes "4096 calls run")
 refusal_row Spent = row 500 (codes "ERR_SPENT") (codes "counter spent")
 
 -- what a connection's error is answered with, if it is

@@ -8,7 +8,7 @@ use Rattle.http_edge.specs.declared.message.HttpResponse.{HttpResponse}
 use Rattle.actors_api.specs.declared.side.Side.{Side}
 use Rattle.actors_api.specs.declared.side.Side.TheVariants.{Caller, Peer}
 use Rattle.actors_api.specs.declared.reply.ApiReply.{ApiReply}
-use Rattle.actors_api.specs.declared.reply.ApiReply.TheVariants.{Invoked, TransactionMade, StateIs, NoState, ReminderPut, ReminderIs, ReminderDeleted, TimerSet, TimerDeleted, Elsewhere, Refused}
+use Rattle.actors_api.specs.declared.reply.ApiReply.TheVariants.{Invoked, TransactionMade, StateIs, NoState, ReminderPut, ReminderIs, ReminderDeleted, TimerSet, TimerDeleted, Elsewhere, Made, Unanswered, Refused}
 use Rattle.actors_api.specs.Refusals.{RefusalRow, refusal_row}
 use Rattle.actors_api.specs.Owners.{owner_text}
 use Rattle.api_bodies.specs.Told.{reminder_body}
@@ -29,6 +29,10 @@ json_response status body = response status (json_type ∷ []) body
 
 abbrev pub no_content : HttpResponse
 no_content = response 204 [] []
+
+-- the status alone that is noted where there was no memory for a response
+abbrev pub no_memory : HttpResponse
+no_memory = response 503 [] []
 
 -- the value of the first field with this name, whatever the case of its letters
 abbrev pub first_value : List ℕ → List HttpField → Option (List ℕ)
@@ -77,4 +81,6 @@ response_of side ReminderDeleted = no_content
 response_of side TimerSet = no_content
 response_of side TimerDeleted = no_content
 response_of side (Elsewhere version owner) = elsewhere_response side (owner_text version owner)
+response_of side (Made response) = response
+response_of side Unanswered = no_memory
 response_of side (Refused refusal) = refusal_response side (refusal_row refusal)

@@ -1,5 +1,6 @@
 // What a request asks for.
 use actor_names::{ActorKey, ChainId, RecordName};
+use call_names::CallName;
 use frame_wire::StateOps;
 use http_edge::Bytes;
 use reminder_rows::Reminder;
@@ -10,12 +11,14 @@ use timer_book::Timer;
 #[derive(Drop)]
 pub enum ApiCommand {
     /// Calls a method. `method` is the rest of the path as it was spelled, and the query behind it with its `?`.
-    /// `least` is the version of the table that a peer knows of; a caller has none.
+    /// `least` is the version of the table that a peer knows of, `call` the name that it gives to the call; a caller has
+    /// neither.
     Invoke {
         actor: ActorKey,
         method: Bytes,
         chain: Option<ChainId>,
         least: Option<u64>,
+        call: Option<CallName>,
     },
     /// Makes operations on the actor's state, all or none. At most 1,000; keys and values have their lengths.
     Transact {

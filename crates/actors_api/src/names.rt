@@ -3,9 +3,10 @@ ghost use Rattle.std.specs.Prelude.{◌≡◌, option_map};
 ghost use Rattle.std.specs.Option.{option_and_then};
 ghost use Rattle.std.specs.Str.{is_utf8};
 ghost use Rattle.percent_encoding.specs.Percent.{percent_decode};
+ghost use Rattle.call_names.specs.Readings.{call_reading};
 ghost use Rattle.actors_api.specs.Reading.{Gives};
 ghost use Rattle.actors_api.specs.Paths.{route_view};
-ghost use Rattle.actors_api.specs.Parts.{type_reading, id_reading, record_reading, actor_reading, key_of, key_reading, method_reading, chain_field, chain_reading, least_reading};
+ghost use Rattle.actors_api.specs.Parts.{type_reading, id_reading, record_reading, actor_reading, key_of, key_reading, method_reading, chain_field, chain_reading, least_reading, call_name_reading};
 ghost use Rattle.lists_and_limits.specs.Decimals.{number_of};
 ghost use Rattle.lists_and_limits.specs.Limits.{last_number};
 
@@ -18,6 +19,7 @@ use actor_names::{
     ActorId, ActorKey, ActorType, ChainId, RecordName, Space, read_actor_id, read_actor_type,
     read_chain_id, read_record_name,
 };
+use call_names::{CallName, read_call};
 use http_edge::{Bytes, HttpFields};
 use lists_and_limits::{LAST_NUMBER, read_decimal};
 use percent_encoding::percent_decode;
@@ -172,6 +174,30 @@ pub(crate) fn least_at(side: Side, fields: &HttpFields) -> Result<Option<u64>, F
         None => Err(Fault::Refused {
             refusal: ApiRefusal::BadName {
                 name: ApiName::Least,
+            },
+        }),
+    }
+}
+
+// The name of a call that a text tells.
+fn call_in(text: Option<&[u8]>) -> Option<CallName>
+    ensures { result ≡ option_and_then call_reading (option_map (λ t. t.now) text.entry) }
+{
+    read_call(text?)
+}
+
+/// The name that a peer gives to a call; a caller gives none.
+pub(crate) fn call_at(side: Side, fields: &HttpFields) -> Result<Option<CallName>, Fault>
+    ensures { Gives (λ call. call) result (call_name_reading side fields.now) }
+{
+    if let Side::Caller = side {
+        return Ok(None);
+    }
+    match call_in(first_value(b"Actors-Call", fields.as_slice())) {
+        Some(call) => Ok(Some(call)),
+        None => Err(Fault::Refused {
+            refusal: ApiRefusal::BadName {
+                name: ApiName::Call,
             },
         }),
     }

@@ -1,31 +1,13 @@
 // How a peer is told the owner of an actor.
 ghost use Rattle.std.specs.Prelude.{◌≡◌, ◌++◌, IfOk, OnOk};
-ghost use Rattle.actors_api.specs.Owners.{space_text, member_text, ip_text, address_text, owner_text};
+ghost use Rattle.actors_api.specs.Owners.{ip_text, address_text, owner_text};
 
 use crate::bytes::{add_bytes, add_decimal};
-use actor_names::{Address, Member, Space, default_space};
+use actor_names::Address;
+use call_names::add_member;
 use lists_and_limits::OutOfMemory;
 use place_table::HostInfo;
 use std::alloc::Global;
-
-fn add_space(into: &mut Vec<u8>, space: &Space) -> Result<(), OutOfMemory>
-    ensures { OnOk result (into.new.items ≡ into.old.items ++ space_text space.now) }
-{
-    if *space == default_space() {
-        return Ok(());
-    }
-    add_bytes(into, space.as_slice())?;
-    add_bytes(into, b":")
-}
-
-fn add_member(into: &mut Vec<u8>, member: &Member) -> Result<(), OutOfMemory>
-    ensures { OnOk result (into.new.items ≡ into.old.items ++ member_text member.now) }
-{
-    add_space(into, &member.space)?;
-    add_bytes(into, member.node.as_slice())?;
-    add_bytes(into, b"/")?;
-    add_decimal(into, member.boot)
-}
 
 fn add_ip(into: &mut Vec<u8>, ip: u32) -> Result<(), OutOfMemory>
     ensures { OnOk result (into.new.items ≡ into.old.items ++ ip_text ip) }

@@ -9,7 +9,7 @@ use crate::action::{Action, action_of};
 use crate::command::ApiCommand;
 use crate::content::{ops_of, reminder_of, timer_of};
 use crate::fault::{Fault, refusal_of};
-use crate::names::{actor_at, chain_at, key_at, least_at, method_at, record_name_at};
+use crate::names::{actor_at, call_at, chain_at, key_at, least_at, method_at, record_name_at};
 use crate::path::{Place, Route, path_of, query_of, route_of};
 use crate::refusal::ApiRefusal;
 use crate::side::Side;
@@ -57,11 +57,13 @@ fn call_of(
     let method = method_at(alloc, rest, query_of(request.target.as_slice()))?;
     let chain = chain_at(alloc, side, &request.fields)?;
     let least = least_at(side, &request.fields)?;
+    let call = call_at(side, &request.fields)?;
     Ok(ApiCommand::Invoke {
         actor,
         method,
         chain,
         least,
+        call,
     })
 }
 

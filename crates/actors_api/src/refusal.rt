@@ -25,6 +25,8 @@ pub enum ApiName {
     Chain,
     /// The least version of the table that the caller knows of.
     Least,
+    /// The name that a peer gives to a call.
+    Call,
 }
 
 /// Why a request isn't served, one variant for each row of the table of refusals. Those that `read_api` answers come
@@ -125,6 +127,24 @@ pub enum ApiRefusal {
     /// The store refused the command, with this code of its frame.
     #[error("store code {code}")]
     StoreRefused { code: u8 },
+    /// A call of this name was forwarded here before and runs still.
+    #[error("call is running")]
+    CallRunning,
+    /// A call of this name was answered with this status; its body was too long to be kept.
+    #[error("answered {status}")]
+    AnswerGone { status: u16 },
+    /// The number of the call is at most the floor of those that are remembered: it may have acted.
+    #[error("floor {floor}")]
+    CallOld { floor: u64 },
+    /// The node of the call's name has forwarded calls in this later boot.
+    #[error("boot {boot}")]
+    CallBoot { boot: u64 },
+    /// 4,096 parts of other sidecars are known that forwarded calls here, and the call comes from yet another one.
+    #[error("4096 lanes")]
+    CallLanes,
+    /// 4,096 forwarded calls run.
+    #[error("4096 calls run")]
+    BookFull,
     /// All numbers of a counter are drawn.
     #[error("counter spent")]
     Spent,

@@ -67,6 +67,12 @@ pub(crate) fn code_of(refusal: &ApiRefusal) -> &'static str
         ApiRefusal::PeerReply => "ERR_PEER_REPLY",
         ApiRefusal::StoreReply => "ERR_STORE_REPLY",
         ApiRefusal::StoreRefused { .. } => "ERR_STORE_REFUSED",
+        ApiRefusal::CallRunning => "ERR_CALL_RUNNING",
+        ApiRefusal::AnswerGone { .. } => "ERR_ANSWER_GONE",
+        ApiRefusal::CallOld { .. } => "ERR_CALL_OLD",
+        ApiRefusal::CallBoot { .. } => "ERR_CALL_BOOT",
+        ApiRefusal::CallLanes => "ERR_CALL_LANES",
+        ApiRefusal::BookFull => "ERR_BOOK_FULL",
         ApiRefusal::Spent => "ERR_SPENT",
     }
 }
@@ -82,6 +88,7 @@ fn name_word(name: ApiName) -> &'static str
         ApiName::Name => "name",
         ApiName::Chain => "chain",
         ApiName::Least => "least",
+        ApiName::Call => "call",
     }
 }
 
@@ -186,6 +193,12 @@ pub(crate) fn text_of(alloc: Global, refusal: &ApiRefusal) -> Result<String, Out
             text(alloc, "unreadable reply")
         }
         ApiRefusal::StoreRefused { code } => numbered(alloc, "store code ", *code as u64),
+        ApiRefusal::CallRunning => text(alloc, "call is running"),
+        ApiRefusal::AnswerGone { status } => numbered(alloc, "answered ", *status as u64),
+        ApiRefusal::CallOld { floor } => numbered(alloc, "floor ", *floor),
+        ApiRefusal::CallBoot { boot } => numbered(alloc, "boot ", *boot),
+        ApiRefusal::CallLanes => text(alloc, "4096 lanes"),
+        ApiRefusal::BookFull => text(alloc, "4096 calls run"),
         ApiRefusal::Spent => text(alloc, "counter spent"),
     }
 }

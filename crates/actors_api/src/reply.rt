@@ -41,6 +41,13 @@ pub enum ApiReply {
         version: u64,
         owner: HostInfo,
     },
+    /// A response that is made already, and goes out as it is.
+    Made {
+        response: HttpResponse,
+    },
+    /// There was no memory for a response, and none goes out. Where a book of forwarded calls notes one all the same, it
+    /// is the status 503 alone.
+    Unanswered,
     /// The request is refused.
     Refused {
         refusal: ApiRefusal,

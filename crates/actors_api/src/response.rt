@@ -1,7 +1,7 @@
 // Writes replies as responses.
 ghost use Rattle.std.specs.Prelude.{◌≡◌, [], ◌∷◌, IfOk, OnOk, option_map, ◌++◌};
 ghost use Rattle.actors_api.specs.Refusals.{refusal_row};
-ghost use Rattle.actors_api.specs.Responses.{field, first_value, field_of, passed_on, json_response, error_body, refusal_word, refusal_response, elsewhere_response, no_content, response_of};
+ghost use Rattle.actors_api.specs.Responses.{field, first_value, field_of, passed_on, json_response, error_body, refusal_word, refusal_response, elsewhere_response, no_content, no_memory, response_of};
 ghost use Rattle.actors_api.specs.Owners.{owner_text};
 
 use crate::owner::owner_text;
@@ -74,6 +74,50 @@ fn no_content(alloc: Global) -> HttpResponse
         fields: HttpFields::from_vec(Vec::new(alloc)),
         body: Bytes::from_vec(Vec::new(alloc)),
     }
+}
+
+/// The status 503 alone. It takes no memory.
+pub fn no_memory(alloc: Global) -> HttpResponse
+    ensures { result ≡ no_memory }
+{
+    HttpResponse {
+        status: 503,
+        fields: HttpFields::from_vec(Vec::new(alloc)),
+        body: Bytes::from_vec(Vec::new(alloc)),
+    }
+}
+
+// An equal field.
+fn copy_field(alloc: Global, field: &HttpField) -> Result<HttpField, OutOfMemory>
+    ensures { IfOk result (λ copy. copy ≡ field.now) }
+{
+    let name = Bytes::from_slice(alloc, field.name.as_slice())?;
+    let value = Bytes::from_slice(alloc, field.value.as_slice())?;
+    Ok(HttpField { name, value })
+}
+
+// Copies of fields, in their order.
+fn copy_fields(alloc: Global, fields: &[HttpField]) -> Result<Vec<HttpField>, OutOfMemory>
+    ensures { IfOk result (λ copies. copies.items ≡ fields.now) }
+{
+    let mut copies = Vec::with_capacity(alloc, fields.len())?;
+    for field in fields {
+        copies.push(copy_field(alloc, field)?)?;
+    }
+    Ok(copies)
+}
+
+/// An equal response.
+pub fn copy_response(alloc: Global, response: &HttpResponse) -> Result<HttpResponse, OutOfMemory>
+    ensures { IfOk result (λ copy. copy ≡ response.now) }
+{
+    let fields = copy_fields(alloc, response.fields.as_slice())?;
+    let body = Bytes::from_slice(alloc, response.body.as_slice())?;
+    Ok(HttpResponse {
+        status: response.status,
+        fields: HttpFields::from_vec(fields),
+        body,
+    })
 }
 
 // A response with JSON of the sidecar's own.
@@ -165,7 +209,7 @@ fn state_response(alloc: Global, value: &[u8]) -> Result<HttpResponse, OutOfMemo
     json_response(alloc, 200, body)
 }
 
-/// The response to a reply. Its body is a copy; a refusal's word and an owner are told to a peer only.
+/// The response to a reply. What the reply has of it is copied; a refusal's word and an owner are told to a peer only.
 pub fn write_api(alloc: Global, side: Side, reply: &ApiReply) -> Result<HttpResponse, OutOfMemory>
     ensures { IfOk result (λ response. response ≡ response_of side reply.now) }
 {
@@ -190,6 +234,8 @@ pub fn write_api(alloc: Global, side: Side, reply: &ApiReply) -> Result<HttpResp
         ApiReply::Elsewhere { version, owner } => {
             elsewhere_response(alloc, side, *version, owner)
         }
+        ApiReply::Made { response } => copy_response(alloc, response),
+        ApiReply::Unanswered => Ok(no_memory(alloc)),
         ApiReply::Refused { refusal } => refusal_response(alloc, side, refusal),
     }
 }

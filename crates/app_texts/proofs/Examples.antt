@@ -4,17 +4,19 @@ use Rattle.std.specs.Fmt.{digits}
 use Rattle.json.specs.Print.{escape_byte}
 use Rattle.schedule_text.specs.GoDurations.{term_at, terms_from, go_nanos}
 use Rattle.json_text.specs.Values.{JsonValue, null, truth, natural, text, array, object, no_items, item, no_members, member}
+use Rattle.call_names.specs.declared.name.CallName.{CallName}
+use Rattle.call_names.specs.Texts.{call_text}
 use Rattle.http_edge.specs.declared.message.HttpField.{HttpField}
 use Rattle.http_edge.specs.declared.message.HttpResponse.{HttpResponse}
 use Rattle.app_texts.specs.declared.config_error.ConfigError.TheVariants.{NotJson, BadKey, TooManyTypes}
 use Rattle.app_texts.specs.declared.peer_reply.PeerReply.TheVariants.{Application, Refusal, Elsewhere, Unreadable}
-use Rattle.app_texts.specs.declared.word.RefusalWord.TheVariants.{NoHost}
+use Rattle.app_texts.specs.declared.word.RefusalWord.TheVariants.{NoHost, CallRunning}
 use Rattle.app_texts.specs.Forms.{treatment_reading}
 use Rattle.app_texts.specs.Groups.{group_reading, entry_reading, entries_reading}
 use Rattle.app_texts.specs.Config.{config_reading, first_ones}
 use Rattle.actor_names.specs.Addresses.{part_reading, port_reading}
 use Rattle.app_texts.specs.PeerReplies.{owner_reading, reply_reading}
-use Rattle.app_texts.specs.Texts.{escaped, dotted, ip_text, address_text, message, call_lines}
+use Rattle.app_texts.specs.Texts.{escaped, dotted, ip_text, address_text, message, line, call_lines}
 
 abbrev types : JsonValue
 types = array (item (text (codes "b")) (item (text (codes "a")) (item (text (codes "b")) no_items)))
@@ -56,6 +58,14 @@ call : message (codes "PUT") (codes "/actors/order/42/method/add") (call_lines (
 unfolding digits address_text ip_text dotted
 call = refl
 
+-- a call that is handed on
+abbrev name : CallName
+name = record { origin = record { space = codes "default"; node = codes "a"; boot = 2 }; part = 3; number = 7 }
+
+name_line : line (codes "Actors-Call") (call_text name) ≡ codes "Actors-Call: a/2 3 7\r\n"
+unfolding digits
+name_line = refl
+
 -- ---- replies
 
 abbrev reply : List HttpField → HttpResponse
@@ -71,6 +81,10 @@ not_refused = refl
 refused : reply_reading (reply (field (codes "actors-refusal") (codes "ERR_ACTOR_NO_HOST") ∷ [])) ≡ Refusal NoHost
 unfolding reply_reading
 refused = refl
+
+call_refused : reply_reading (reply (field (codes "Actors-Refusal") (codes "ERR_CALL_RUNNING") ∷ [])) ≡ Refusal CallRunning
+unfolding reply_reading
+call_refused = refl
 
 unknown_word : reply_reading (reply (field (codes "Actors-Refusal") (codes "err_actor_no_host") ∷ [])) ≡ Unreadable
 unfolding reply_reading

@@ -1,15 +1,14 @@
 -- What another sidecar answers to a call that was handed on. Own.
-use Rattle.std.specs.Prelude.{ℕ, ◌+◌, ◌≡◌, ◌==◌, List, [], take, drop, position, codes, bytes_eq, if◌then◌else◌, Option, Some, None, option_map, option_and_then, unwrap_or}
+use Rattle.std.specs.Prelude.{ℕ, ◌≡◌, List, [], codes, bytes_eq, if◌then◌else◌, Option, Some, None, option_map, option_and_then}
 use Rattle.std.specs.Result.{result_ok}
 use Rattle.lists_and_limits.specs.Decimals.{number_of}
 use Rattle.lists_and_limits.specs.Limits.{last_number}
-use Rattle.actor_names.specs.declared.error.NameError.{NameError}
 use Rattle.actor_names.specs.declared.member.Member.{Member}
 use Rattle.actor_names.specs.declared.address.Address.{Address}
-use Rattle.actor_names.specs.Names.{app_id_fault, before_slash, after_slash, space_in, local_in}
-use Rattle.actor_names.specs.Numerals.{member_fault}
+use Rattle.actor_names.specs.Names.{app_id_fault}
 use Rattle.actor_names.specs.Addresses.{address_reading}
 use Rattle.place_table.specs.declared.host.HostInfo.{HostInfo}
+use Rattle.call_names.specs.Readings.{cut, sound, member_in}
 use Rattle.http_edge.specs.declared.message.HttpResponse.{HttpResponse}
 use Rattle.app_texts.specs.declared.peer_reply.PeerReply.{PeerReply}
 use Rattle.app_texts.specs.declared.peer_reply.PeerReply.TheVariants.{Application, Refusal, Elsewhere, Unreadable, OutOfMemory}
@@ -18,22 +17,6 @@ use Rattle.app_texts.specs.Texts.{first_value}
 use Rattle.app_texts.specs.Words.{word_of}
 
 -- ---- owners
-
--- what stands before and behind the first space
-abbrev pub cut : List ℕ → Option (List ℕ × List ℕ)
-cut text = option_map (λ n. (take n text, drop (n + 1) text)) (position (λ b. b == 32) text)
-
--- a value whose text has no fault
-abbrev pub sound : {A : Type 0} → Option NameError → A → Option A
-sound None x = Some x
-sound (Some fault) x = None
-
-abbrev pub member_in : List ℕ → Option Member
-member_in text = sound (member_fault text) (record {
-  space = space_in text;
-  node = before_slash (local_in text);
-  boot = unwrap_or (option_and_then (number_of last_number) (after_slash (local_in text))) 0;
-})
 
 abbrev pub app_in : List ℕ → Option (List ℕ)
 app_in text = sound (app_id_fault text) text

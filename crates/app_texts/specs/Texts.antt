@@ -8,6 +8,7 @@ use Rattle.actor_names.specs.declared.address.Address.{Address}
 use Rattle.actor_names.specs.declared.actor_key.ActorKey.{ActorKey}
 use Rattle.json_text.specs.Texts.{text_of}
 use Rattle.json_text.specs.Values.{text}
+use Rattle.call_names.specs.Texts.{call_text}
 use Rattle.http_edge.specs.declared.message.HttpField.{HttpField}
 use Rattle.http_edge.specs.Fields.{is_same_word}
 use Rattle.app_texts.specs.declared.calls.MethodCall.{MethodCall}
@@ -122,9 +123,10 @@ timer_text app callback c = callback_text (codes "timer/") app c (timer_body cal
 
 -- ---- another sidecar
 
--- the lines of a call that is handed on: the least version, and the caller's first chain and Content-Type
+-- the lines of a call that is handed on: the least version, the name of the call, and the caller's first chain and
+-- Content-Type
 abbrev pub peer_lines : Address → PeerCall → List ℕ
-peer_lines peer c = host_line peer ++ line (codes "Actors-Least") (decimal c.least) ++ line_if (codes "Actors-Chain") (first_value (codes "Dapr-Reentrancy-Id") c.request.now.fields) ++ line_if (codes "Content-Type") (first_value (codes "Content-Type") c.request.now.fields) ++ close_line
+peer_lines peer c = host_line peer ++ line (codes "Actors-Least") (decimal c.least) ++ line (codes "Actors-Call") (call_text c.name.now) ++ line_if (codes "Actors-Chain") (first_value (codes "Dapr-Reentrancy-Id") c.request.now.fields) ++ line_if (codes "Content-Type") (first_value (codes "Content-Type") c.request.now.fields) ++ close_line
 
 -- a caller's request as it is handed on
 unfoldable pub peer_text : Address → PeerCall → List ℕ

@@ -1,7 +1,7 @@
 -- The words of refusals, which are the error codes of their bodies. Own, but for those of Dapr's Actors API.
 use Rattle.std.specs.Prelude.{ℕ, List, [], ◌∷◌, codes, Option, find, bytes_eq}
 use Rattle.app_texts.specs.declared.word.RefusalWord.{RefusalWord}
-use Rattle.app_texts.specs.declared.word.RefusalWord.TheVariants.{NoRoute, WrongMethod, MalformedHead, HeadTooLong, Chunked, BodyTooLong, BadName, MalformedBody, FractionNumber, Schedule, TooLarge, InstanceMissing, TimersFull, ReminderNotFound, NoHost, StackDepth, QueueFull, PartFull, Aborted, Stopped, Moved, PeerVersion, PeerBehind, AppFault, PeerFault, StoreFault, AppReply, PeerReply, StoreReply, StoreRefused, Spent, OutOfMemory}
+use Rattle.app_texts.specs.declared.word.RefusalWord.TheVariants.{NoRoute, WrongMethod, MalformedHead, HeadTooLong, Chunked, BodyTooLong, BadName, MalformedBody, FractionNumber, Schedule, TooLarge, InstanceMissing, TimersFull, ReminderNotFound, NoHost, StackDepth, QueueFull, PartFull, Aborted, Stopped, Moved, PeerVersion, PeerBehind, AppFault, PeerFault, StoreFault, AppReply, PeerReply, StoreReply, StoreRefused, CallRunning, AnswerGone, CallOld, CallBoot, CallLanes, BookFull, Spent, OutOfMemory}
 
 abbrev pub word_text : RefusalWord → List ℕ
 word_text NoRoute = codes "ERR_NO_ROUTE"
@@ -34,12 +34,18 @@ word_text AppReply = codes "ERR_APP_REPLY"
 word_text PeerReply = codes "ERR_PEER_REPLY"
 word_text StoreReply = codes "ERR_STORE_REPLY"
 word_text StoreRefused = codes "ERR_STORE_REFUSED"
+word_text CallRunning = codes "ERR_CALL_RUNNING"
+word_text AnswerGone = codes "ERR_ANSWER_GONE"
+word_text CallOld = codes "ERR_CALL_OLD"
+word_text CallBoot = codes "ERR_CALL_BOOT"
+word_text CallLanes = codes "ERR_CALL_LANES"
+word_text BookFull = codes "ERR_BOOK_FULL"
 word_text Spent = codes "ERR_SPENT"
 word_text OutOfMemory = codes "ERR_OUT_OF_MEMORY"
 
 abbrev pub all_words : List RefusalWord
 all_words =
-    NoRoute ∷ WrongMethod ∷ MalformedHead ∷ HeadTooLong ∷ Chunked ∷ BodyTooLong ∷ BadName ∷ MalformedBody ∷ FractionNumber ∷ Schedule ∷ TooLarge ∷ InstanceMissing ∷ TimersFull ∷ ReminderNotFound ∷ NoHost ∷ StackDepth ∷ QueueFull ∷ PartFull ∷ Aborted ∷ Stopped ∷ Moved ∷ PeerVersion ∷ PeerBehind ∷ AppFault ∷ PeerFault ∷ StoreFault ∷ AppReply ∷ PeerReply ∷ StoreReply ∷ StoreRefused ∷ Spent ∷ OutOfMemory ∷ []
+    NoRoute ∷ WrongMethod ∷ MalformedHead ∷ HeadTooLong ∷ Chunked ∷ BodyTooLong ∷ BadName ∷ MalformedBody ∷ FractionNumber ∷ Schedule ∷ TooLarge ∷ InstanceMissing ∷ TimersFull ∷ ReminderNotFound ∷ NoHost ∷ StackDepth ∷ QueueFull ∷ PartFull ∷ Aborted ∷ Stopped ∷ Moved ∷ PeerVersion ∷ PeerBehind ∷ AppFault ∷ PeerFault ∷ StoreFault ∷ AppReply ∷ PeerReply ∷ StoreReply ∷ StoreRefused ∷ CallRunning ∷ AnswerGone ∷ CallOld ∷ CallBoot ∷ CallLanes ∷ BookFull ∷ Spent ∷ OutOfMemory ∷ []
 
 -- the word that has this text
 abbrev pub word_of : List ℕ → Option RefusalWord

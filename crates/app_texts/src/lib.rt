@@ -2,8 +2,8 @@
 // configuration, the requests that are sent, and the reading of a peer's reply.
 //
 // Promise: a configuration says exactly what its definition says (`specs/Config`); each request's text is the stated
-// one, byte for byte (`specs/Texts`); a peer's reply is read exactly (`specs/PeerReplies`). Depends on `http_edge`,
-// `json_text`, `part_model`, `place_table`, `schedule_text`, `actor_names` and `percent_encoding`.
+// one, byte for byte (`specs/Texts`); a peer's reply is read exactly (`specs/PeerReplies`). Depends on `call_names`,
+// `http_edge`, `json_text`, `part_model`, `place_table`, `schedule_text`, `actor_names` and `percent_encoding`.
 #![tactic(auto)]
 
 mod callbacks;

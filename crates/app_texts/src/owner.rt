@@ -1,39 +1,13 @@
 // Owners of actors, as another sidecar tells them.
-ghost use Rattle.std.specs.Prelude.{◌≡◌, ◌==◌, ◌<◌, length, position, IfOk, IfSome, option_map, Some};
+ghost use Rattle.std.specs.Prelude.{◌≡◌, IfOk};
 ghost use Rattle.std.specs.Option.{option_copied};
-ghost use Rattle.app_texts.specs.PeerReplies.{cut, member_in, app_in, address_in, owner_of, owner_reading};
+ghost use Rattle.app_texts.specs.PeerReplies.{app_in, address_in, owner_of, owner_reading};
 
-use actor_names::{Address, AppId, Member, NameError, read_address, read_app_id, read_member};
+use actor_names::{Address, AppId, NameError, read_address, read_app_id};
+use call_names::{cut, member_in};
 use lists_and_limits::{LAST_NUMBER, OutOfMemory, read_decimal};
 use place_table::{ActorTypes, HostInfo};
 use std::alloc::Global;
-
-// The place of the first space.
-fn space_place(text: &[u8]) -> Option<usize>
-    ensures place { result ≡ position (λ b. b == 32) text.now }
-    ensures within { IfSome result (λ at. at < length text.now) }
-{
-    text.iter().position(|b| *b == b' ')
-}
-
-// What stands before and behind the first space.
-fn cut(text: &[u8]) -> Option<(&[u8], &[u8])>
-    ensures { option_map (λ p. (p.0.now, p.1.now)) result ≡ cut text.now }
-{
-    match space_place(text) {
-        None => None,
-        Some(at) => Some((&text[..at], &text[at + 1..])),
-    }
-}
-
-fn member_in(text: &[u8]) -> Option<Member>
-    ensures { result ≡ member_in text.now }
-{
-    match read_member(text) {
-        Ok(member) => Some(member),
-        Err(_) => None,
-    }
-}
 
 fn address_in(text: &[u8]) -> Option<Address>
     ensures { result ≡ address_in text.now }

@@ -1,12 +1,14 @@
 // A caller's request that is handed on to the sidecar that owns the actor.
 ghost use Rattle.std.specs.Prelude.{◌≡◌, ◌++◌, codes, decimal, IfOk, OnOk};
 ghost use Rattle.http_edge.specs.Texts.{field_lines, request_text};
+ghost use Rattle.call_names.specs.Texts.{call_text};
 ghost use Rattle.app_texts.specs.Texts.{line, peer_lines, peer_text};
 
 use crate::fields::{add_field, add_field_if, first_value};
 use crate::lines::{add_close, add_host};
 use crate::requests::request_of;
 use actor_names::Address;
+use call_names::{CallName, add_call};
 use http_edge::{Bytes, HttpField, HttpFields, HttpRequest};
 use itoa::Buffer;
 use lists_and_limits::OutOfMemory;
@@ -19,6 +21,8 @@ pub struct PeerCall<'a> {
     pub request: &'a HttpRequest,
     /// The least version of the table that the other sidecar must have seen.
     pub least: u64,
+    /// The name of the call. A call that is handed on again under its name acts no second time there.
+    pub name: &'a CallName,
 }
 
 // Appends the least version.
@@ -34,6 +38,15 @@ fn add_least(alloc: Global, least: u64, fields: &mut Vec<HttpField>) -> Result<(
     )
 }
 
+// Appends the name of the call.
+fn add_name(alloc: Global, name: &CallName, fields: &mut Vec<HttpField>) -> Result<(), OutOfMemory>
+    ensures { OnOk result (field_lines fields.new.items ≡ field_lines fields.old.items ++ line (codes "Actors-Call") (call_text name.now)) }
+{
+    let mut text = Vec::new(alloc);
+    add_call(&mut text, name)?;
+    add_field(alloc, b"Actors-Call", text.as_slice(), fields)
+}
+
 // The fields of a call that is handed on.
 fn peer_fields(
     alloc: Global,
@@ -47,6 +60,7 @@ fn peer_fields(
     let content = first_value(b"Content-Type", call.request.fields.as_slice());
     add_host(alloc, peer, &mut fields)?;
     add_least(alloc, call.least, &mut fields)?;
+    add_name(alloc, call.name, &mut fields)?;
     add_field_if(alloc, b"Actors-Chain", chain, &mut fields)?;
     add_field_if(alloc, b"Content-Type", content, &mut fields)?;
     add_close(alloc, &mut fields)?;

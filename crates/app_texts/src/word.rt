@@ -35,6 +35,12 @@ pub enum RefusalWord {
     PeerReply,
     StoreReply,
     StoreRefused,
+    CallRunning,
+    AnswerGone,
+    CallOld,
+    CallBoot,
+    CallLanes,
+    BookFull,
     Spent,
     OutOfMemory,
 }
@@ -75,6 +81,12 @@ impl RefusalWord {
             RefusalWord::PeerReply => "ERR_PEER_REPLY",
             RefusalWord::StoreReply => "ERR_STORE_REPLY",
             RefusalWord::StoreRefused => "ERR_STORE_REFUSED",
+            RefusalWord::CallRunning => "ERR_CALL_RUNNING",
+            RefusalWord::AnswerGone => "ERR_ANSWER_GONE",
+            RefusalWord::CallOld => "ERR_CALL_OLD",
+            RefusalWord::CallBoot => "ERR_CALL_BOOT",
+            RefusalWord::CallLanes => "ERR_CALL_LANES",
+            RefusalWord::BookFull => "ERR_BOOK_FULL",
             RefusalWord::Spent => "ERR_SPENT",
             RefusalWord::OutOfMemory => "ERR_OUT_OF_MEMORY",
         }
@@ -82,7 +94,7 @@ impl RefusalWord {
 }
 
 // All words, in the order of their declaration.
-const WORDS: [RefusalWord; 32] = [
+const WORDS: [RefusalWord; 38] = [
     RefusalWord::NoRoute,
     RefusalWord::WrongMethod,
     RefusalWord::MalformedHead,
@@ -113,6 +125,12 @@ const WORDS: [RefusalWord; 32] = [
     RefusalWord::PeerReply,
     RefusalWord::StoreReply,
     RefusalWord::StoreRefused,
+    RefusalWord::CallRunning,
+    RefusalWord::AnswerGone,
+    RefusalWord::CallOld,
+    RefusalWord::CallBoot,
+    RefusalWord::CallLanes,
+    RefusalWord::BookFull,
     RefusalWord::Spent,
     RefusalWord::OutOfMemory,
 ];

@@ -1,9 +1,10 @@
 // Requests of the actors API and for a room, and what is answered to them.
-use crate::parts::{bytes, one_field, shown};
+use crate::parts::{bytes, fields, one_field, shown};
 use actor_names::{
     Address, ChainId, default_space, read_actor_type, read_address, read_app_id, read_member,
 };
 use actors_api::{ApiCommand, ApiName, ApiRefusal, ApiReply, Side, read_api, write_api};
+use call_names::{CallName, add_call};
 use case_texts::{cut, escaped_bytes};
 use http_edge::{Bytes, HttpField, HttpRequest};
 use place_table::{ActorTypes, HostInfo};
@@ -44,17 +45,22 @@ fn chain_text(chain: &Option<ChainId>) -> &[u8] {
     }
 }
 
-// A call's method and chain, and whether a version is told.
+// A call's method and chain, whether a version is told, and the name of a forwarded call.
 fn called(
     alloc: Global,
     method: &Bytes,
     chain: &Option<ChainId>,
     least: &Option<u64>,
+    call: &Option<CallName>,
 ) -> Option<Vec<u8>> {
     let mut text = joined(alloc, method.as_slice(), b" ")?;
     text.extend_from_slice(chain_text(chain)).ok()?;
     if least.is_some() {
         text.extend_from_slice(b" least").ok()?;
+    }
+    if let Some(call) = call {
+        text.extend_from_slice(b" ").ok()?;
+        add_call(&mut text, call).ok()?;
     }
     Some(text)
 }
@@ -66,8 +72,9 @@ fn command_text(alloc: Global, command: &ApiCommand) -> Option<Vec<u8>> {
             method,
             chain,
             least,
+            call,
             ..
-        } => called(alloc, method, chain, least),
+        } => called(alloc, method, chain, least, call),
         ApiCommand::Transact { .. } => joined(alloc, b"transact", b""),
         ApiCommand::GetState { key, .. } => joined(alloc, b"get ", key.as_str().as_bytes()),
         ApiCommand::PutReminder { name, .. } => joined(alloc, b"put ", name.as_slice()),
@@ -84,13 +91,30 @@ fn refused(alloc: Global, side: Side, refusal: ApiRefusal) -> Option<String> {
     shown(alloc, response.body.as_slice())
 }
 
-/// What a request asks for, or the refusal.
-pub(crate) fn said(alloc: Global, side: Side, text: &str) -> Option<String> {
-    let request = request(alloc, text)?;
-    match &read_api(alloc, &default_space(), side, &request, 1000) {
+// What a request asks for, or the refusal.
+fn read_as(alloc: Global, side: Side, request: &HttpRequest) -> Option<String> {
+    match &read_api(alloc, &default_space(), side, request, 1000) {
         Ok(command) => shown(alloc, command_text(alloc, command)?.as_slice()),
         Err(refusal) => refused(alloc, side, *refusal),
     }
+}
+
+/// What a request asks for, or the refusal.
+pub(crate) fn said(alloc: Global, side: Side, text: &str) -> Option<String> {
+    let request = request(alloc, text)?;
+    read_as(alloc, side, &request)
+}
+
+/// What a call that another sidecar forwards with these fields asks for, or the refusal.
+pub(crate) fn forwarded(alloc: Global, list: &str) -> Option<String> {
+    let request = HttpRequest {
+        method: bytes(alloc, "POST")?,
+        target: bytes(alloc, "/v1.0/actors/order/42/method/m")?,
+        fields: fields(alloc, list)?,
+        body: bytes(alloc, "")?,
+        close: false,
+    };
+    read_as(alloc, Side::Peer, &request)
 }
 
 fn of_request(word: &str) -> Option<ApiRefusal> {
@@ -132,6 +156,9 @@ fn of_links(word: &str) -> Option<ApiRefusal> {
         "AppReply" => Some(ApiRefusal::AppReply),
         "PeerReply" => Some(ApiRefusal::PeerReply),
         "StoreReply" => Some(ApiRefusal::StoreReply),
+        "CallRunning" => Some(ApiRefusal::CallRunning),
+        "CallLanes" => Some(ApiRefusal::CallLanes),
+        "BookFull" => Some(ApiRefusal::BookFull),
         "Spent" => Some(ApiRefusal::Spent),
         _ => None,
     }
@@ -146,6 +173,7 @@ fn name_of(word: &str) -> Option<ApiName> {
         "Name" => Some(ApiName::Name),
         "Chain" => Some(ApiName::Chain),
         "Least" => Some(ApiName::Least),
+        "Call" => Some(ApiName::Call),
         _ => None,
     }
 }
@@ -176,6 +204,8 @@ fn with_number(word: &str, text: &str) -> Option<ApiRefusal> {
         "NoHost" => Some(ApiRefusal::NoHost { version: number }),
         "Depth" => Some(ApiRefusal::Depth { turns: number }),
         "Behind" => Some(ApiRefusal::Behind { seen: number }),
+        "CallOld" => Some(ApiRefusal::CallOld { floor: number }),
+        "CallBoot" => Some(ApiRefusal::CallBoot { boot: number }),
         _ => None,
     }
 }
@@ -207,6 +237,10 @@ fn refusal_of(text: &str) -> Option<ApiRefusal> {
         "StoreRefused" => {
             let code = rest.parse::<u8>().ok()?;
             Some(ApiRefusal::StoreRefused { code })
+        }
+        "AnswerGone" => {
+            let status = rest.parse::<u16>().ok()?;
+            Some(ApiRefusal::AnswerGone { status })
         }
         _ => with_number(word, rest),
     }

@@ -8,6 +8,7 @@ use app_texts::{
     AppConfig, Callback, MethodCall, PeerCall, PeerReply, config_request, deactivate_request,
     invoke_request, peer_request, read_config, read_peer_reply, reminder_request, timer_request,
 };
+use call_names::read_call;
 use case_texts::cut;
 use http_edge::{Bytes, HttpFields, HttpRequest, HttpResponse, exchange};
 use std::alloc::Global;
@@ -70,17 +71,20 @@ pub(crate) fn call(alloc: Global, text: &str) -> Option<HttpRequest> {
     invoke_request(alloc, &app, &call).ok()
 }
 
-/// `OWNER|LEAST|FIELDS|BODY`
+/// `OWNER|LEAST|CALL|FIELDS|BODY`
 pub(crate) fn hand_on(alloc: Global, text: &str) -> Option<HttpRequest> {
     let (owner, rest) = cut(text, '|');
     let (least, rest) = cut(rest, '|');
+    let (name, rest) = cut(rest, '|');
     let (fields, body) = cut(rest, '|');
     let owner = read_address(owner.as_bytes()).ok()?;
     let least = least.parse::<u64>().ok()?;
+    let name = read_call(name.as_bytes())?;
     let request = request(alloc, fields, body)?;
     let call = PeerCall {
         request: &request,
         least,
+        name: &name,
     };
     peer_request(alloc, &owner, &call).ok()
 }

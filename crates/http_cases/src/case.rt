@@ -49,6 +49,7 @@ fn of_api(alloc: Global, word: &str, rest: &str) -> Option<String> {
         "timer" => bodies::timer(alloc, rest),
         "caller" => api::said(alloc, Side::Caller, rest),
         "peer" => api::said(alloc, Side::Peer, rest),
+        "forwarded" => api::forwarded(alloc, rest),
         "refusal" => api::told(alloc, rest),
         "refused" => api::told_peer(alloc, rest),
         "elsewhere" => api::elsewhere(alloc, rest),

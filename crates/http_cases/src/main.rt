@@ -30,7 +30,7 @@
 //     app-timer APP|ACTOR|NAME|CHAIN|DATA|DUE|PERIOD|METHOD     the request of a timer's callback
 //     end APP|ACTOR                                             the request that ends an activation
 //     ask APP                                                   the question for the configuration
-//     app-peer OWNER|LEAST|FIELDS|BODY                          the request of a call that is handed on
+//     app-peer OWNER|LEAST|CALL|FIELDS|BODY                     the request of a call that is handed on under a name
 //
 // JSON texts and bodies.
 //

@@ -7,7 +7,7 @@ use Rattle.part_model.specs.declared.event.PartEvent.TheVariants.{Ask, AskAt, Po
 use Rattle.part_model.specs.Receipts.{PartReply}
 use Rattle.part_model.specs.declared.event.Reply.TheVariants.{Begun, Waits, Stopped, Ended, Drawn}
 use Rattle.part_model.specs.declared.event.Reply.TheVariants as replies
-use Rattle.sidecar_node.specs.Entries.{PartEntry, BookEntry, OnPart, OnBook, part_entries, book_entries}
+use Rattle.sidecar_node.specs.Entries.{PartEntry, BookEntry, CallsEntry, OnPart, OnBook, OnCalls, part_entries, book_entries, calls_entries}
 use Rattle.sidecar_node.specs.Turns.{Begins, Ends, stop_entries, first_spent}
 
 entry : PartEvent → PartReply → PartEntry
@@ -44,6 +44,9 @@ sorted_by_part e f g = refl
 
 sorted_by_book : (e f : PartEntry) (g : BookEntry) → book_entries 1 (OnPart 0 e ∷ OnPart 1 f ∷ OnBook 1 g ∷ []) ≡ g ∷ []
 sorted_by_book e f g = refl
+
+sorted_as_calls : (e : PartEntry) (f g : CallsEntry) → calls_entries (OnCalls f ∷ OnPart 0 e ∷ OnCalls g ∷ []) ≡ f ∷ g ∷ []
+sorted_as_calls e f g = refl
 
 -- three parts that stop, of which the second's gate takes no entry
 three_stop : (s : Spent) → stop_entries 0 (Ok Stopped ∷ Err s ∷ Ok Stopped ∷ []) ≡ OnPart 0 (entry StopPart Stopped) ∷ OnPart 2 (entry StopPart Stopped) ∷ []

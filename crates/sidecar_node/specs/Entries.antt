@@ -9,6 +9,8 @@ use Rattle.part_model.specs.declared.event.PartEvent.{PartEvent}
 use Rattle.part_model.specs.Receipts.{PartReply}
 use Rattle.timer_book.specs.declared.event.TimerEvent.{TimerEvent}
 use Rattle.timer_book.specs.declared.event.TimerReply.{TimerReply}
+use Rattle.call_book.specs.declared.event.BookEvent.{BookEvent}
+use Rattle.call_book.specs.declared.event.BookReply.{BookReply}
 
 -- one step of a machine
 pub record Entry (E R : Type 0) : Type 0 where
@@ -21,22 +23,36 @@ PartEntry = Entry PartEvent PartReply
 abbrev pub BookEntry : Type 0
 BookEntry = Entry TimerEvent TimerReply
 
--- one step at a node: on a part, or on a book of timers
+-- one step of the book of forwarded calls
+abbrev pub CallsEntry : Type 0
+CallsEntry = Entry BookEvent BookReply
+
+-- one step at a node: on a part, on a book of timers, or on the book of forwarded calls
 pub data NodeEntry : Type 0 where
   OnPart : (part : ℕ) → (entry : PartEntry) → NodeEntry
   OnBook : (book : ℕ) → (entry : BookEntry) → NodeEntry
+  OnCalls : (entry : CallsEntry) → NodeEntry
 
 -- those on the part with this number
 abbrev pub part_entries : ℕ → List NodeEntry → List PartEntry
 part_entries k [] = []
 part_entries k (OnPart part e ∷ es) = if part == k then e ∷ part_entries k es else part_entries k es
 part_entries k (OnBook book e ∷ es) = part_entries k es
+part_entries k (OnCalls e ∷ es) = part_entries k es
 
 -- those on the book with this number
 abbrev pub book_entries : ℕ → List NodeEntry → List BookEntry
 book_entries k [] = []
 book_entries k (OnPart part e ∷ es) = book_entries k es
 book_entries k (OnBook book e ∷ es) = if book == k then e ∷ book_entries k es else book_entries k es
+book_entries k (OnCalls e ∷ es) = book_entries k es
+
+-- those on the book of forwarded calls
+abbrev pub calls_entries : List NodeEntry → List CallsEntry
+calls_entries [] = []
+calls_entries (OnPart part e ∷ es) = calls_entries es
+calls_entries (OnBook book e ∷ es) = calls_entries es
+calls_entries (OnCalls e ∷ es) = e ∷ calls_entries es
 
 -- entries of one part
 abbrev pub at_part : ℕ → List PartEntry → List NodeEntry
@@ -45,6 +61,10 @@ at_part part es = map (OnPart part) es
 -- entries of one book
 abbrev pub at_book : ℕ → List BookEntry → List NodeEntry
 at_book book es = map (OnBook book) es
+
+-- entries of the book of forwarded calls
+abbrev pub at_calls : List CallsEntry → List NodeEntry
+at_calls es = map OnCalls es
 
 module _ {E R : Type 0} where
   -- the entry of one step; none if the gate took none

@@ -14,13 +14,17 @@ use Rattle.timer_book.specs.declared.event.TimerEvent.{TimerEvent}
 use Rattle.timer_book.specs.declared.event.TimerReply.{TimerReply}
 use Rattle.timer_book.specs.Book.{BookState, new_book}
 use Rattle.timer_book.specs.Machine.{TimerMoves}
+use Rattle.call_book.specs.declared.event.BookEvent.{BookEvent}
+use Rattle.call_book.specs.declared.event.BookReply.{BookReply}
+use Rattle.call_book.specs.Book.{CallBookState, new_book as no_calls}
+use Rattle.call_book.specs.Machine.{BookMoves}
 use Rattle.step_gate.specs.declared.gate.Gate.{Gate}
 use Rattle.step_gate.specs.declared.gate.Spent.{Spent}
-use Rattle.step_gate.specs.Gates.{SeatOf, seen_of}
+use Rattle.step_gate.specs.Gates.{SeatOf, IsSeatOf, seen_of}
 use Rattle.sidecar_node.specs.declared.node.SidecarNode.{SidecarNode}
 use Rattle.sidecar_node.specs.declared.node.Seats.{Seats}
-use Rattle.sidecar_node.specs.Rows.{Along, AreSeatsOf, IsNewAt, KeepsLists, StartsFrom, MeetsAt}
-use Rattle.sidecar_node.specs.Entries.{PartEntry, BookEntry, NodeEntry, part_entries, book_entries, at_part, at_book, Makes}
+use Rattle.sidecar_node.specs.Rows.{Along, AreSeatsOf, IsNewAt, KeepsLists, StartsFrom, Meets, MeetsAt}
+use Rattle.sidecar_node.specs.Entries.{PartEntry, BookEntry, CallsEntry, NodeEntry, part_entries, book_entries, calls_entries, at_part, at_book, at_calls, Makes}
 use Rattle.sidecar_node.specs.Turns.{Said, stop_entries}
 use Rattle.sidecar_node.specs.Rounds.{each_entries}
 
@@ -35,6 +39,12 @@ PartSeat = SeatOf PartView PartEvent PartReply
 
 abbrev pub BookSeat : Type 0
 BookSeat = SeatOf BookState TimerEvent TimerReply
+
+abbrev pub CallsGate : Type 0
+CallsGate = Gate CallBookState BookEvent BookReply
+
+abbrev pub CallsSeat : Type 0
+CallsSeat = SeatOf CallBookState BookEvent BookReply
 
 -- ---- a node and its seats
 
@@ -52,6 +62,10 @@ part_gates node = node.parts.items
 abbrev pub book_gates : SidecarNode → List BookGate
 book_gates node = node.books.items
 
+-- the gate of the book of forwarded calls
+abbrev pub calls_gate : SidecarNode → CallsGate
+calls_gate node = node.calls
+
 -- the number of the part in which the actor lives
 abbrev pub part_at : SidecarNode → ActorKey → ℕ
 part_at node key = key_place key.id % length (part_gates node)
@@ -62,12 +76,17 @@ part_seats seats = seats.parts.items
 abbrev pub book_seats : Seats → List BookSeat
 book_seats seats = seats.books.items
 
+abbrev pub calls_seat : Seats → CallsSeat
+calls_seat seats = seats.calls
+
 -- the seats belong to the node's gates, place by place
 pub record IsSeatsOf (node : SidecarNode) (seats : Seats) : Type 0 where
   pub parts : AreSeatsOf PartAllows (part_gates node) (part_seats seats)
   pub books : AreSeatsOf TimerMoves (book_gates node) (book_seats seats)
+  pub calls : IsSeatOf BookMoves (calls_gate node) (calls_seat seats)
 
--- A new node of the host, with this many new parts and empty books. Nothing has happened at any gate.
+-- A new node of the host, with this many new parts and empty books, and an empty book of forwarded calls. Nothing has
+-- happened at any gate.
 pub record IsNewNode (host : HostInfo) (kinds : List TypeSettings) (parts : ℕ) (node : SidecarNode) (seats : Seats) : Type 0 where
   pub host_is : host_of node ≡ host
   pub kinds_are : kinds_of node ≡ kinds
@@ -75,6 +94,7 @@ pub record IsNewNode (host : HostInfo) (kinds : List TypeSettings) (parts : ℕ)
   pub a_book_each : length (book_gates node) ≡ parts
   pub new_parts : Along (λ k gate seat. IsNewAt PartAllows (record { state = new_part host.member k kinds; recent = [] }) gate seat) (part_gates node) (part_seats seats)
   pub new_books : Along (λ k gate seat. IsNewAt TimerMoves new_book gate seat) (book_gates node) (book_seats seats)
+  pub new_calls : IsNewAt BookMoves no_calls (calls_gate node) (calls_seat seats)
 
 -- ---- what a call did
 
@@ -82,6 +102,7 @@ pub record IsNewNode (host : HostInfo) (kinds : List TypeSettings) (parts : ℕ)
 pub record Acts (es : List NodeEntry) (before after : Seats) : Type 0 where
   pub parts : Along (λ k old new. Makes (part_entries k es) old new) (part_seats before) (part_seats after)
   pub books : Along (λ k old new. Makes (book_entries k es) old new) (book_seats before) (book_seats after)
+  pub calls : Makes (calls_entries es) (calls_seat before) (calls_seat after)
 
 -- the seat of this part made these entries, and no other seat made any
 abbrev pub ActsAt : ℕ → List PartEntry → Seats → Seats → Type 0
@@ -107,6 +128,18 @@ SpentAtBook book said seats = IfErr said (λ e. (e.count ≡ 2 ^ 62) × IsBookFu
 abbrev pub SpentAt : ℕ → Result PartReply Spent → Seats → Type 0
 SpentAt part said seats = IfErr said (λ e. (e.count ≡ 2 ^ 62) × IsFull part seats)
 
+-- the seat of the book of forwarded calls made these entries, and no other seat made any
+abbrev pub ActsAtCalls : List CallsEntry → Seats → Seats → Type 0
+ActsAtCalls es before after = Acts (at_calls es) before after
+
+-- the seat of that book has seen 2^62 entries, so its gate takes no more
+abbrev pub AreCallsFull : Seats → Type 0
+AreCallsFull seats = length (seen_of (calls_seat seats)) ≡ 2 ^ 62
+
+-- the same of that book
+abbrev pub SpentAtCalls : Result BookReply Spent → Seats → Type 0
+SpentAtCalls said seats = IfErr said (λ e. (e.count ≡ 2 ^ 62) × AreCallsFull seats)
+
 -- Each of so many parts was asked to stop, in order, and these are the answers. A part whose answer isn't a reply has a
 -- gate that takes no more.
 pub record StopsAll (parts : ℕ) (saids : List Said) (before after : Seats) : Type 0 where
@@ -124,13 +157,16 @@ pub record GivesEach (event : PartEvent) (saids : List Said) (before after : Sea
 pub record KeepsAll (before after : Seats) : Type 0 where
   pub parts : Along (λ k old new. KeepsLists old new) (part_seats before) (part_seats after)
   pub books : Along (λ k old new. KeepsLists old new) (book_seats before) (book_seats after)
+  pub calls : KeepsLists (calls_seat before) (calls_seat after)
 
 -- a second seat of each gate
 pub record StartFrom (old new : Seats) : Type 0 where
   pub parts : Along (λ k a b. StartsFrom a b) (part_seats old) (part_seats new)
   pub books : Along (λ k a b. StartsFrom a b) (book_seats old) (book_seats new)
+  pub calls : StartsFrom (calls_seat old) (calls_seat new)
 
 -- the seats of each gate were joined
 pub record MeetAll (kept given after : Seats) : Type 0 where
   pub parts : Along (MeetsAt (part_seats given)) (part_seats kept) (part_seats after)
   pub books : Along (MeetsAt (book_seats given)) (book_seats kept) (book_seats after)
+  pub calls : Meets (calls_seat kept) (calls_seat given) (calls_seat after)

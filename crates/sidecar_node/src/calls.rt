@@ -2,11 +2,12 @@
 ghost use Rattle.std.specs.Prelude.{◌≡◌, ◌≢◌, ◌<◌, ◌≤◌, ℕ, length, slice_get};
 ghost use Rattle.part_model.specs.Rooms.{IsInRange};
 ghost use Rattle.sidecar_node.specs.Entries.{StepsAt, one_entry};
-ghost use Rattle.sidecar_node.specs.Nodes.{part_gates, part_seats, book_seats, part_at, host_of, IsSeatsOf, ActsAt, ActsAtBook, SpentAt, SpentAtBook};
+ghost use Rattle.sidecar_node.specs.Nodes.{part_gates, part_seats, book_seats, calls_seat, part_at, host_of, IsSeatsOf, ActsAt, ActsAtBook, ActsAtCalls, SpentAt, SpentAtBook, SpentAtCalls};
 
 use crate::node::{Seats, SidecarNode};
 use crate::rows::call_row;
 use actor_names::ActorKey;
+use call_book::{BookEvent, BookReply};
 use part_core::PartReply;
 use part_model::PartEvent;
 use place_table::{HostInfo, part_of};
@@ -53,7 +54,7 @@ impl SidecarNode {
         requires event { IsInRange event }
         ensures seats { IsSeatsOf self.now seats.new }
         ensures steps { StepsAt part event result (part_seats seats.old) (part_seats seats.new) }
-        ensures books { book_seats seats.new ≡ book_seats seats.old }
+        ensures others { (book_seats seats.new ≡ book_seats seats.old) × (calls_seat seats.new ≡ calls_seat seats.old) }
     {
         call_row(rt, &self.parts, &mut seats.parts, part, event)
     }
@@ -92,5 +93,20 @@ impl SidecarNode {
         ensures spent { SpentAtBook book result seats.new }
     {
         call_row(rt, &self.books, &mut seats.books, book, event)
+    }
+
+    /// The same for the book of forwarded calls.
+    pub fn step_calls<R: Wait>(
+        &self,
+        rt: &R,
+        seats: &mut Seats,
+        event: BookEvent,
+    ) -> Result<BookReply, Spent>
+        requires { IsSeatsOf self.now seats.old }
+        ensures seats { IsSeatsOf self.now seats.new }
+        ensures entry { ActsAtCalls (one_entry event result) seats.old seats.new }
+        ensures spent { SpentAtCalls result seats.new }
+    {
+        self.calls.call_in(rt, &mut seats.calls, event)
     }
 }

@@ -1,9 +1,10 @@
-// The state of a sidecar behind gates: its parts and their books of timers, and how a turn begins and ends.
+// The state of a sidecar behind gates: its parts, their books of timers and the book of the calls that were forwarded
+// here; and how a turn begins and ends.
 //
 // Promise: what a call did is a list of entries, which are events with their replies, and each seat's own entries grew
 // by those of its gate and by no others (`specs/Nodes`). A turn begins and ends on the part of its actor alone. No call
-// lends a gate or a seat. Depends on `step_gate`, `part_model`, `part_core`, `timer_book`, `place_table`, `actor_names` and
-// `actor_ports`.
+// lends a gate or a seat. Depends on `step_gate`, `part_model`, `part_core`, `timer_book`, `call_book`, `place_table`,
+// `actor_names` and `actor_ports`.
 #![tactic(auto)]
 
 mod calls;

@@ -3,6 +3,8 @@ ghost use Rattle.std.specs.Prelude.{◌≡◌, ◌≤◌, ◌<◌, [], ℕ, leng
 ghost use Rattle.part_model.specs.Machine.{PartAllows};
 ghost use Rattle.part_model.specs.Part.{new_part};
 ghost use Rattle.part_model.specs.Settings.{AreShallow};
+ghost use Rattle.call_book.specs.Book.{new_book as no_calls};
+ghost use Rattle.call_book.specs.Machine.{BookMoves};
 ghost use Rattle.timer_book.specs.Book.{new_book};
 ghost use Rattle.timer_book.specs.Machine.{TimerMoves};
 ghost use Rattle.sidecar_node.specs.Rows.{Along, IsNewAt};
@@ -10,6 +12,7 @@ ghost use Rattle.sidecar_node.specs.Nodes.{IsSeatsOf, IsNewNode};
 
 use crate::node::{Seats, SidecarNode};
 use actor_names::{Member, OutOfMemory};
+use call_book::CallBook;
 use part_core::Part;
 use part_model::{PartSettings, TypeList, TypeSettings};
 use place_table::HostInfo;
@@ -68,6 +71,14 @@ fn new_book_gate(alloc: Global) -> Result<(Gate<TimerBook>, Seat<TimerBook>), Ou
     Gate::new(alloc, book)
 }
 
+// The gate of an empty book of forwarded calls, and its seat.
+fn new_calls_gate(alloc: Global) -> Result<(Gate<CallBook>, Seat<CallBook>), OutOfMemory>
+    ensures { IfOk result (λ r. IsNewAt BookMoves no_calls r.0 r.1) }
+{
+    let book = CallBook::new(alloc);
+    Gate::new(alloc, book)
+}
+
 // The gates of new parts, numbered from 0, and their seats.
 fn new_parts(
     alloc: Global,
@@ -108,8 +119,8 @@ fn new_books(
 }
 
 impl SidecarNode {
-    /// A node of the host with 1 to 16 new parts, each with an empty book of timers, and the node's first seats. The
-    /// depths in the settings must be at most 1,024.
+    /// A node of the host with 1 to 16 new parts, each with an empty book of timers, and an empty book of forwarded
+    /// calls; and the node's first seats. The depths in the settings must be at most 1,024.
     pub fn new(
         alloc: Global,
         host: HostInfo,
@@ -124,15 +135,18 @@ impl SidecarNode {
     {
         let (part_gates, part_seats) = new_parts(alloc, &host.member, &kinds, parts)?;
         let (book_gates, book_seats) = new_books(alloc, parts)?;
+        let (calls_gate, calls_seat) = new_calls_gate(alloc)?;
         let node = SidecarNode {
             host,
             kinds,
             parts: part_gates,
             books: book_gates,
+            calls: calls_gate,
         };
         let seats = Seats {
             parts: part_seats,
             books: book_seats,
+            calls: calls_seat,
         };
         Ok((node, seats))
     }

@@ -55,7 +55,15 @@ impl SidecarNode {
         };
         split_row(&self.parts, &mut seats.parts, &mut parts);
         split_row(&self.books, &mut seats.books, &mut books);
-        (seats, Ok(Seats { parts, books }))
+        let calls = self.calls.split_in(&mut seats.calls);
+        (
+            seats,
+            Ok(Seats {
+                parts,
+                books,
+                calls,
+            }),
+        )
     }
 
     /// Ends the given seats. The kept ones have then seen all that either had seen; their own entries stay.
@@ -65,9 +73,14 @@ impl SidecarNode {
         ensures seats { IsSeatsOf self.now result }
         ensures meet { MeetAll kept given result }
     {
-        let Seats { parts, books } = given;
+        let Seats {
+            parts,
+            books,
+            calls,
+        } = given;
         join_row(&self.parts, &mut kept.parts, parts);
         join_row(&self.books, &mut kept.books, books);
+        self.calls.join_in(&mut kept.calls, calls);
         kept
     }
 }

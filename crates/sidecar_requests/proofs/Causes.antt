@@ -4,7 +4,7 @@ use Rattle.step_gate.specs.declared.gate.Spent.{Spent}
 use Rattle.actor_names.specs.declared.actor_key.ActorKey.{ActorKey}
 use Rattle.actor_names.specs.declared.address.Address.{Address}
 use Rattle.part_model.specs.declared.event.PartEvent.{PartEvent}
-use Rattle.part_model.specs.declared.event.PartEvent.TheVariants.{Hold, Release, Draw}
+use Rattle.part_model.specs.declared.event.PartEvent.TheVariants.{Hold, Release, Draw, Lock}
 use Rattle.part_model.specs.Receipts.{PartReply}
 use Rattle.part_model.specs.declared.event.Reply.TheVariants as replies
 use Rattle.timer_book.specs.declared.event.TimerEvent.{TimerEvent}
@@ -13,7 +13,7 @@ use Rattle.timer_book.specs.declared.event.TimerReply.{TimerReply}
 use Rattle.timer_book.specs.declared.event.TimerReply.TheVariants as book
 use Rattle.actor_ports.specs.Traffic.{Place}
 use Rattle.http_edge.specs.Carry.{Carried}
-use Rattle.frame_wire.specs.declared.frame.Frame.TheVariants.{Command, Answer}
+use Rattle.frame_wire.specs.declared.frame.Frame.TheVariants.{Answer}
 use Rattle.frame_wire.specs.declared.store_command.Stamp.{Stamp}
 use Rattle.frame_wire.specs.declared.store_answer.StoreAnswer.{StoreAnswer}
 use Rattle.frame_wire.specs.declared.store_answer.StoreAnswer.TheVariants as told
@@ -21,21 +21,23 @@ use Rattle.frame_wire.specs.Frames.{frame_bytes}
 use Rattle.actors_api.specs.declared.command.ApiCommand.{ApiCommand}
 use Rattle.actors_api.specs.declared.command.ApiCommand.TheVariants as commands
 use Rattle.actors_api.specs.declared.reply.ApiReply.{ApiReply}
+use Rattle.actors_api.specs.declared.refusal.ApiRefusal.{ApiRefusal}
+use Rattle.actors_api.specs.declared.refusal.ApiRefusal.TheVariants as refusals
 use Rattle.sidecar_node.specs.declared.node.SidecarNode.{SidecarNode}
 use Rattle.sidecar_node.specs.declared.node.Seats.{Seats}
-use Rattle.sidecar_node.specs.Entries.{NodeEntry, OnPart, OnBook, at_part, at_book, one_entry}
+use Rattle.sidecar_node.specs.Entries.{NodeEntry, OnPart, OnBook, OnCalls, at_part, at_book, one_entry}
 use Rattle.sidecar_node.specs.Turns.{Said}
-use Rattle.sidecar_node.specs.Nodes.{part_at, IsBookFull, SpentAt, SpentAtBook}
+use Rattle.sidecar_node.specs.Nodes.{part_at, Acts, IsBookFull, SpentAt, SpentAtBook}
 use Rattle.exchanges.specs.Exchanges.{Exchange, Comes}
 use Rattle.exchanges.specs.Replies.{place_at}
 use Rattle.exchanges.specs.declared.store_end.StoreEnd.TheVariants as ends
-use Rattle.exchanges.specs.Asked.{Got, answers, FrameCarries, IsStoreExchange}
+use Rattle.exchanges.specs.Asked.{Got, answers, FrameCarries, IsFrameAsked}
 use Rattle.sidecar_requests.specs.declared.ask.StoreAsk.{StoreAsk}
 use Rattle.sidecar_requests.specs.declared.ask.StoreAsk.TheVariants as asks
 use Rattle.sidecar_requests.specs.declared.ask.Wanted.{Wanted}
-use Rattle.sidecar_requests.specs.Asks.{store_command, wanted_of}
-use Rattle.sidecar_requests.specs.Outcomes.{BookSaid, refused, refusal_of, told_answer, store_answer, released_answer, held_answer, book_answer, kept_answer, timer_answer}
-use Rattle.sidecar_requests.specs.Serving.{stamp_of, IsStep, Holds, AfterDraw, IsWriteServed, AfterHold, IsStateServed, AfterTimerHold, IsTimerServed, IsRecordServed}
+use Rattle.sidecar_requests.specs.Asks.{store_frame, wanted_of}
+use Rattle.sidecar_requests.specs.Outcomes.{BookSaid, refused, refusal_of, told_answer, store_answer, released_answer, held_answer, unasked_answer, book_answer, kept_answer, timer_answer}
+use Rattle.sidecar_requests.specs.Serving.{stamp_of, IsStep, Holds, AfterDraw, IsWriteServed, IsHeldExchange, IsHeldInVain, AfterLock, WhileHeld, AfterHold, IsStateServed, AfterTimerHold, IsTimerServed, IsRecordServed}
 use Rattle.sidecar_requests.specs.Causes.{HasReply, HasBookReply, actor_of, IsRecordEvent, IsRecordCall, AreRecordEntries, BookWasFull, AnswerHasCause}
 
 never : {A : Type 0} → false ≡ true → A
@@ -47,29 +49,33 @@ reply_left : (r : PartReply) (ms ns : List NodeEntry) → HasReply r ms → HasR
 reply_left r [] ns h = absurd h
 reply_left r (OnPart part e ∷ ms) ns h = elim h [ inl is ↦ inl is | inr more ↦ inr (reply_left r ms ns more) ]
 reply_left r (OnBook part e ∷ ms) ns h = reply_left r ms ns h
+reply_left r (OnCalls e ∷ ms) ns h = reply_left r ms ns h
 
 reply_right : (r : PartReply) (ms ns : List NodeEntry) → HasReply r ns → HasReply r (ms ++ ns)
 reply_right r [] ns h = h
 reply_right r (OnPart part e ∷ ms) ns h = inr (reply_right r ms ns h)
 reply_right r (OnBook part e ∷ ms) ns h = reply_right r ms ns h
+reply_right r (OnCalls e ∷ ms) ns h = reply_right r ms ns h
 
 book_left : (r : TimerReply) (ms ns : List NodeEntry) → HasBookReply r ms → HasBookReply r (ms ++ ns)
 book_left r [] ns h = absurd h
 book_left r (OnPart part e ∷ ms) ns h = book_left r ms ns h
 book_left r (OnBook part e ∷ ms) ns h = elim h [ inl is ↦ inl is | inr more ↦ inr (book_left r ms ns more) ]
+book_left r (OnCalls e ∷ ms) ns h = book_left r ms ns h
 
 book_right : (r : TimerReply) (ms ns : List NodeEntry) → HasBookReply r ns → HasBookReply r (ms ++ ns)
 book_right r [] ns h = h
 book_right r (OnPart part e ∷ ms) ns h = book_right r ms ns h
 book_right r (OnBook part e ∷ ms) ns h = inr (book_right r ms ns h)
+book_right r (OnCalls e ∷ ms) ns h = book_right r ms ns h
 
 -- ---- the store's answer
 
-module _ (place : ℕ) (after : Seats) (ns : List NodeEntry) (at : Place) (rise : ℕ) (c : Carried) (actor : ActorKey) (s : Stamp) where
+module _ (place : ℕ) (after : Seats) (ns : List NodeEntry) (at : Place) (rise : ℕ) (c : Carried) (actor : ActorKey) (s : Stamp) (epoch : ℕ) where
   abbrev Xs : List Exchange
   Xs = record { at = at; link = Some c; rise = rise } ∷ []
 
-  told_cause : (ask : StoreAsk) (a : StoreAnswer) → answers (Command (store_command actor s ask)) a ≡ true → c.read ≡ frame_bytes (Answer a) → AnswerHasCause place after ns Xs (told_answer (wanted_of ask) a)
+  told_cause : (ask : StoreAsk) (a : StoreAnswer) → answers (store_frame actor s epoch ask) a ≡ true → c.read ≡ frame_bytes (Answer a) → AnswerHasCause place after ns Xs (told_answer (wanted_of ask) a)
   told_cause (asks.Transact ops) (told.Done existed) fits is = inl (existed, is)
   told_cause (asks.GetState key) (told.Done existed) fits is = never fits
   told_cause (asks.PutReminder name r) (told.Done existed) fits is = inl (existed, is)
@@ -100,20 +106,20 @@ module _ (place : ℕ) (after : Seats) (ns : List NodeEntry) (at : Place) (rise 
   told_cause (asks.DeleteReminder name) (told.NextIs n) fits is = never fits
 
 -- what went over the link, and the answer by it
-link_cause : (place : ℕ) (after : Seats) (ns : List NodeEntry) (at : Place) (actor : ActorKey) (s : Stamp) (ask : StoreAsk) (l : Option Carried) (rise : ℕ) (got : Got)
-    → Comes (Err ends.Fault) (Err ends.OutOfMemory) (FrameCarries (Command (store_command actor s ask))) l rise got
+link_cause : (place : ℕ) (after : Seats) (ns : List NodeEntry) (at : Place) (actor : ActorKey) (s : Stamp) (epoch : ℕ) (ask : StoreAsk) (l : Option Carried) (rise : ℕ) (got : Got)
+    → Comes (Err ends.Fault) (Err ends.OutOfMemory) (FrameCarries (store_frame actor s epoch ask)) l rise got
     → AnswerHasCause place after ns (record { at = at; link = l; rise = rise } ∷ []) (store_answer (wanted_of ask) got)
-link_cause place after ns at actor s ask None rise got h =
+link_cause place after ns at actor s epoch ask None rise got h =
     subst (λ (g : Got). AnswerHasCause place after ns (record { at = at; link = None; rise = rise } ∷ []) (store_answer (wanted_of ask) g)) (sym h.1) (let up = h.0 in let k : 0 < rise + 0 = omega arith in k)
-link_cause place after ns at actor s ask (Some c) rise (Ok a) h = told_cause place after ns at rise c actor s ask a h.0.1.fits h.0.1.is
-link_cause place after ns at actor s ask (Some c) rise (Err ends.Fault) h = let up = h.1 refl in let k : 0 < rise + 0 = omega arith in k
-link_cause place after ns at actor s ask (Some c) rise (Err ends.Unreadable) h = inl h.0.1
-link_cause place after ns at actor s ask (Some c) rise (Err ends.OutOfMemory) h = tt
+link_cause place after ns at actor s epoch ask (Some c) rise (Ok a) h = told_cause place after ns at rise c actor s epoch ask a h.0.1.fits h.0.1.is
+link_cause place after ns at actor s epoch ask (Some c) rise (Err ends.Fault) h = let up = h.1 refl in let k : 0 < rise + 0 = omega arith in k
+link_cause place after ns at actor s epoch ask (Some c) rise (Err ends.Unreadable) h = inl h.0.1
+link_cause place after ns at actor s epoch ask (Some c) rise (Err ends.OutOfMemory) h = tt
 
-store_cause : (place : ℕ) (after : Seats) (ns : List NodeEntry) (at : Place) (actor : ActorKey) (s : Stamp) (ask : StoreAsk) (xs : List Exchange) (got : Got) → IsStoreExchange (store_command actor s ask) at xs got → AnswerHasCause place after ns xs (store_answer (wanted_of ask) got)
-store_cause place after ns at actor s ask [] got x = subst (λ (g : Got). AnswerHasCause place after ns [] (store_answer (wanted_of ask) g)) (sym x) tt
-store_cause place after ns at actor s ask (x ∷ []) got h = link_cause place after ns x.at actor s ask x.link x.rise got h.1
-store_cause place after ns at actor s ask (x ∷ y ∷ xs) got h = absurd h
+store_cause : (place : ℕ) (after : Seats) (ns : List NodeEntry) (at : Place) (actor : ActorKey) (s : Stamp) (epoch : ℕ) (ask : StoreAsk) (xs : List Exchange) (got : Got) → IsFrameAsked (store_frame actor s epoch ask) at xs got → AnswerHasCause place after ns xs (store_answer (wanted_of ask) got)
+store_cause place after ns at actor s epoch ask [] got x = subst (λ (g : Got). AnswerHasCause place after ns [] (store_answer (wanted_of ask) g)) (sym x) tt
+store_cause place after ns at actor s epoch ask (x ∷ []) got h = link_cause place after ns x.at actor s epoch ask x.link x.rise got h.1
+store_cause place after ns at actor s epoch ask (x ∷ y ∷ xs) got h = absurd h
 
 -- ---- steps
 
@@ -180,7 +186,7 @@ module _ (place : ℕ) (after : Seats) (ns : List NodeEntry) (xs : List Exchange
   timer_cause : (said : Said) (got : BookSaid) → SpentAt place said after → (said ≡ Ok replies.Stopped → HasReply replies.Stopped ns) → ((e : Spent) → got ≡ Err e → BookWasFull place after ns) → ((r : TimerReply) → got ≡ Ok r → BookTold r)
       → AnswerHasCause place after ns xs (timer_answer said got)
   timer_cause (Err spent) got full stop book_full told_ = inl (inl full.1)
-  timer_cause (Ok reply) (Err spent) full stop book_full told_ = inl (inr (book_full spent refl))
+  timer_cause (Ok reply) (Err spent) full stop book_full told_ = inl (inr (inr (book_full spent refl)))
   timer_cause (Ok reply) (Ok r) full stop book_full told_ = kept_cause reply r (λ e. stop (ap (λ (x : PartReply). Ok x) e)) (told_ r refl)
 
 -- ---- requests
@@ -193,13 +199,49 @@ holds_full node after actor ns said (inr none) = subst (λ (s : Said). SpentAt (
 book_full : (place : ℕ) (got : BookSaid) (middle : Seats) (e : Spent) → got ≡ Err e → SpentAtBook place got middle → IsBookFull place middle
 book_full place got middle e is h = let f = subst (λ (g : BookSaid). SpentAtBook place g middle) is h in f.1
 
+-- what is said of a step's reply is said of longer lists of entries
+told_right : (said : Said) (ms ns : List NodeEntry) → Told said ns → Told said (ms ++ ns)
+told_right said ms ns says r e = elim (says r e) [ inl memory ↦ inl memory | inr h ↦ inr (reply_right r ms ns h) ]
+
+module _ (node : SidecarNode) (store : Address) (after : Seats) (actor : ActorKey) where
+  exchange_cause : (ask : StoreAsk) (n epoch first last : ℕ) (front back : List NodeEntry) (xs : List Exchange) (answer : ApiReply)
+      → IsHeldExchange node store after actor ask n epoch first last back xs answer → AnswerHasCause (part_at node actor) after (front ++ back) xs answer
+  exchange_cause ask n epoch first last front back xs answer h =
+      subst (AnswerHasCause (part_at node actor) after (front ++ back) xs) (sym h.answered)
+      (held_cause (part_at node actor) after (front ++ back) xs (wanted_of ask) h.said h.got h.release.full
+      (λ e. reply_right replies.Stopped front back (subst (HasReply replies.Stopped) (sym h.release.entries) (step_reply (part_at node actor) (Release actor last) h.said replies.Stopped e)))
+      (store_cause (part_at node actor) after (front ++ back) (place_at store) actor (stamp_of node actor n) epoch ask xs h.got h.exchange))
+
+  unasked_cause : (ns : List NodeEntry) (xs : List Exchange) (refusal : ApiRefusal) (said : Said) → SpentAt (part_at node actor) said after
+      → AnswerHasCause (part_at node actor) after ns xs (refused refusal) → AnswerHasCause (part_at node actor) after ns xs (unasked_answer said refusal)
+  unasked_cause ns xs refusal (Err spent) full cause = inl (inl full.1)
+  unasked_cause ns xs refusal (Ok reply) full cause = cause
+
+  vain_cause : (refusal : ApiRefusal) (first last : ℕ) (front back : List NodeEntry) (xs : List Exchange) (answer : ApiReply)
+      → IsHeldInVain node after actor refusal first last back answer → AnswerHasCause (part_at node actor) after (front ++ back) xs (refused refusal) → AnswerHasCause (part_at node actor) after (front ++ back) xs answer
+  vain_cause refusal first last front back xs answer h cause =
+      subst (AnswerHasCause (part_at node actor) after (front ++ back) xs) (sym h.answered) (unasked_cause (front ++ back) xs refusal h.said h.release.full cause)
+
+  after_lock : (ask : StoreAsk) (n : ℕ) (said : Said) (first last : ℕ) (front back : List NodeEntry) (xs : List Exchange) (answer : ApiReply) (middle : Seats)
+      → SpentAt (part_at node actor) said middle → Acts back middle after → Told said front → AfterLock node store after actor ask n said first last back xs answer → AnswerHasCause (part_at node actor) after (front ++ back) xs answer
+  after_lock ask n (Ok (replies.TableStep receipt changed)) first last front back xs answer middle full acts says h = exchange_cause ask n receipt.opened first last front back xs answer h
+  after_lock ask n (Ok reply) first last front back xs answer middle full acts says h =
+      vain_cause (refusal_of reply) first last front back xs answer h.1 (refusal_cause (part_at node actor) after reply (front ++ back) xs (told_left (Ok reply) front back says))
+  after_lock ask n (Err spent) first last front back xs answer middle full acts says h =
+      vain_cause refusals.Spent first last front back xs answer h.1 (inl (inr (inl (record { middle = middle; front = front; back = back; entries = refl; acts = acts; full = full.1 }))))
+
+  while_held : (ask : StoreAsk) (n first last : ℕ) (front back : List NodeEntry) (xs : List Exchange) (answer : ApiReply)
+      → WhileHeld node store after actor ask n first last back xs answer → AnswerHasCause (part_at node actor) after (front ++ back) xs answer
+  while_held (asks.Transact ops) n first last front back xs answer h =
+      subst (λ (l : List NodeEntry). AnswerHasCause (part_at node actor) after (front ++ l) xs answer) (sym h.entries)
+      (subst (λ (l : List NodeEntry). AnswerHasCause (part_at node actor) after l xs answer) (append_assoc front h.front h.back)
+      (after_lock (asks.Transact ops) n h.said first last (front ++ h.front) h.back xs answer h.middle h.lock.full h.kept
+      (told_right h.said front h.front (step_told (part_at node actor) h.middle (Lock 0) h.front h.said h.lock)) h.follows))
+  while_held ask n first last front back xs answer h = exchange_cause ask n 0 first last front back xs answer h
+
 after_hold : (node : SidecarNode) (store : Address) (after : Seats) (actor : ActorKey) (ask : StoreAsk) (said : Said) (first last : ℕ) (front back : List NodeEntry) (xs : List Exchange) (answer : ApiReply)
     → SpentAt (part_at node actor) said after → Told said front → AfterHold node store after actor ask said first last back xs answer → AnswerHasCause (part_at node actor) after (front ++ back) xs answer
-after_hold node store after actor ask (Ok (replies.Held n)) first last front back xs answer full says h =
-    subst (AnswerHasCause (part_at node actor) after (front ++ back) xs) (sym h.answered)
-    (held_cause (part_at node actor) after (front ++ back) xs (wanted_of ask) h.said h.got h.release.full
-    (λ e. reply_right replies.Stopped front back (subst (HasReply replies.Stopped) (sym h.release.entries) (step_reply (part_at node actor) (Release actor last) h.said replies.Stopped e)))
-    (store_cause (part_at node actor) after (front ++ back) (place_at store) actor (stamp_of node actor n) ask xs h.got h.exchange))
+after_hold node store after actor ask (Ok (replies.Held n)) first last front back xs answer full says h = while_held node store after actor ask n first last front back xs answer h
 after_hold node store after actor ask (Ok reply) first last front back xs answer full says h =
     subst (AnswerHasCause (part_at node actor) after (front ++ back) xs) (sym h.1) (refusal_cause (part_at node actor) after reply (front ++ back) xs (told_left (Ok reply) front back says))
 after_hold node store after actor ask (Err spent) first last front back xs answer full says h = subst (AnswerHasCause (part_at node actor) after (front ++ back) xs) (sym h.1) (inl (inl full.1))
@@ -211,7 +253,7 @@ state_cause node store after actor ask first last ns xs answer h =
 
 after_draw : (node : SidecarNode) (store : Address) (after : Seats) (actor : ActorKey) (ask : StoreAsk) (said : Said) (ns : List NodeEntry) (xs : List Exchange) (answer : ApiReply) → SpentAt (part_at node actor) said after → Told said ns → AfterDraw node store actor ask said xs answer → AnswerHasCause (part_at node actor) after ns xs answer
 after_draw node store after actor ask (Ok (replies.Drawn n)) ns xs answer full says h =
-    subst (AnswerHasCause (part_at node actor) after ns xs) (sym h.answered) (store_cause (part_at node actor) after ns (place_at store) actor (stamp_of node actor n) ask xs h.got h.exchange)
+    subst (AnswerHasCause (part_at node actor) after ns xs) (sym h.answered) (store_cause (part_at node actor) after ns (place_at store) actor (stamp_of node actor n) 0 ask xs h.got h.exchange)
 after_draw node store after actor ask (Ok reply) ns xs answer full says h = subst (AnswerHasCause (part_at node actor) after ns xs) (sym h.1) (refusal_cause (part_at node actor) after reply ns xs says)
 after_draw node store after actor ask (Err spent) ns xs answer full says h = subst (AnswerHasCause (part_at node actor) after ns xs) (sym h.1) (inl (inl full.1))
 
@@ -251,11 +293,11 @@ record_causes node store after (commands.Transact actor ops) first last ns xs an
 record_causes node store after (commands.GetState actor key) first last ns xs answer h = state_cause node store after actor (asks.GetState key) first last ns xs answer h
 record_causes node store after (commands.PutReminder actor name reminder) first last ns xs answer h = write_cause node store after actor (asks.PutReminder name reminder) ns xs answer h.1
 record_causes node store after (commands.GetReminder actor name) first last ns xs answer h =
-    let a = h.2 in subst (AnswerHasCause (part_at node actor) after ns xs) (sym a.answered) (store_cause (part_at node actor) after ns (place_at store) actor (stamp_of node actor 0) (asks.GetReminder name) xs a.got a.exchange)
+    let a = h.2 in subst (AnswerHasCause (part_at node actor) after ns xs) (sym a.answered) (store_cause (part_at node actor) after ns (place_at store) actor (stamp_of node actor 0) 0 (asks.GetReminder name) xs a.got a.exchange)
 record_causes node store after (commands.DeleteReminder actor name) first last ns xs answer h = write_cause node store after actor (asks.DeleteReminder name) ns xs answer h.1
 record_causes node store after (commands.SetTimer actor name timer) first last ns xs answer h = timers_cause node after actor (timers.Set actor name timer) first last ns xs answer h
 record_causes node store after (commands.DeleteTimer actor name) first last ns xs answer h = timers_cause node after actor (timers.Delete actor name) first last ns xs answer h
-record_causes node store after (commands.Invoke actor method chain least) first last ns xs answer h = absurd h
+record_causes node store after (commands.Invoke actor method chain least call) first last ns xs answer h = absurd h
 
 -- ---- entries
 
@@ -263,6 +305,7 @@ entries_then : (place : ℕ) (actor : ActorKey) (ms ns : List NodeEntry) → Are
 entries_then place actor [] ns a b = b
 entries_then place actor (OnPart part e ∷ ms) ns a b = (a.0, entries_then place actor ms ns a.1 b)
 entries_then place actor (OnBook part e ∷ ms) ns a b = (a.0, entries_then place actor ms ns a.1 b)
+entries_then place actor (OnCalls e ∷ ms) ns a b = absurd a
 
 part_entry : (place : ℕ) (actor : ActorKey) (event : PartEvent) (said : Said) → IsRecordEvent actor event → AreRecordEntries place actor (at_part place (one_entry event said))
 part_entry place actor event (Ok reply) h = ((refl, h), tt)
@@ -283,8 +326,20 @@ module _ (node : SidecarNode) (after : Seats) (actor : ActorKey) where
   holds_entries ns said (inl step) = step_entries (Hold actor) ns said step refl
   holds_entries ns said (inr none) = no_entries (part_at node actor) actor ns none.0
 
+  lock_entries : (store : Address) (ask : StoreAsk) (n : ℕ) (said : Said) (first last : ℕ) (ns : List NodeEntry) (xs : List Exchange) (answer : ApiReply) → AfterLock node store after actor ask n said first last ns xs answer → AreRecordEntries (part_at node actor) actor ns
+  lock_entries store ask n (Ok (replies.TableStep receipt changed)) first last ns xs answer h = step_entries (Release actor last) ns h.said h.release refl
+  lock_entries store ask n (Ok reply) first last ns xs answer h = let v = h.1 in step_entries (Release actor last) ns v.said v.release refl
+  lock_entries store ask n (Err spent) first last ns xs answer h = let v = h.1 in step_entries (Release actor last) ns v.said v.release refl
+
+  while_entries : (store : Address) (ask : StoreAsk) (n first last : ℕ) (ns : List NodeEntry) (xs : List Exchange) (answer : ApiReply) → WhileHeld node store after actor ask n first last ns xs answer → AreRecordEntries (part_at node actor) actor ns
+  while_entries store (asks.Transact ops) n first last ns xs answer h =
+      let p = part_at node actor in
+      subst (AreRecordEntries p actor) (sym h.entries)
+      (entries_then p actor h.front h.back (subst (AreRecordEntries p actor) (sym h.lock.entries) (part_entry p actor (Lock 0) h.said refl)) (lock_entries store (asks.Transact ops) n h.said first last h.back xs answer h.follows))
+  while_entries store ask n first last ns xs answer h = step_entries (Release actor last) ns h.said h.release refl
+
   hold_entries : (store : Address) (ask : StoreAsk) (said : Said) (first last : ℕ) (ns : List NodeEntry) (xs : List Exchange) (answer : ApiReply) → AfterHold node store after actor ask said first last ns xs answer → AreRecordEntries (part_at node actor) actor ns
-  hold_entries store ask (Ok (replies.Held n)) first last ns xs answer h = step_entries (Release actor last) ns h.said h.release refl
+  hold_entries store ask (Ok (replies.Held n)) first last ns xs answer h = while_entries store ask n first last ns xs answer h
   hold_entries store ask (Ok reply) first last ns xs answer h = no_entries (part_at node actor) actor ns h.0.entries
   hold_entries store ask (Err spent) first last ns xs answer h = no_entries (part_at node actor) actor ns h.0.entries
 
@@ -318,4 +373,4 @@ record_entries node store after (commands.GetReminder actor name) first last ns 
 record_entries node store after (commands.DeleteReminder actor name) first last ns xs answer h = write_entries node after actor store (asks.DeleteReminder name) ns xs answer h.1
 record_entries node store after (commands.SetTimer actor name timer) first last ns xs answer h = timers_entries node after actor (timers.Set actor name timer) first last ns xs answer refl h
 record_entries node store after (commands.DeleteTimer actor name) first last ns xs answer h = timers_entries node after actor (timers.Delete actor name) first last ns xs answer refl h
-record_entries node store after (commands.Invoke actor method chain least) first last ns xs answer h = absurd h
+record_entries node store after (commands.Invoke actor method chain least call) first last ns xs answer h = absurd h

@@ -1,15 +1,22 @@
 -- Worked examples of what replies come to.
-use Rattle.std.proofs.Common.{◌≡◌, ℕ, Ok, Err, true, false, refl}
+use Rattle.std.proofs.Common.{◌≡◌, ℕ, List, Ok, Err, true, false, refl}
+use Rattle.actor_names.specs.declared.actor_key.ActorKey.{ActorKey}
+use Rattle.state_rows.specs.declared.op.StateOp.{StateOp}
 use Rattle.step_gate.specs.declared.gate.Spent.{Spent}
 use Rattle.part_model.specs.declared.event.Reply.TheVariants as replies
 use Rattle.timer_book.specs.declared.event.TimerReply.TheVariants as book
+use Rattle.frame_wire.specs.declared.frame.Frame.TheVariants.{Command, FencedTx}
+use Rattle.frame_wire.specs.declared.store_command.Stamp.{Stamp}
+use Rattle.frame_wire.specs.declared.store_command.StoreCommand.TheVariants as commands
 use Rattle.frame_wire.specs.declared.store_answer.StoreAnswer.TheVariants as answers
 use Rattle.frame_wire.specs.declared.store_refusal.StoreRefusal.TheVariants as refused_by
 use Rattle.actors_api.specs.declared.reply.ApiReply.TheVariants as api
 use Rattle.actors_api.specs.declared.refusal.ApiRefusal.TheVariants as refusals
 use Rattle.exchanges.specs.declared.store_end.StoreEnd.TheVariants as ends
+use Rattle.sidecar_requests.specs.declared.ask.StoreAsk.TheVariants as asks
 use Rattle.sidecar_requests.specs.declared.ask.Wanted.TheVariants as wanted
-use Rattle.sidecar_requests.specs.Outcomes.{refused, refusal_of, store_answer, held_answer, timer_answer}
+use Rattle.sidecar_requests.specs.Asks.{store_frame}
+use Rattle.sidecar_requests.specs.Outcomes.{refused, refusal_of, store_answer, held_answer, unasked_answer, timer_answer}
 
 -- ---- the success of each request
 
@@ -52,3 +59,21 @@ spent_hides_memory e = refl
 
 spent_book_is_told : (e : Spent) → timer_answer (Ok replies.Stopped) (Err e) ≡ refused refusals.Spent
 spent_book_is_told e = refl
+
+-- ---- epochs
+
+write_is_fenced : (stamp : Stamp) (actor : ActorKey) (ops : List StateOp) → store_frame actor stamp 3 (asks.Transact ops) ≡ FencedTx 3 stamp actor ops
+write_is_fenced stamp actor ops = refl
+
+read_has_no_epoch : (stamp : Stamp) (actor : ActorKey) (key : List ℕ) → store_frame actor stamp 3 (asks.GetState key) ≡ Command (commands.Get actor key)
+read_has_no_epoch stamp actor key = refl
+
+earlier_epoch_is_told : held_answer wanted.Transaction (Ok replies.Released) (Ok (answers.Refused (refused_by.StaleEpoch 3))) ≡ refused (refusals.StoreRefused 14)
+earlier_epoch_is_told = refl
+
+-- a part that has stopped tells no epoch, and only a gate that took no Release goes before that
+stop_ends_write : unasked_answer (Ok replies.Stopped) (refusal_of replies.Stopped) ≡ refused refusals.Stopped
+stop_ends_write = refl
+
+spent_hides_stop : (e : Spent) → unasked_answer (Err e) (refusal_of replies.Stopped) ≡ refused refusals.Spent
+spent_hides_stop e = refl

@@ -1,10 +1,10 @@
 -- Requests that were served, in each case.
-use Rattle.std.proofs.Common.{◌≡◌, ◌≢◌, ◌≤◌, ◌∙◌, refl, sym, ap, subst, ℕ, List, [], ◌++◌, Ok, Err, inl, inr}
+use Rattle.std.proofs.Common.{◌≡◌, ◌≢◌, ◌≤◌, ◌∙◌, refl, sym, ap, subst, ℕ, Bool, List, [], ◌++◌, Ok, Err, inl, inr}
 use Rattle.step_gate.specs.declared.gate.Spent.{Spent}
 use Rattle.actor_names.specs.declared.actor_key.ActorKey.{ActorKey}
 use Rattle.actor_names.specs.declared.address.Address.{Address}
-use Rattle.part_model.specs.declared.event.PartEvent.TheVariants.{Hold, Release, Draw}
-use Rattle.part_model.specs.Receipts.{PartReply}
+use Rattle.part_model.specs.declared.event.PartEvent.TheVariants.{Hold, Release, Draw, Lock}
+use Rattle.part_model.specs.Receipts.{PartReply, ReceiptState}
 use Rattle.part_model.specs.declared.event.Reply.TheVariants as replies
 use Rattle.timer_book.specs.declared.event.TimerEvent.{TimerEvent}
 use Rattle.actors_api.specs.declared.reply.ApiReply.{ApiReply}
@@ -18,12 +18,14 @@ use Rattle.sidecar_node.specs.Nodes.{part_at, Acts, ActsAt, ActsAtBook, SpentAt,
 use Rattle.sidecar_node.proofs.Actings.{acts_then}
 use Rattle.exchanges.specs.Exchanges.{Exchange}
 use Rattle.exchanges.specs.Replies.{place_at}
-use Rattle.exchanges.specs.Asked.{Got, IsStoreExchange}
+use Rattle.exchanges.specs.Asked.{Got, IsFrameAsked}
+use Rattle.state_rows.specs.declared.op.StateOp.{StateOp}
 use Rattle.sidecar_requests.specs.declared.ask.StoreAsk.{StoreAsk}
+use Rattle.sidecar_requests.specs.declared.ask.StoreAsk.TheVariants.{Transact}
 use Rattle.sidecar_requests.specs.declared.ask.Wanted.{Wanted}
-use Rattle.sidecar_requests.specs.Asks.{store_command, wanted_of}
-use Rattle.sidecar_requests.specs.Outcomes.{BookSaid, refused, refusal_of, held_answer, timer_answer}
-use Rattle.sidecar_requests.specs.Serving.{IsIdle, Holds, stamp_of, AfterDraw, IsWriteServed, IsHeldExchange, AfterHold, IsStateServed, IsHeldCall, AfterTimerHold, IsTimerServed}
+use Rattle.sidecar_requests.specs.Asks.{store_frame, wanted_of}
+use Rattle.sidecar_requests.specs.Outcomes.{BookSaid, refused, refusal_of, held_answer, unasked_answer, timer_answer}
+use Rattle.sidecar_requests.specs.Serving.{IsIdle, Holds, stamp_of, AfterDraw, IsWriteServed, IsHeldExchange, IsHeldInVain, AfterLock, IsHeldWrite, WhileHeld, AfterHold, IsStateServed, IsHeldCall, AfterTimerHold, IsTimerServed}
 
 pub idle : (now : ℕ) → IsIdle now now [] []
 idle now = record { now = refl; entries = refl; exchanges = refl }
@@ -33,11 +35,11 @@ idle now = record { now = refl; entries = refl; exchanges = refl }
 module _ (node : SidecarNode) (store : Address) (before after : Seats) (actor : ActorKey) (ask : StoreAsk) where
   -- one exchange and one Release, of an equal key
   pub held_exchange :
-      (key : ActorKey) (wanted : Wanted) (n first last : ℕ) (got : Got) (said : Said) (xs : List Exchange) (answer : ApiReply)
-      → key ≡ actor → wanted ≡ wanted_of ask → IsStoreExchange (store_command actor (stamp_of node actor n) ask) (place_at store) xs got
+      (key : ActorKey) (wanted : Wanted) (n epoch first last : ℕ) (got : Got) (said : Said) (xs : List Exchange) (answer : ApiReply)
+      → key ≡ actor → wanted ≡ wanted_of ask → IsFrameAsked (store_frame actor (stamp_of node actor n) epoch ask) (place_at store) xs got
       → first ≤ last → ActsAt (part_at node key) (one_entry (Release key last) said) before after → SpentAt (part_at node key) said after → answer ≡ held_answer wanted said got
-      → (ns : List NodeEntry) × Acts ns before after × IsHeldExchange node store after actor ask n first last ns xs answer
-  held_exchange key wanted n first last got said xs answer same is exchange later acts full answered =
+      → (ns : List NodeEntry) × Acts ns before after × IsHeldExchange node store after actor ask n epoch first last ns xs answer
+  held_exchange key wanted n epoch first last got said xs answer same is exchange later acts full answered =
       let p = part_at node in (
         at_part (p actor) (one_entry (Release actor last) said),
         subst (λ (k : ActorKey). ActsAt (p k) (one_entry (Release k last) said) before after) same acts,
@@ -49,6 +51,41 @@ module _ (node : SidecarNode) (store : Address) (before after : Seats) (actor : 
           release = record { entries = refl; full = subst (λ (k : ActorKey). SpentAt (p k) said after) same full };
           answered = answered ∙ ap (λ (w : Wanted). held_answer w said got) is;
         },
+      )
+
+-- if state isn't written, the exchange is all that follows Held
+pub held_read : (node : SidecarNode) (store : Address) (after : Seats) (actor : ActorKey) (ask : StoreAsk) (n first last : ℕ) (ns : List NodeEntry) (xs : List Exchange) (answer : ApiReply) → ((ops : List StateOp) → ask ≢ Transact ops)
+    → IsHeldExchange node store after actor ask n 0 first last ns xs answer → WhileHeld node store after actor ask n first last ns xs answer
+held_read node store after actor (Transact ops) n first last ns xs answer h e = absurd (h ops refl)
+held_read node store after actor ask n first last ns xs answer h e = e
+
+-- one Release and no exchange
+pub held_in_vain :
+    (node : SidecarNode) (before after : Seats) (actor : ActorKey) (refusal : ApiRefusal) (first last : ℕ) (said : Said) (answer : ApiReply)
+    → first ≤ last → ActsAt (part_at node actor) (one_entry (Release actor last) said) before after → SpentAt (part_at node actor) said after → answer ≡ unasked_answer said refusal
+    → (ns : List NodeEntry) × Acts ns before after × IsHeldInVain node after actor refusal first last ns answer
+held_in_vain node before after actor refusal first last said answer later acts full answered = (
+  at_part (part_at node actor) (one_entry (Release actor last) said),
+  acts,
+  record { said = said; later = later; release = record { entries = refl; full = full }; answered = answered },
+)
+
+module _ (node : SidecarNode) (store : Address) (actor : ActorKey) (ask : StoreAsk) (n : ℕ) where
+  -- a reply to the Lock without a receipt
+  pub lock_refused : (after : Seats) (reply : PartReply) (first last : ℕ) (ns : List NodeEntry) (answer : ApiReply) → ((receipt : ReceiptState) (changed : Bool) → reply ≢ replies.TableStep receipt changed)
+      → IsHeldInVain node after actor (refusal_of reply) first last ns answer → AfterLock node store after actor ask n (Ok reply) first last ns [] answer
+  lock_refused after (replies.TableStep receipt changed) first last ns answer h vain = absurd (h receipt changed refl)
+  lock_refused after reply first last ns answer h vain = (refl, vain)
+
+  -- one Lock, and what followed
+  pub held_write : (before middle after : Seats) (said : Said) (first last : ℕ) (ns : List NodeEntry) (xs : List Exchange) (answer : ApiReply)
+      → ActsAt (part_at node actor) (one_entry (Lock 0) said) before middle → SpentAt (part_at node actor) said middle → Acts ns middle after → AfterLock node store after actor ask n said first last ns xs answer
+      → (ms : List NodeEntry) × Acts ms before after × IsHeldWrite node store after actor ask n first last ms xs answer
+  held_write before middle after said first last ns xs answer acts full then_ follows =
+      let front = at_part (part_at node actor) (one_entry (Lock 0) said) in (
+        front ++ ns,
+        acts_then front ns before middle after acts then_,
+        record { front = front; back = ns; said = said; middle = middle; entries = refl; lock = record { entries = refl; full = full }; kept = then_; follows = follows },
       )
 
 module _ (node : SidecarNode) (store : Address) (after : Seats) (actor : ActorKey) (ask : StoreAsk) where

@@ -2,4 +2,5 @@ mod Held
 mod Causes
 mod Examples
 mod Requests
+mod Events
 mod Sessions

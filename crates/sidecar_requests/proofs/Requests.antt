@@ -11,11 +11,11 @@ use Rattle.actors_api.specs.declared.side.Side.{Side}
 use Rattle.sidecar_node.specs.declared.node.SidecarNode.{SidecarNode}
 use Rattle.sidecar_node.specs.declared.node.Seats.{Seats}
 use Rattle.sidecar_node.specs.Entries.{NodeEntry}
-use Rattle.sidecar_node.specs.Nodes.{host_of, part_at}
+use Rattle.sidecar_node.specs.Nodes.{host_of}
 use Rattle.exchanges.specs.Exchanges.{Exchange, Dialling}
 use Rattle.actor_calls.specs.declared.served.Served.{Served}
 use Rattle.actor_calls.specs.declared.served.Served.TheVariants as served
-use Rattle.actor_calls.specs.Serving.{IsInvoked, FollowsRead, IsServed}
+use Rattle.actor_calls.specs.Serving.{IsCallAnswered, FollowsRead, IsServed}
 use Rattle.sidecar_requests.specs.Serving.{IsRecord, IsRecordServed}
 use Rattle.sidecar_requests.specs.Requests.{FollowsReading, IsRequestServed}
 
@@ -46,7 +46,7 @@ module _ (node : SidecarNode) (app : Address) (side : Side) (request : HttpReque
   module _ (before : Seats) where
     hands_back : (read : Result ApiCommand ApiRefusal) (first last : ℕ) (ns : List NodeEntry) (xs ys : List Exchange) (outcome : Served)
         → FollowsRead node before app side request read first last ns xs ys outcome → HandsBackRecord outcome
-    hands_back (Ok (commands.Invoke actor method chain least)) first last ns xs ys outcome f = subst HandsBackRecord (sym f.is) tt
+    hands_back (Ok (commands.Invoke actor method chain least call)) first last ns xs ys outcome f = subst HandsBackRecord (sym f.is) tt
     hands_back (Ok (commands.Transact actor ops)) first last ns xs ys outcome f = subst HandsBackRecord (sym f.is) tt
     hands_back (Ok (commands.GetState actor key)) first last ns xs ys outcome f = subst HandsBackRecord (sym f.is) tt
     hands_back (Ok (commands.PutReminder actor name reminder)) first last ns xs ys outcome f = subst HandsBackRecord (sym f.is) tt
@@ -64,12 +64,10 @@ module _ (node : SidecarNode) (app : Address) (side : Side) (request : HttpReque
 
     answered_by : (read : Result ApiCommand ApiRefusal) (first last : ℕ) (ns : List NodeEntry) (xs ys : List Exchange) (reply : ApiReply)
         → FollowsRead node after app side request read first last ns xs ys (served.Answered reply) → FollowsReading node app store side request after read first last ns xs ys [] reply
-    answered_by (Ok (commands.Invoke actor method chain least)) first last ns xs ys reply f =
+    answered_by (Ok (commands.Invoke actor method chain least call)) first last ns xs ys reply f =
         record {
-          es = f.es;
-          entries = f.entries;
           store_idle = refl;
-          invoked = subst (λ (a : ApiReply). IsInvoked (part_at node actor) after (host_of node).member app (record { actor = actor; method = method; chain = chain; least = least }) request side first last f.es xs ys a) (sym (ap (reply_or reply) f.is)) f.invoked;
+          answered = subst (λ (a : ApiReply). IsCallAnswered node after app side request call (record { actor = actor; method = method; chain = chain; least = least }) first last ns xs ys a) (sym (ap (reply_or reply) f.is)) f.answered;
         }
     answered_by (Ok (commands.Transact actor ops)) first last ns xs ys reply f = absurd (subst IsAnswer f.is tt)
     answered_by (Ok (commands.GetState actor key)) first last ns xs ys reply f = absurd (subst IsAnswer f.is tt)
@@ -98,7 +96,7 @@ module _ (node : SidecarNode) (app : Address) (side : Side) (request : HttpReque
 
       recorded_by : (read : Result ApiCommand ApiRefusal) → FollowsRead node before app side request read first middle ms xs ys (served.Other command) → IsRecordServed node store after command middle last ns zs answer
           → FollowsReading node app store side request after read first last (ms ++ ns) xs ys zs answer
-      recorded_by (Ok (commands.Invoke actor method chain least)) f r = absurd (subst IsHandedBack f.is tt)
+      recorded_by (Ok (commands.Invoke actor method chain least call)) f r = absurd (subst IsHandedBack f.is tt)
       recorded_by (Ok (commands.Transact actor ops)) f r = (f.app, f.peers, renamed (commands.Transact actor ops) (ap (command_or command) f.is) f.now f.entries r)
       recorded_by (Ok (commands.GetState actor key)) f r = (f.app, f.peers, renamed (commands.GetState actor key) (ap (command_or command) f.is) f.now f.entries r)
       recorded_by (Ok (commands.PutReminder actor name reminder)) f r = (f.app, f.peers, renamed (commands.PutReminder actor name reminder) (ap (command_or command) f.is) f.now f.entries r)

@@ -1,5 +1,5 @@
 -- The requests of a session add up.
-use Rattle.std.proofs.Common.{◌≡◌, ◌∙◌, refl, sym, ap, subst, append_assoc, inl, inr, ℕ, List, [], ◌∷◌, ◌++◌, Option, Result}
+use Rattle.std.proofs.Common.{◌≡◌, ◌≢◌, ◌∙◌, refl, sym, ap, subst, append_assoc, inl, inr, ℕ, List, [], ◌∷◌, ◌++◌, Option, Result}
 use Rattle.std.specs.Prelude.{IfOk}
 use Rattle.std.proofs.lemmas.List.{append-nil}
 use Rattle.lists_and_limits.specs.declared.memory.OutOfMemory.{OutOfMemory}
@@ -8,20 +8,28 @@ use Rattle.actor_ports.specs.Traffic.{Traffic}
 use Rattle.http_edge.specs.declared.message.HttpResponse.{HttpResponse}
 use Rattle.http_session.specs.Rounds.{Round, AreRounds}
 use Rattle.http_session.specs.Sessions.{IsSession}
+use Rattle.actors_api.specs.declared.reply.ApiReply.{ApiReply}
+use Rattle.actors_api.specs.declared.reply.ApiReply.TheVariants.{Made, Unanswered}
 use Rattle.actors_api.specs.declared.side.Side.{Side}
 use Rattle.actors_api.specs.Responses.{response_of}
 use Rattle.sidecar_node.specs.Nodes.{Acts}
 use Rattle.sidecar_node.proofs.Actings.{acts_none, acts_then}
 use Rattle.exchanges.specs.Exchanges.{Exchange}
 use Rattle.exchanges.proofs.Diallings.{none_made, dialling_then}
-use Rattle.sidecar_requests.specs.Sessions.{Dialler, Standing, Stays, Exchanged, Deed, Account, account, all_of, edge_response, Does, IsAnswered, SessionDoes}
+use Rattle.sidecar_requests.specs.Sessions.{Dialler, Standing, Stays, Exchanged, Deed, Account, account, all_of, edge_response, Does, Sends, IsAnswered, SessionDoes}
 
 -- ---- one request
+
+-- an answer whose response isn't made yet
+pub sends_other : (side : Side) (answer : ApiReply) (got : Result HttpResponse OutOfMemory) → ((response : HttpResponse) → answer ≢ Made response) → answer ≢ Unanswered → IfOk got (λ r. r ≡ response_of side answer) → Sends side answer got
+sends_other side (Made response) got made none h = absurd (made response refl)
+sends_other side Unanswered got made none h = absurd (none refl)
+sends_other side answer got made none h = h
 
 -- a request was served, and noted behind those before it
 pub is_answered :
     (side : Side) (s t : Standing) (before : List Deed) (d : Deed) (got : Result HttpResponse OutOfMemory)
-    → Does side s d t → IfOk got (λ r. r ≡ response_of side d.answer) → IsAnswered side (account s before) d.request got (account t (before ++ d ∷ []))
+    → Does side s d t → Sends side d.answer got → IsAnswered side (account s before) d.request got (account t (before ++ d ∷ []))
 is_answered side s t before d got does response = record { deed = d; asked = refl; does = does; noted = refl; response = response }
 
 -- ---- requests add up

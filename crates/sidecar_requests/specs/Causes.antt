@@ -22,7 +22,7 @@ use Rattle.actors_api.specs.declared.reply.ApiReply.TheVariants as api
 use Rattle.actors_api.specs.declared.refusal.ApiRefusal.{ApiRefusal}
 use Rattle.actors_api.specs.declared.refusal.ApiRefusal.TheVariants as refusals
 use Rattle.sidecar_node.specs.declared.node.Seats.{Seats}
-use Rattle.sidecar_node.specs.Entries.{NodeEntry, OnPart, OnBook}
+use Rattle.sidecar_node.specs.Entries.{NodeEntry, OnPart, OnBook, OnCalls}
 use Rattle.sidecar_node.specs.Nodes.{Acts, IsFull, IsBookFull}
 use Rattle.exchanges.specs.Exchanges.{Exchange, total_rise}
 use Rattle.exchanges.specs.Asked.{IsReadWhole}
@@ -33,12 +33,14 @@ abbrev pub HasReply : PartReply → List NodeEntry → Type 0
 HasReply reply [] = ⊥
 HasReply reply (OnPart part e ∷ ns) = (e.reply ≡ reply) ⊎ HasReply reply ns
 HasReply reply (OnBook book e ∷ ns) = HasReply reply ns
+HasReply reply (OnCalls e ∷ ns) = HasReply reply ns
 
 -- some entry on a book of timers had this reply
 abbrev pub HasBookReply : TimerReply → List NodeEntry → Type 0
 HasBookReply reply [] = ⊥
 HasBookReply reply (OnPart part e ∷ ns) = HasBookReply reply ns
 HasBookReply reply (OnBook book e ∷ ns) = (e.reply ≡ reply) ⊎ HasBookReply reply ns
+HasBookReply reply (OnCalls e ∷ ns) = HasBookReply reply ns
 
 -- the store's frame with this answer
 abbrev pub IsAnswer : StoreAnswer → List ℕ → Type 0
@@ -56,7 +58,7 @@ IsRefusal code bytes = (r : StoreRefusal) × IsAnswer (answers.Refused r) bytes 
 
 -- the actor of a command
 abbrev pub actor_of : ApiCommand → ActorKey
-actor_of (commands.Invoke actor method chain least) = actor
+actor_of (commands.Invoke actor method chain least call) = actor
 actor_of (commands.Transact actor ops) = actor
 actor_of (commands.GetState actor key) = actor
 actor_of (commands.PutReminder actor name reminder) = actor
@@ -65,11 +67,12 @@ actor_of (commands.DeleteReminder actor name) = actor
 actor_of (commands.SetTimer actor name timer) = actor
 actor_of (commands.DeleteTimer actor name) = actor
 
--- the actor is held and released, or a number is drawn
+-- The actor is held and released, or a number is drawn. A Lock is of version 0, so it changes nothing.
 abbrev pub IsRecordEvent : ActorKey → PartEvent → Type 0
 IsRecordEvent actor (events.Hold key) = key ≡ actor
 IsRecordEvent actor (events.Release key now) = key ≡ actor
 IsRecordEvent actor events.Draw = Unit {0}
+IsRecordEvent actor (events.Lock version) = version ≡ 0
 IsRecordEvent actor event = ⊥
 
 -- a timer of the actor is registered or removed
@@ -83,6 +86,7 @@ abbrev pub AreRecordEntries : ℕ → ActorKey → List NodeEntry → Type 0
 AreRecordEntries place actor [] = Unit {0}
 AreRecordEntries place actor (OnPart part e ∷ ns) = ((part ≡ place) × IsRecordEvent actor e.event) × AreRecordEntries place actor ns
 AreRecordEntries place actor (OnBook book e ∷ ns) = ((book ≡ place) × IsRecordCall actor e.event) × AreRecordEntries place actor ns
+AreRecordEntries place actor (OnCalls e ∷ ns) = ⊥
 
 -- ---- causes
 
@@ -97,9 +101,18 @@ module _ (place : ℕ) (after : Seats) where
     pub acts : Acts back middle after
     pub full : IsBookFull place middle
 
+  -- the same of the part's seat
+  pub record PartWasFull (ns : List NodeEntry) : Type 0 where
+    pub middle : Seats
+    pub front : List NodeEntry
+    pub back : List NodeEntry
+    pub entries : ns ≡ front ++ back
+    pub acts : Acts back middle after
+    pub full : IsFull place middle
+
   -- Spent: the part or the book said so, or the gate of one has taken all the entries that it can
   abbrev pub IsSpentSo : List NodeEntry → Type 0
-  IsSpentSo ns = (IsFull place after ⊎ BookWasFull ns) ⊎ (((count : ℕ) × HasReply (replies.Spent count) ns) ⊎ ((count : ℕ) × HasBookReply (book.Spent count) ns))
+  IsSpentSo ns = (IsFull place after ⊎ (PartWasFull ns ⊎ BookWasFull ns)) ⊎ (((count : ℕ) × HasReply (replies.Spent count) ns) ⊎ ((count : ℕ) × HasBookReply (book.Spent count) ns))
 
   -- The cause of a refusal. Those that aren't named here answer no such request.
   abbrev pub HasCause : List NodeEntry → List Exchange → ApiRefusal → Type 0

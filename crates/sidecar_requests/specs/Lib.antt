@@ -3,4 +3,5 @@ pub mod Outcomes
 pub mod Serving
 pub mod Causes
 pub mod Requests
+pub mod Events
 pub mod Sessions

@@ -25,8 +25,8 @@ BookSaid = Result TimerReply Spent
 abbrev pub refused : ApiRefusal → ApiReply
 refused refusal = api.Refused refusal
 
--- The refusal that the reply to a Hold or to a Draw is, by its row. No such event has any other reply that refuses it;
--- for those the free answer stands, so that each other row is exact.
+-- The refusal that the reply to a Hold, a Draw or a Lock is, by its row. No such event has any other reply that refuses
+-- it; for those the free answer stands, so that each other row is exact.
 abbrev pub refusal_of : PartReply → ApiRefusal
 refusal_of replies.NotActive = refusals.NotActive
 refusal_of (replies.Spent count) = refusals.Spent
@@ -80,6 +80,11 @@ abbrev pub held_answer : Wanted → Said → Got → ApiReply
 held_answer w (Err spent) got = refused refusals.Spent
 held_answer w (Ok reply) (Err ends.OutOfMemory) = refused refusals.OutOfMemory
 held_answer w (Ok reply) got = released_answer reply (store_answer w got)
+
+-- The answer if a hold ended without an exchange, because of this refusal: only a gate that took no Release goes before it.
+abbrev pub unasked_answer : Said → ApiRefusal → ApiReply
+unasked_answer (Err spent) refusal = refused refusals.Spent
+unasked_answer (Ok reply) refusal = refused refusal
 
 -- ---- books of timers
 

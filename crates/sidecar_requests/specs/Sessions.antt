@@ -1,5 +1,6 @@
 -- The requests of one connection of a sidecar, served one after the other. Own.
-use Rattle.std.specs.Prelude.{◌≡◌, ℕ, List, [], ◌∷◌, ◌++◌, option_map, Option, Result, IfOk}
+use Rattle.std.specs.Prelude.{◌≡◌, ℕ, List, [], ◌∷◌, ◌++◌, option_map, Option, Result, Ok, IfOk}
+use Rattle.std.specs.Result.{IsErr}
 use Rattle.lists_and_limits.specs.declared.memory.OutOfMemory.{OutOfMemory}
 use Rattle.actor_names.specs.declared.address.Address.{Address}
 use Rattle.actor_ports.specs.Traffic.{Traffic, Dialled}
@@ -10,7 +11,7 @@ use Rattle.http_edge.specs.declared.error.EdgeError.{EdgeError}
 use Rattle.http_session.specs.Sessions.{IsSession}
 use Rattle.actors_api.specs.declared.refusal.ApiRefusal.{ApiRefusal}
 use Rattle.actors_api.specs.declared.reply.ApiReply.{ApiReply}
-use Rattle.actors_api.specs.declared.reply.ApiReply.TheVariants.{Refused}
+use Rattle.actors_api.specs.declared.reply.ApiReply.TheVariants.{Made, Unanswered, Refused}
 use Rattle.actors_api.specs.declared.side.Side.{Side}
 use Rattle.actors_api.specs.Refusals.{edge_refusal}
 use Rattle.actors_api.specs.Responses.{response_of}
@@ -107,13 +108,20 @@ module _ (side : Side) where
     pub store : Exchanged d.store s.store t.store
     pub served : IsRequestServed s.node s.app_at s.store_at side d.request t.seats s.shown t.shown d.entries d.app d.peers d.store d.answer
 
-  -- a request was served and noted, and its response is that of its answer, unless memory ran out for it
+  -- what goes out of an answer: a response that is made already, or none if there was no memory for one; any other
+  -- answer's response, unless memory runs out for it
+  abbrev pub Sends : ApiReply → Result HttpResponse OutOfMemory → Type 0
+  Sends (Made response) got = got ≡ Ok response
+  Sends Unanswered got = IsErr got
+  Sends answer got = IfOk got (λ r. r ≡ response_of side answer)
+
+  -- a request was served and noted, and what goes out is that of its answer
   pub record IsAnswered (s : Account) (request : HttpRequest) (got : Result HttpResponse OutOfMemory) (t : Account) : Type 0 where
     pub deed : Deed
     pub asked : deed.request ≡ request
     pub does : Does s.at deed t.at
     pub noted : t.deeds ≡ s.deeds ++ deed ∷ []
-    pub response : IfOk got (λ r. r ≡ response_of side deed.answer)
+    pub response : Sends deed.answer got
 
   -- ---- a session
 

@@ -1,9 +1,9 @@
 // What a request asks of the store.
 ghost use Rattle.std.specs.Prelude.{◌≡◌};
-ghost use Rattle.sidecar_requests.specs.Asks.{store_command, wanted_of};
+ghost use Rattle.sidecar_requests.specs.Asks.{wanted_of};
 
-use actor_names::{ActorKey, RecordName};
-use frame_wire::{Stamp, StateOps, StoreCommand};
+use actor_names::RecordName;
+use frame_wire::StateOps;
 use reminder_rows::Reminder;
 use state_rows::StateKey;
 
@@ -54,28 +54,6 @@ impl StoreAsk {
             StoreAsk::PutReminder { .. } => Wanted::PutReminder,
             StoreAsk::GetReminder { .. } => Wanted::Reminder,
             StoreAsk::DeleteReminder { .. } => Wanted::DeleteReminder,
-        }
-    }
-
-    // The command for the actor. It takes no memory.
-    pub(crate) fn into_command(self, actor: ActorKey, stamp: Stamp) -> StoreCommand
-        ensures { result ≡ store_command actor stamp self }
-    {
-        match self {
-            StoreAsk::Transact { ops } => StoreCommand::Tx { stamp, actor, ops },
-            StoreAsk::GetState { key } => StoreCommand::Get { actor, key },
-            StoreAsk::PutReminder { name, reminder } => StoreCommand::PutReminder {
-                stamp,
-                actor,
-                name,
-                reminder,
-            },
-            StoreAsk::GetReminder { name } => StoreCommand::GetReminder { actor, name },
-            StoreAsk::DeleteReminder { name } => StoreCommand::DeleteReminder {
-                stamp,
-                actor,
-                name,
-            },
         }
     }
 }

@@ -2,8 +2,8 @@
 ghost use Rattle.std.specs.Prelude.{◌≡◌, List};
 ghost use Rattle.exchanges.specs.Exchanges.{Exchange, Dialling};
 ghost use Rattle.exchanges.specs.Replies.{place_at};
-ghost use Rattle.exchanges.specs.Asked.{IsStoreExchange};
-ghost use Rattle.sidecar_requests.specs.Asks.{store_command};
+ghost use Rattle.exchanges.specs.Asked.{IsFrameAsked};
+ghost use Rattle.sidecar_requests.specs.Asks.{store_frame};
 ghost use Rattle.sidecar_requests.specs.Serving.{stamp_of, IsAsked};
 
 use crate::ask::StoreAsk;
@@ -11,8 +11,8 @@ use crate::outcomes::store_answer;
 use actor_names::{ActorKey, Address};
 use actor_ports::Dial;
 use actors_api::ApiReply;
-use exchanges::{StoreEnd, ask_store};
-use frame_wire::{Stamp, StoreAnswer};
+use exchanges::{StoreEnd, ask_fenced, ask_store};
+use frame_wire::{Stamp, StoreAnswer, StoreCommand};
 use sidecar_node::SidecarNode;
 use std::alloc::Global;
 
@@ -29,23 +29,44 @@ fn stamp_of(node: &SidecarNode, actor: &ActorKey, n: u64) -> Stamp
     }
 }
 
-/// Asks the store, with this number in the stamp of a command that writes.
+/// Asks the store, with this number in the stamp of a command that writes. One that writes state is of this epoch.
 pub(crate) fn ask_with<L: Dial>(
     alloc: Global,
     node: &SidecarNode,
     actor: ActorKey,
     ask: StoreAsk,
     n: u64,
+    epoch: u64,
     store: &mut L,
     at: &Address,
 ) -> Result<StoreAnswer, StoreEnd>
     ensures { (xs : List Exchange)
-        × IsStoreExchange (store_command actor (stamp_of node.now actor n) ask) (place_at at.now) xs result
+        × IsFrameAsked (store_frame actor (stamp_of node.now actor n) epoch ask) (place_at at.now) xs result
         × Dialling xs (L.dialled store.old) (L.dialled store.new) (L.dial_faults store.old) (L.dial_faults store.new) }
 {
     let stamp = stamp_of(node, &actor, n);
-    let command = ask.into_command(actor, stamp);
-    ask_store(alloc, store, at, command)
+    match ask {
+        StoreAsk::Transact { ops } => ask_fenced(alloc, store, at, epoch, stamp, actor, ops),
+        StoreAsk::GetState { key } => {
+            ask_store(alloc, store, at, StoreCommand::Get { actor, key })
+        }
+        StoreAsk::PutReminder { name, reminder } => {
+            let command = StoreCommand::PutReminder {
+                stamp,
+                actor,
+                name,
+                reminder,
+            };
+            ask_store(alloc, store, at, command)
+        }
+        StoreAsk::GetReminder { name } => {
+            ask_store(alloc, store, at, StoreCommand::GetReminder { actor, name })
+        }
+        StoreAsk::DeleteReminder { name } => {
+            let command = StoreCommand::DeleteReminder { stamp, actor, name };
+            ask_store(alloc, store, at, command)
+        }
+    }
 }
 
 /// The same, and what the exchange comes to.
@@ -62,6 +83,6 @@ pub(crate) fn serve_asked<L: Dial>(
         × Dialling xs (L.dialled store.old) (L.dialled store.new) (L.dial_faults store.old) (L.dial_faults store.new) }
 {
     let wanted = ask.wanted();
-    let got = ask_with(alloc, node, actor, ask, n, store, at);
+    let got = ask_with(alloc, node, actor, ask, n, 0, store, at);
     store_answer(wanted, got)
 }

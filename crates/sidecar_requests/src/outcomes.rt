@@ -1,6 +1,6 @@
 // What replies of parts, of books of timers and of the store come to.
 ghost use Rattle.std.specs.Prelude.{◌≡◌};
-ghost use Rattle.sidecar_requests.specs.Outcomes.{refused, refusal_of, done_answer, missing_answer, told_answer, store_answer, released_answer, held_answer, book_answer, kept_answer, timer_answer};
+ghost use Rattle.sidecar_requests.specs.Outcomes.{refused, refusal_of, done_answer, missing_answer, told_answer, store_answer, released_answer, held_answer, unasked_answer, book_answer, kept_answer, timer_answer};
 
 use crate::ask::Wanted;
 use actors_api::{ApiRefusal, ApiReply};
@@ -17,7 +17,7 @@ pub(crate) fn refused(refusal: ApiRefusal) -> ApiReply
     ApiReply::Refused { refusal }
 }
 
-// The refusal that the reply to a Hold or a Draw is.
+// The refusal that the reply to a Hold, a Draw or a Lock is.
 pub(crate) fn refusal_of(reply: PartReply) -> ApiRefusal
     ensures { result ≡ refusal_of reply }
 {
@@ -119,6 +119,16 @@ pub(crate) fn held_answer(
             Err(StoreEnd::OutOfMemory) => refused(ApiRefusal::OutOfMemory),
             other => released_answer(&reply, store_answer(wanted, other)),
         },
+    }
+}
+
+/// The answer after a hold without an exchange: a gate that took no entry goes first, then what refused it.
+pub(crate) fn unasked_answer(said: Result<PartReply, Spent>, refusal: ApiRefusal) -> ApiReply
+    ensures { result ≡ unasked_answer said refusal }
+{
+    match said {
+        Err(_) => refused(ApiRefusal::Spent),
+        Ok(_) => refused(refusal),
     }
 }
 

@@ -1,6 +1,6 @@
 // Steps on an actor's part.
 ghost use Rattle.std.specs.Prelude.{◌≡◌, ◌<◌, ◌≤◌, length, IfOk};
-ghost use Rattle.part_model.specs.declared.event.PartEvent.TheVariants.{Hold, Release, Draw};
+ghost use Rattle.part_model.specs.declared.event.PartEvent.TheVariants.{Hold, Release, Draw, Lock};
 ghost use Rattle.sidecar_node.specs.Entries.{one_entry};
 ghost use Rattle.sidecar_node.specs.Nodes.{part_gates, part_at, IsSeatsOf, ActsAt, SpentAt};
 
@@ -79,4 +79,20 @@ pub(crate) fn draw_step<R: Wait>(
 {
     let part = node.part_of(actor);
     node.step_part(rt, seats, part, PartEvent::Draw)
+}
+
+/// One Lock of version 0 on the actor's part. No part has seen less than 0, so it changes nothing; the part tells its receipt.
+pub(crate) fn fence_step<R: Wait>(
+    rt: &R,
+    node: &SidecarNode,
+    seats: &mut Seats,
+    actor: &ActorKey,
+) -> Result<PartReply, Spent>
+    requires { IsSeatsOf node.now seats.old }
+    ensures seats { IsSeatsOf node.now seats.new }
+    ensures entry { ActsAt (part_at node.now actor.now) (one_entry (Lock 0) result) seats.old seats.new }
+    ensures spent { SpentAt (part_at node.now actor.now) result seats.new }
+{
+    let part = node.part_of(actor);
+    node.step_part(rt, seats, part, PartEvent::Lock { version: 0 })
 }

@@ -1,7 +1,5 @@
 use Rattle.std.proofs.Common.{refl, sym, ◌∙◌, inl, inr, []}
-use Rattle.sidecar_node.proofs.Actings.{acts_none}
 use Rattle.exchanges.proofs.Diallings.{none_made}
-use Rattle.actor_calls.proofs.Servings.{idle}
 use Rattle.actor_calls.proofs.Acting.{none_kept}
 use Rattle.actor_calls.proofs.hopping.hop_once.Goals as goal
 
@@ -19,12 +17,12 @@ returns-then-eq-clause-hop g c =
 
 pub returns-clause-hop : goal.returns-clause-hop
 returns-clause-hop g c =
-    let p = c.call_peer.ensures in (
+    let f = c.forward.ensures.forwarded in (
+      f.0,
       [],
-      [],
-      p.0,
-      acts_none c.args.seats,
+      f.1,
+      f.2,
       none_made _ _,
-      p.2,
-      inr (sym c.eq.ensures ∙ c.if-eq.false, idle _, p.1),
+      f.3,
+      inr (sym c.eq.ensures ∙ c.if-eq.false, refl, refl, f.4),
     )

@@ -1,6 +1,4 @@
 use Rattle.std.proofs.Common.{refl, []}
-use Rattle.sidecar_node.specs.Entries.{at_part}
-use Rattle.sidecar_node.specs.Nodes.{part_at}
 use Rattle.sidecar_node.proofs.Actings.{acts_none}
 use Rattle.exchanges.proofs.Diallings.{none_made}
 use Rattle.actor_calls.proofs.Servings.{follows_command}
@@ -8,14 +6,14 @@ use Rattle.actor_calls.proofs.serving.serve_command.Goals as goal
 
 pub returns-in-Invoke-clause-follows : goal.returns-in-Invoke-clause-follows
 returns-in-Invoke-clause-follows g c =
-    let i = c.serve_invoke-seats.ensures.invoked in (
-      at_part (part_at c.args.node.now c.in-Invoke.actor) i.0,
+    let i = c.serve_named-seats.ensures.answered in (
+      i.0,
       i.1,
       i.2,
       i.3,
       i.4,
       i.5,
-      rw c.in-Invoke.is (record { es = i.0; answer = c.serve_invoke-seats.result.1; entries = refl; invoked = i.6; is = refl }),
+      rw c.in-Invoke.is (record { answer = c.serve_named-seats.result.1; answered = i.6; is = refl }),
     )
 
 pub returns-in_default-clause-follows : goal.returns-in_default-clause-follows

@@ -15,7 +15,7 @@ loop-part-preserved g c =
       seats = c.call_part-said.ensures.seats;
       stops = (
         h.0 ++ said ∷ [],
-        stops_more c.loop-part.part h.0 said c.args.seats c.loop-part.seats c.call_part-said.new.seats h.1 c.call_part-said.ensures.steps c.call_part-said.ensures.books,
+        stops_more c.loop-part.part h.0 said c.args.seats c.loop-part.seats c.call_part-said.new.seats h.1 c.call_part-said.ensures.steps c.call_part-said.ensures.others,
         c.first_of-spent.ensures ∙ (ap (λ (x : Option Spent). first_or x said) h.2 ∙ sym (first_spent-push h.0 said)),
       );
     }

@@ -13,20 +13,20 @@ returns-in-Err-clause-turn g c = λ before.
     let deed : Deed = record { request = c.args.request.now; entries = s.0; app = s.1; peers = s.2; store = s.3; answer = step.result.1 } in (
       deed,
       (
-        c.write_api.result,
-        is_answered c.args.side (look c.args.seats c.args.links.now c.args.clock.now) (look step.result.0 step.new.links step.new.clock) before deed c.write_api.result
-            (record { stays = record { node = refl; app_at = step.ensures.places.0; store_at = step.ensures.places.1 }; acts = s.4; app = s.5; peers = s.6; store = s.7; served = s.8 }) c.write_api.ensures,
+        c.response_of.result,
+        is_answered c.args.side (look c.args.seats c.args.links.now c.args.clock.now) (look step.result.0 step.new.links step.new.clock) before deed c.response_of.result
+            (record { stays = record { node = refl; app_at = step.ensures.places.0; store_at = step.ensures.places.1 }; acts = s.4; app = s.5; peers = s.6; store = s.7; served = s.8 }) c.response_of.ensures,
         over_nothing _,
       ),
     )
 
-pub returns-clause-turn : goal.returns-clause-turn
-returns-clause-turn g c = λ before.
+pub returns-in-Ok-clause-turn : goal.returns-in-Ok-clause-turn
+returns-in-Ok-clause-turn g c = λ before.
     let look = standing g.L.Dial.dialled g.L.Dial.dial_faults g.K.Clock.shown c.args.node.now in
     let step = c.serve_one-seats in
     let s = step.ensures.served in
     let old = look c.args.seats c.args.links.now c.args.clock.now in
     let new = look step.result.0 step.new.links step.new.clock in
     let deed : Deed = record { request = c.args.request.now; entries = s.0; app = s.1; peers = s.2; store = s.3; answer = step.result.1 } in
-    let answered = is_answered c.args.side old new before deed c.write_api.result (record { stays = record { node = refl; app_at = step.ensures.places.0; store_at = step.ensures.places.1 }; acts = s.4; app = s.5; peers = s.6; store = s.7; served = s.8 }) c.write_api.ensures in
+    let answered = is_answered c.args.side old new before deed c.response_of.result (record { stays = record { node = refl; app_at = step.ensures.places.0; store_at = step.ensures.places.1 }; acts = s.4; app = s.5; peers = s.6; store = s.7; served = s.8 }) c.response_of.ensures in
     (deed, turn_written (IsAnswered c.args.side) (account old before) (account new (before ++ deed ∷ [])) c.args.request.now _ _ c.in-Ok.response c.write_sent-written.result (rw c.in-Ok.is at answered) c.write_sent-written.ensures.writes)

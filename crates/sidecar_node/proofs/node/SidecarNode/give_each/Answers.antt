@@ -29,5 +29,5 @@ loop-part-preserved g c =
       many = omega (arith, length-append c.loop-part.saids.items (said ∷ []));
       room = omega arith;
       gives = subst (λ (xs : List Said). GivesEach (part_event c.args.event.now) xs c.args.seats.now c.call_part-said.new.seats) (sym c.push_reserved.ensures.items)
-          (gives_more c.loop-part.part (part_event c.args.event.now) c.loop-part.saids.items said c.args.seats.now c.loop-part.seats c.call_part-said.new.seats inv.many inv.gives steps c.call_part-said.ensures.books);
+          (gives_more c.loop-part.part (part_event c.args.event.now) c.loop-part.saids.items said c.args.seats.now c.loop-part.seats c.call_part-said.new.seats inv.many inv.gives steps c.call_part-said.ensures.others);
     }

@@ -5,4 +5,5 @@ pub returns-clause-seats : goal.returns-clause-seats
 returns-clause-seats c = record {
   parts = new_seats _ _ _ _ c.in_ok-part_gates.ensures.new;
   books = new_seats _ _ _ _ c.in_ok-book_gates.ensures.new;
+  calls = c.in_ok-calls_gate.ensures.seat_of;
 }
