@@ -137,7 +137,7 @@ fn sidecar<R: Threads + Wait + Sync, I: Source, W: Sink, N: Dial, T: Clock, H: H
 /// server, 10 the script exceeds its limit of 67,108,864 bytes or 1,000,000 lines, 11 the placement wasn't heard or refused
 /// the sidecar, 12 the application gave no configuration, 13 the store refused the sidecar's boot.
 /// `replay`, `schedule` and `drill` are described at `run_plain`. `placement`, with `--journal PATH`, `--listen ADDR` and
-/// perhaps `--new` and `--sessions N`: a placement over the journal at the path is served at the address, each connection
+/// perhaps `--new`, `--sessions N` and `--connections N`: a placement over the journal at the path is served at the address, each connection
 /// in a thread of its own, until N connections were served, or without an end. With `--new` the file is made if there is
 /// none; with `--http ADDR` its state is answered there over HTTP. `store`, with the same options but the last: a store over
 /// the files at the path and at the path with `.2` behind it, in the same way; the second file is made in any case.

@@ -2,7 +2,7 @@
 use Rattle.std.proofs.Common.{◌≡◌, ℕ, Bool, true, false, List, [], ◌∷◌, Option, None, Some, codes, refl}
 use Rattle.actor_names.specs.Addresses.{part_reading, port_reading}
 use Rattle.command_words.specs.Options.{Text, read_from}
-use Rattle.command_words.specs.Reading.{Said, Replay, Schedule, Drill, Placement, Sidecar, reading, is_placement, has_options}
+use Rattle.command_words.specs.Reading.{Said, Replay, Schedule, Drill, Placement, Store, Sidecar, reading, is_placement, has_options}
 
 abbrev asks : Text → Text → Said
 asks now period = Schedule (record { now = now; due = []; period = period; ttl = []; count = 10 })
@@ -101,7 +101,7 @@ seed_is_not_empty = refl
 
 -- `placement` at the journal `j` and at 1.2.3.4:5
 abbrev places : Bool → Option ℕ → Said
-places is_new sessions = Placement (record { server = record { journal = codes "j"; listen = record { ip = 16909060; port = 5 }; is_new = is_new; sessions = sessions }; http = None })
+places is_new sessions = Placement (record { server = record { journal = codes "j"; listen = record { ip = 16909060; port = 5 }; is_new = is_new; sessions = sessions; connections = 4096 }; http = None })
 
 placement_alone : reading (codes "placement" ∷ codes "--journal" ∷ codes "j" ∷ codes "--listen=1.2.3.4:5" ∷ []) ≡ Some (places false None)
 unfolding read_from part_reading port_reading
@@ -137,9 +137,27 @@ address_has_a_port = refl
 
 placement_with_state :
     reading (codes "placement" ∷ codes "--http=0.0.0.1:80" ∷ codes "--journal=j" ∷ codes "--listen=1.2.3.4:5" ∷ [])
-    ≡ Some (Placement (record { server = record { journal = codes "j"; listen = record { ip = 16909060; port = 5 }; is_new = false; sessions = None }; http = Some (record { ip = 1; port = 80 }) }))
+    ≡ Some (Placement (record { server = record { journal = codes "j"; listen = record { ip = 16909060; port = 5 }; is_new = false; sessions = None; connections = 4096 }; http = Some (record { ip = 1; port = 80 }) }))
 unfolding read_from part_reading port_reading
 placement_with_state = refl
+
+store_of_one_connection :
+    reading (codes "store" ∷ codes "--journal=j" ∷ codes "--connections" ∷ codes "1" ∷ codes "--listen=1.2.3.4:5" ∷ [])
+    ≡ Some (Store (record { journal = codes "j"; listen = record { ip = 16909060; port = 5 }; is_new = false; sessions = None; connections = 1 }))
+unfolding read_from part_reading port_reading
+store_of_one_connection = refl
+
+connections_to_4096 : reading (codes "placement" ∷ codes "--journal=j" ∷ codes "--listen=1.2.3.4:5" ∷ codes "--connections=4096" ∷ []) ≡ Some (places false None)
+unfolding read_from part_reading port_reading
+connections_to_4096 = refl
+
+connections_not_above : reading (codes "placement" ∷ codes "--journal=j" ∷ codes "--listen=1.2.3.4:5" ∷ codes "--connections=4097" ∷ []) ≡ None
+unfolding read_from part_reading port_reading
+connections_not_above = refl
+
+connections_from_one : reading (codes "placement" ∷ codes "--journal=j" ∷ codes "--listen=1.2.3.4:5" ∷ codes "--connections=0" ∷ []) ≡ None
+unfolding read_from part_reading port_reading
+connections_from_one = refl
 
 store_has_no_state : reading (codes "store" ∷ codes "--http=0.0.0.1:80" ∷ codes "--journal=j" ∷ codes "--listen=1.2.3.4:5" ∷ []) ≡ None
 unfolding read_from part_reading port_reading
@@ -152,8 +170,8 @@ sidecar_line node more =
     ∷ codes "--placement=0.0.0.7:8" ∷ codes "--store=0.0.0.9:10" ∷ more
 
 -- what they say with the node `n`
-abbrev seats : Text → ℕ → Option ℕ → Said
-seats space parts sessions = Sidecar (record {
+abbrev seats : Text → ℕ → Option ℕ → ℕ → Said
+seats space parts sessions connections = Sidecar (record {
   node = codes "n";
   app = codes "a";
   space = space;
@@ -164,13 +182,14 @@ seats space parts sessions = Sidecar (record {
   store = record { ip = 9; port = 10 };
   parts = parts;
   sessions = sessions;
+  connections = connections;
 })
 
-sidecar_alone : reading (sidecar_line (codes "--node=n") []) ≡ Some (seats (codes "default") 4 None)
+sidecar_alone : reading (sidecar_line (codes "--node=n") []) ≡ Some (seats (codes "default") 4 None 4096)
 unfolding read_from part_reading port_reading
 sidecar_alone = refl
 
-sidecar_with_all : reading (sidecar_line (codes "--node=n") (codes "--parts=016" ∷ codes "--space" ∷ codes "b" ∷ codes "--sessions=7" ∷ [])) ≡ Some (seats (codes "b") 16 (Some 7))
+sidecar_with_all : reading (sidecar_line (codes "--node=n") (codes "--parts=016" ∷ codes "--space" ∷ codes "b" ∷ codes "--sessions=7" ∷ codes "--connections=02" ∷ [])) ≡ Some (seats (codes "b") 16 (Some 7) 2)
 unfolding read_from part_reading port_reading
 sidecar_with_all = refl
 

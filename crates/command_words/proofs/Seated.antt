@@ -10,7 +10,7 @@ use Rattle.std.specs.List.{list_all}
 use Rattle.std.specs.Str.{bytes_eq}
 use Rattle.command_words.specs.Counts.{from_one, number_up_to, positive_up_to}
 use Rattle.command_words.specs.Options.{Text, Given, options_given}
-use Rattle.command_words.specs.Reading.{Said, Schedule, Placement, Store, Sidecar, Hosting, Placing, Seating, asking, count_or_ten, drilling, greatest_seed, most_steps, placing, hosting, reading, replay_said, schedule_said, schedule_options, drill_said, drill_options, placement_said, placement_options, store_said, server_options, sidecar_options, text_of, value_of, faultless, node_text, app_text, space_or_default, address_of, most_parts, parts_or_four, sessions_or_none, seating, sidecar_said}
+use Rattle.command_words.specs.Reading.{Said, Schedule, Placement, Store, Sidecar, Hosting, Placing, Seating, asking, count_or_ten, drilling, greatest_seed, most_steps, placing, hosting, reading, replay_said, schedule_said, schedule_options, drill_said, drill_options, placement_said, placement_options, store_said, server_options, sidecar_options, text_of, value_of, faultless, node_text, app_text, space_or_default, address_of, most_parts, parts_or_four, sessions_or_none, connections_or_most, seating, sidecar_said}
 use Rattle.command_words.specs.Seated.{IsSeated}
 
 faultless_none : (fault : Text → Option NameError) (text named : Text) → faultless (fault text) text ≡ Some named → fault named ≡ None
@@ -44,8 +44,8 @@ parts_within None parts e = let same = same_Some 4 parts e in (omega arith, omeg
 parts_within (Some text) parts e = positive_within most_parts text parts e
 
 -- a reading of these pieces, each of which may have none
-abbrev read_pieces : Option Text → Option Text → Option Text → Option Address → Option Address → Option Address → Option Address → Option Address → Option ℕ → Option (Option ℕ) → Option Seating
-read_pieces node app space app_at listen peer placement store parts sessions =
+abbrev read_pieces : Option Text → Option Text → Option Text → Option Address → Option Address → Option Address → Option Address → Option Address → Option ℕ → Option (Option ℕ) → Option ℕ → Option Seating
+read_pieces node app space app_at listen peer placement store parts sessions connections =
     option_and_then (λ node.
     option_and_then (λ app.
     option_and_then (λ space.
@@ -55,7 +55,8 @@ read_pieces node app space app_at listen peer placement store parts sessions =
     option_and_then (λ placement.
     option_and_then (λ store.
     option_and_then (λ parts.
-    option_map (λ sessions. record {
+    option_and_then (λ sessions.
+    option_map (λ connections. record {
       node = node;
       app = app;
       space = space;
@@ -66,7 +67,8 @@ read_pieces node app space app_at listen peer placement store parts sessions =
       store = store;
       parts = parts;
       sessions = sessions;
-    }) sessions) parts)
+      connections = connections;
+    }) connections) sessions) parts)
     store)
     placement)
     peer)
@@ -77,20 +79,21 @@ read_pieces node app space app_at listen peer placement store parts sessions =
     node
 
 -- those that the record keeps as they are
-pieces_are : (node app space : Option Text) (app_at listen peer placement store : Option Address) (parts : Option ℕ) (sessions : Option (Option ℕ)) (s : Seating)
-    → read_pieces node app space app_at listen peer placement store parts sessions ≡ Some s
+pieces_are : (node app space : Option Text) (app_at listen peer placement store : Option Address) (parts : Option ℕ) (sessions : Option (Option ℕ)) (connections : Option ℕ) (s : Seating)
+    → read_pieces node app space app_at listen peer placement store parts sessions connections ≡ Some s
     → (node ≡ Some s.node) × (app ≡ Some s.app) × (space ≡ Some s.space) × (parts ≡ Some s.parts)
-pieces_are None app space app_at listen peer placement store parts sessions s e = absurd (none-some s e)
-pieces_are (Some node) None space app_at listen peer placement store parts sessions s e = absurd (none-some s e)
-pieces_are (Some node) (Some app) None app_at listen peer placement store parts sessions s e = absurd (none-some s e)
-pieces_are (Some node) (Some app) (Some space) None listen peer placement store parts sessions s e = absurd (none-some s e)
-pieces_are (Some node) (Some app) (Some space) (Some app_at) None peer placement store parts sessions s e = absurd (none-some s e)
-pieces_are (Some node) (Some app) (Some space) (Some app_at) (Some listen) None placement store parts sessions s e = absurd (none-some s e)
-pieces_are (Some node) (Some app) (Some space) (Some app_at) (Some listen) (Some peer) None store parts sessions s e = absurd (none-some s e)
-pieces_are (Some node) (Some app) (Some space) (Some app_at) (Some listen) (Some peer) (Some placement) None parts sessions s e = absurd (none-some s e)
-pieces_are (Some node) (Some app) (Some space) (Some app_at) (Some listen) (Some peer) (Some placement) (Some store) None sessions s e = absurd (none-some s e)
-pieces_are (Some node) (Some app) (Some space) (Some app_at) (Some listen) (Some peer) (Some placement) (Some store) (Some parts) None s e = absurd (none-some s e)
-pieces_are (Some node) (Some app) (Some space) (Some app_at) (Some listen) (Some peer) (Some placement) (Some store) (Some parts) (Some sessions) s e =
+pieces_are None app space app_at listen peer placement store parts sessions connections s e = absurd (none-some s e)
+pieces_are (Some node) None space app_at listen peer placement store parts sessions connections s e = absurd (none-some s e)
+pieces_are (Some node) (Some app) None app_at listen peer placement store parts sessions connections s e = absurd (none-some s e)
+pieces_are (Some node) (Some app) (Some space) None listen peer placement store parts sessions connections s e = absurd (none-some s e)
+pieces_are (Some node) (Some app) (Some space) (Some app_at) None peer placement store parts sessions connections s e = absurd (none-some s e)
+pieces_are (Some node) (Some app) (Some space) (Some app_at) (Some listen) None placement store parts sessions connections s e = absurd (none-some s e)
+pieces_are (Some node) (Some app) (Some space) (Some app_at) (Some listen) (Some peer) None store parts sessions connections s e = absurd (none-some s e)
+pieces_are (Some node) (Some app) (Some space) (Some app_at) (Some listen) (Some peer) (Some placement) None parts sessions connections s e = absurd (none-some s e)
+pieces_are (Some node) (Some app) (Some space) (Some app_at) (Some listen) (Some peer) (Some placement) (Some store) None sessions connections s e = absurd (none-some s e)
+pieces_are (Some node) (Some app) (Some space) (Some app_at) (Some listen) (Some peer) (Some placement) (Some store) (Some parts) None connections s e = absurd (none-some s e)
+pieces_are (Some node) (Some app) (Some space) (Some app_at) (Some listen) (Some peer) (Some placement) (Some store) (Some parts) (Some sessions) None s e = absurd (none-some s e)
+pieces_are (Some node) (Some app) (Some space) (Some app_at) (Some listen) (Some peer) (Some placement) (Some store) (Some parts) (Some sessions) (Some connections) s e =
     let same = same_Some (record {
       node = node;
       app = app;
@@ -102,6 +105,7 @@ pieces_are (Some node) (Some app) (Some space) (Some app_at) (Some listen) (Some
       store = store;
       parts = parts;
       sessions = sessions;
+      connections = connections;
     }) s e in
     (ap (λ (x : Seating). Some x.node) same, ap (λ (x : Seating). Some x.app) same, ap (λ (x : Seating). Some x.space) same, ap (λ (x : Seating). Some x.parts) same)
 
@@ -110,7 +114,7 @@ seating_seated given s e =
     let p = pieces_are
     (node_text (text_of (codes "node") given)) (app_text (text_of (codes "app-id") given)) (space_or_default (value_of (codes "space") given))
     (address_of (codes "app") given) (address_of (codes "listen") given) (address_of (codes "peer") given) (address_of (codes "placement") given) (address_of (codes "store") given)
-    (parts_or_four (value_of (codes "parts") given)) (sessions_or_none (value_of (codes "sessions") given)) s e in
+    (parts_or_four (value_of (codes "parts") given)) (sessions_or_none (value_of (codes "sessions") given)) (connections_or_most (value_of (codes "connections") given)) s e in
     let parts = parts_within (value_of (codes "parts") given) s.parts p.3 in
     record {
       node = faultless_none node_fault (text_of (codes "node") given) s.node p.0;

@@ -23,12 +23,13 @@ pub record Drilling : Type 0 where
   pub steps : ℕ
 
 -- the words of a server, `placement` or `store`: the path of the journal, where to listen, whether the journal may be
--- made, and after how many sessions the command ends
+-- made, after how many sessions the command ends, and how many connections of a port are served at once
 pub record Hosting : Type 0 where
   pub journal : Text
   pub listen : Address
   pub is_new : Bool
   pub sessions : Option ℕ
+  pub connections : ℕ
 
 -- the words of `placement`: those of a server, and where its state is asked for over HTTP
 pub record Placing : Type 0 where
@@ -37,7 +38,8 @@ pub record Placing : Type 0 where
 
 -- the words of `sidecar`: the texts of its node, its application's id and its space, each of which is a name of its
 -- form; where the application is, where the sidecar listens for it and for its peers, where the placement and the store
--- are; how many parts it has, and after how many sessions the command ends
+-- are; how many parts it has, after how many sessions the command ends, and how many connections of a port are served at
+-- once
 pub record Seating : Type 0 where
   pub node : Text
   pub app : Text
@@ -49,6 +51,7 @@ pub record Seating : Type 0 where
   pub store : Address
   pub parts : ℕ
   pub sessions : Option ℕ
+  pub connections : ℕ
 
 -- a command with what its words say
 pub data Said : Type 0 where
@@ -109,7 +112,8 @@ drill_said given =
 
 -- the journal and where to listen are needed
 abbrev pub server_options : Options
-server_options = (codes "journal", Needed) ∷ (codes "listen", Needed) ∷ (codes "new", Flag) ∷ (codes "sessions", Optional) ∷ []
+server_options =
+    (codes "journal", Needed) ∷ (codes "listen", Needed) ∷ (codes "new", Flag) ∷ (codes "sessions", Optional) ∷ (codes "connections", Optional) ∷ []
 
 -- at least one byte
 abbrev pub filled_text : Text → Option Text
@@ -124,19 +128,30 @@ abbrev pub sessions_or_none : Option Text → Option (Option ℕ)
 sessions_or_none None = Some None
 sessions_or_none (Some text) = option_map (λ n. Some n) (positive_up_to greatest_sessions text)
 
+abbrev pub most_connections : ℕ
+most_connections = 4096
+
+-- how many connections of a port are served at once: from 1 to 4,096, and 4,096 if the words don't say
+abbrev pub connections_or_most : Option Text → Option ℕ
+connections_or_most None = Some most_connections
+connections_or_most (Some text) = positive_up_to most_connections text
+
 -- what the options of a server say
 abbrev pub hosting : Given → Option Hosting
 hosting given =
     option_and_then (λ journal.
     option_and_then (λ listen.
-    option_map (λ sessions. record { journal = journal; listen = listen; is_new = is_among (names_of given) (codes "new"); sessions = sessions })
+    option_and_then (λ sessions.
+    option_map (λ connections. record { journal = journal; listen = listen; is_new = is_among (names_of given) (codes "new"); sessions = sessions; connections = connections })
+    (connections_or_most (value_of (codes "connections") given)))
     (sessions_or_none (value_of (codes "sessions") given)))
     (result_ok (address_reading (text_of (codes "listen") given))))
     (filled_text (text_of (codes "journal") given))
 
 -- those of `placement`
 abbrev pub placement_options : Options
-placement_options = (codes "journal", Needed) ∷ (codes "listen", Needed) ∷ (codes "http", Optional) ∷ (codes "new", Flag) ∷ (codes "sessions", Optional) ∷ []
+placement_options =
+    (codes "journal", Needed) ∷ (codes "listen", Needed) ∷ (codes "http", Optional) ∷ (codes "new", Flag) ∷ (codes "sessions", Optional) ∷ (codes "connections", Optional) ∷ []
 
 -- no address, or one
 abbrev pub address_or_none : Option Text → Option (Option Address)
@@ -163,7 +178,8 @@ store_said given = option_map (λ h. Store h) (hosting given)
 abbrev pub sidecar_options : Options
 sidecar_options =
     (codes "node", Needed) ∷ (codes "app-id", Needed) ∷ (codes "app", Needed) ∷ (codes "listen", Needed) ∷ (codes "peer", Needed)
-    ∷ (codes "placement", Needed) ∷ (codes "store", Needed) ∷ (codes "parts", Optional) ∷ (codes "space", Optional) ∷ (codes "sessions", Optional) ∷ []
+    ∷ (codes "placement", Needed) ∷ (codes "store", Needed) ∷ (codes "parts", Optional) ∷ (codes "space", Optional) ∷ (codes "sessions", Optional)
+    ∷ (codes "connections", Optional) ∷ []
 
 -- a text without a fault
 abbrev pub faultless : Option NameError → Text → Option Text
@@ -207,7 +223,8 @@ seating given =
     option_and_then (λ placement.
     option_and_then (λ store.
     option_and_then (λ parts.
-    option_map (λ sessions. record {
+    option_and_then (λ sessions.
+    option_map (λ connections. record {
       node = node;
       app = app;
       space = space;
@@ -218,7 +235,9 @@ seating given =
       store = store;
       parts = parts;
       sessions = sessions;
+      connections = connections;
     })
+    (connections_or_most (value_of (codes "connections") given)))
     (sessions_or_none (value_of (codes "sessions") given)))
     (parts_or_four (value_of (codes "parts") given)))
     (address_of (codes "store") given))

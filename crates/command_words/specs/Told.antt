@@ -35,7 +35,7 @@ abbrev pub told_drill : DrillWords → Drilling
 told_drill d = record { seed = d.seed; steps = d.steps }
 
 abbrev pub told_server : ServerWords → Hosting
-told_server p = record { journal = p.journal.now; listen = p.listen; is_new = p.is_new; sessions = p.sessions }
+told_server p = record { journal = p.journal.now; listen = p.listen; is_new = p.is_new; sessions = p.sessions; connections = p.connections }
 
 abbrev pub told_placement : PlacementWords → Placing
 told_placement p = record { server = told_server p.server; http = p.http }
@@ -52,6 +52,7 @@ told_sidecar s = record {
   store = s.store;
   parts = s.parts;
   sessions = s.sessions;
+  connections = s.connections;
 }
 
 abbrev pub told : CommandWords → Said

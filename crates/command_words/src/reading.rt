@@ -212,11 +212,11 @@ fn replay_words<'a>(words: &'a [String]) -> Result<CommandWords<'a>, WordsError>
 /// Reads the words after the program's name: the first is the command, `replay` without options, `schedule` with
 /// `--now M` and perhaps `--due T`, `--period T`, `--ttl T` and `--count N`, N from 1 to 1,000 and 10 if it isn't
 /// given, `drill` with `--seed N`, below 2^64, and `--steps N`, up to 200,000, or `placement` or `store` with
-/// `--journal PATH`, of at least one byte, `--listen ADDR`, an address and a port, and perhaps `--new` and `--sessions N`, N
-/// from 1 and below 2^64; `placement` perhaps with `--http ADDR`; or `sidecar` with `--node N` and `--app-id A`, each of
+/// `--journal PATH`, of at least one byte, `--listen ADDR`, an address and a port, and perhaps `--new`, `--sessions N`, N
+/// from 1 and below 2^64, and `--connections N`, from 1 to 4,096 and 4,096 if it isn't given; `placement` perhaps with `--http ADDR`; or `sidecar` with `--node N` and `--app-id A`, each of
 /// 1 to 64 lowercase letters, digits and `-`, `--app ADDR`, `--listen ADDR`, `--peer ADDR`, `--placement ADDR`,
 /// `--store ADDR`, and perhaps `--parts P`, from 1 to 16 and 4 if it isn't given, `--space S`, of the form of a node and
-/// `default` if it isn't given, and `--sessions N`. Options are written `--name value` or `--name=value`, in any order,
+/// `default` if it isn't given, `--sessions N` and `--connections N`. Options are written `--name value` or `--name=value`, in any order,
 /// each at most once, and `--new` without a value; a value that is a word of its own doesn't begin with `-`. Help and
 /// version words have no reading. Own.
 pub fn read_words<'a>(alloc: Global, words: &'a [String]) -> Result<CommandWords<'a>, WordsError>

@@ -3,7 +3,7 @@ ghost use Rattle.std.specs.Prelude.{◌≡◌, Some, None, MatchResult, map, opt
 ghost use Rattle.command_words.specs.declared.error.WordsError.TheVariants.{Usage};
 ghost use Rattle.command_words.specs.Given.{Holds};
 ghost use Rattle.command_words.specs.Options.{Given, options_given};
-ghost use Rattle.command_words.specs.Reading.{server_options, placement_options, filled_text, sessions_or_none, address_or_none, hosting, placing};
+ghost use Rattle.command_words.specs.Reading.{server_options, placement_options, filled_text, sessions_or_none, connections_or_most, address_or_none, hosting, placing};
 ghost use Rattle.command_words.specs.Told.{told_option, told_server, told_placement};
 
 use crate::count::read_positive;
@@ -13,6 +13,9 @@ use crate::options::{CommandOption, flag, needed, optional};
 use actor_names::{Address, read_address};
 use clap::ArgMatches;
 use std::alloc::Global;
+
+/// How many connections of a port are served at once at most, and if the words don't say.
+const MOST_CONNECTIONS: u64 = 4_096;
 
 /// What the words of a server say.
 #[derive(Clone, Copy)]
@@ -25,6 +28,8 @@ pub struct ServerWords<'a> {
     pub is_new: bool,
     /// After how many connections the service ends, from 1; `None` if the words don't say.
     pub sessions: Option<u64>,
+    /// How many connections of a port are served at once, from 1 to 4,096; 4,096 if the words don't say.
+    pub connections: u64,
 }
 
 /// What the words of `placement` say.
@@ -37,7 +42,7 @@ pub struct PlacementWords<'a> {
 }
 
 /// The options of a store.
-fn server_options() -> [CommandOption<'static>; 4]
+fn server_options() -> [CommandOption<'static>; 5]
     ensures { map told_option result ≡ server_options }
 {
     [
@@ -45,11 +50,12 @@ fn server_options() -> [CommandOption<'static>; 4]
         needed("listen"),
         flag("new"),
         optional("sessions"),
+        optional("connections"),
     ]
 }
 
 /// The options of a placement.
-fn placement_options() -> [CommandOption<'static>; 5]
+fn placement_options() -> [CommandOption<'static>; 6]
     ensures { map told_option result ≡ placement_options }
 {
     [
@@ -58,6 +64,7 @@ fn placement_options() -> [CommandOption<'static>; 5]
         optional("http"),
         flag("new"),
         optional("sessions"),
+        optional("connections"),
     ]
 }
 
@@ -78,6 +85,16 @@ pub(crate) fn sessions_or_none(text: Option<&str>) -> Option<Option<u64>>
             let sessions = read_positive(text.as_bytes(), u64::MAX)?;
             Some(Some(sessions))
         }
+    }
+}
+
+/// The number of connections from 1 to 4,096, or 4,096.
+pub(crate) fn connections_or_most(text: Option<&str>) -> Option<u64>
+    ensures { result ≡ connections_or_most (option_map (λ t. t.now) text.entry) }
+{
+    match text {
+        None => Some(MOST_CONNECTIONS),
+        Some(text) => read_positive(text.as_bytes(), MOST_CONNECTIONS),
     }
 }
 
@@ -102,11 +119,13 @@ fn hosting<'a>(matches: &ArgMatches<'a>) -> Option<ServerWords<'a>>
     let journal = filled_text(text_of(matches, "journal"))?;
     let listen = read_address(text_of(matches, "listen").as_bytes()).ok()?;
     let sessions = sessions_or_none(matches.get_str("sessions"))?;
+    let connections = connections_or_most(matches.get_str("connections"))?;
     Some(ServerWords {
         journal,
         listen,
         is_new: matches.get_flag("new"),
         sessions,
+        connections,
     })
 }
 

@@ -13,7 +13,7 @@ use crate::count::read_positive;
 use crate::error::WordsError;
 use crate::matches::{read_options, text_of};
 use crate::options::{CommandOption, needed, optional};
-use crate::server::sessions_or_none;
+use crate::server::{connections_or_most, sessions_or_none};
 use actor_names::{Address, NameError, app_id_fault, node_fault, read_address, space_fault};
 use clap::ArgMatches;
 use std::alloc::Global;
@@ -47,10 +47,12 @@ pub struct SidecarWords<'a> {
     pub parts: u8,
     /// After how many sessions the command ends, from 1; `None` if the words don't say.
     pub sessions: Option<u64>,
+    /// How many connections of a port are served at once, from 1 to 4,096; 4,096 if the words don't say.
+    pub connections: u64,
 }
 
 /// The options of a sidecar.
-fn sidecar_options() -> [CommandOption<'static>; 10]
+fn sidecar_options() -> [CommandOption<'static>; 11]
     ensures { map told_option result ≡ sidecar_options }
 {
     [
@@ -64,6 +66,7 @@ fn sidecar_options() -> [CommandOption<'static>; 10]
         optional("parts"),
         optional("space"),
         optional("sessions"),
+        optional("connections"),
     ]
 }
 
@@ -135,6 +138,7 @@ fn seating<'a>(matches: &ArgMatches<'a>) -> Option<SidecarWords<'a>>
     let store = address_of(matches, "store")?;
     let parts = parts_or_four(matches.get_str("parts"))?;
     let sessions = sessions_or_none(matches.get_str("sessions"))?;
+    let connections = connections_or_most(matches.get_str("connections"))?;
     Some(SidecarWords {
         node,
         app,
@@ -146,6 +150,7 @@ fn seating<'a>(matches: &ArgMatches<'a>) -> Option<SidecarWords<'a>>
         store,
         parts,
         sessions,
+        connections,
     })
 }
 

@@ -62,7 +62,10 @@ pub(crate) fn reply_fault(space: &Space, frame: &Frame) -> Option<u64>
         | Frame::Beat { .. }
         | Frame::Ack { .. }
         | Frame::Leave { .. }
+        | Frame::Mirror { .. }
+        | Frame::Mirrored { .. }
         | Frame::Command { .. }
+        | Frame::FencedTx { .. }
         | Frame::Answer { .. } => Some(KIND),
     }
 }

@@ -6,6 +6,7 @@ use Rattle.step_gate.specs.History.{HistoryLeadsTo}
 use Rattle.tx_journal.specs.declared.error.JournalError.{JournalError}
 use Rattle.tx_journal.specs.declared.error.JournalError.TheVariants as errors
 use Rattle.tx_journal.specs.Calls.{told, tell_one, first_side}
+use Rattle.tx_journal.specs.File.{Image}
 use Rattle.tx_journal.specs.Pair.{Files, SinceOpened}
 use Rattle.round_core.specs.Runs.{RunEvent}
 use Rattle.placement_node.specs.declared.error.PlacementOpenError.{PlacementOpenError}
@@ -84,7 +85,7 @@ pub record HoldsRun (create : Bool) (disk : Option DiskState) (run : List RunEve
   pub files : Files
   pub tells : tell_one disk ≡ Some files
   pub fits : RunFits run
-  pub records : (payloads : List (List ℕ)) → Finds create files payloads → AreOfRun run payloads
+  pub records : (found : Image) → Finds create files found → AreOfRun run found.payloads
 
 -- the node was opened at this moment from a disk that told this; on the records of a run it goes on where the run ended
 pub record OpensDisk (create : Bool) (now : ℕ) (disk : Option DiskState) (n : NodeState) : Type 0 where

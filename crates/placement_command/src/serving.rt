@@ -50,6 +50,7 @@ fn serve_frames<R: Threads + Wait + Sync, H: Host, N: Dial, K: Clock>(
         net,
         words.listen,
         words.sessions,
+        words.connections,
     );
     let port_failed = H::port_failed(&port);
     host.done_port(port);
@@ -97,6 +98,7 @@ fn serve_both<R: Threads + Wait + Sync, H: Host, N: Dial, K: Clock>(
         clock,
         net,
         words.sessions,
+        words.connections,
     );
     let port_failed = H::port_failed(&port);
     let state_failed = H::port_failed(&state);

@@ -44,6 +44,7 @@ fn serve_at<
     port: L,
     at: Address,
     most: Option<u64>,
+    at_once: u64,
 ) -> (L, ServerEnd)
     requires { IsSeatOf NodeAllows gate.now pass.seat }
     ensures never_falls { L.listen_faults port ≤ L.listen_faults result.0 }
@@ -53,6 +54,7 @@ fn serve_at<
     let service = PlacementService {
         gate,
         ending: Ending::new(at, None),
+        at_once,
     };
     let shared = &service;
     let serve = |pass: Pass<D, K, N>, conn: C|
@@ -83,6 +85,7 @@ fn serve_both_at<
     state: L,
     state_at: Address,
     most: Option<u64>,
+    at_once: u64,
 ) -> (L, L, ServerEnd)
     requires { IsSeatOf NodeAllows gate.now pass.seat }
     ensures never_falls { L.listen_faults port ≤ L.listen_faults result.0 }
@@ -93,6 +96,7 @@ fn serve_both_at<
     let service = PlacementService {
         gate,
         ending: Ending::new(at, Some(state_at)),
+        at_once,
     };
     let shared = &service;
     let serve = |pass: Pass<D, K, N>, conn: C|
@@ -109,8 +113,8 @@ fn serve_both_at<
 }
 
 /// Serves the placement at a port until `most` connections were served (without a limit if it is `None`), the node has
-/// lost its disk, or the port fails. Each connection has a thread of its own, and the node is given a Tick every 1,000
-/// milliseconds. If memory runs out before the first connection, the node is dropped.
+/// lost its disk, or the port fails. Each connection has a thread of its own; at most `at_once` of a port are served at
+/// once. The node is given a Tick every 1,000 milliseconds. If memory runs out before the first connection, the node is dropped.
 pub fn serve_placement<
     R: Threads + Wait + Sync,
     D: Disk + Drop + Send,
@@ -127,6 +131,7 @@ pub fn serve_placement<
     net: N,
     at: Address,
     most: Option<u64>,
+    at_once: u64,
 ) -> (L, Result<PlacementServed<D>, OutOfMemory>)
     ensures never_falls { L.listen_faults port ≤ L.listen_faults result.0 }
     ensures cause { IfOk result.1 (λ s. s.end ≡ PortFault → L.listen_faults port < L.listen_faults result.0) }
@@ -144,7 +149,7 @@ pub fn serve_placement<
         clock,
         net,
     };
-    let (port, end) = serve_at(rt, alloc, &gate, pass, port, at, most);
+    let (port, end) = serve_at(rt, alloc, &gate, pass, port, at, most, at_once);
     let node = gate.close(rt, seat);
     (port, Ok(PlacementServed { node, end }))
 }
@@ -170,6 +175,7 @@ pub fn serve_placement_and_state<
     clock: K,
     net: N,
     most: Option<u64>,
+    at_once: u64,
 ) -> (L, L, Result<PlacementServed<D>, OutOfMemory>)
     ensures never_falls { L.listen_faults port ≤ L.listen_faults result.0 }
     ensures state_never_falls { L.listen_faults state ≤ L.listen_faults result.1 }
@@ -188,7 +194,9 @@ pub fn serve_placement_and_state<
         clock,
         net,
     };
-    let (port, state, end) = serve_both_at(rt, alloc, &gate, pass, port, at, state, state_at, most);
+    let (port, state, end) = serve_both_at(
+        rt, alloc, &gate, pass, port, at, state, state_at, most, at_once,
+    );
     let node = gate.close(rt, seat);
     (port, state, Ok(PlacementServed { node, end }))
 }

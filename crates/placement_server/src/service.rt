@@ -9,19 +9,20 @@ use frame_session::AnswersFrames;
 use placement_node::{NodeEvent, PlacementNode};
 use placement_sessions::PlacementFrames;
 use round_core::PlaceEvent;
-use server_ports::{Duty, Ending, MOST_AT_ONCE, Service, pause_for};
+use server_ports::{Duty, Ending, Service, pause_for};
 use std::sync::Wait;
 use step_gate::Gate;
 
 // How long the server waits between two Ticks, in milliseconds.
 const PAUSE_MS: u64 = 1_000;
 
-/// What the placement's threads share: the gate of its node, and the end of the server, which listens for frames and perhaps
-/// for HTTP.
+/// What the placement's threads share: the gate of its node, the end of the server, which listens for frames and perhaps
+/// for HTTP, and how many connections of a port it serves at once.
 #[derive(Drop)]
 pub(crate) struct PlacementService<'a, D: Disk> {
     pub(crate) gate: &'a Gate<PlacementNode<D>>,
     pub(crate) ending: Ending,
+    pub(crate) at_once: u64,
 }
 
 impl<D: Disk + Drop + Send, K: Clock, N: Dial> Service<Pass<D, K, N>> for PlacementService<'_, D> {
@@ -44,7 +45,7 @@ impl<D: Disk + Drop + Send, K: Clock, N: Dial> Service<Pass<D, K, N>> for Placem
     }
 
     fn most_at_once(&self) -> u64 {
-        MOST_AT_ONCE
+        self.at_once
     }
 
     fn is_over(&self) -> bool {

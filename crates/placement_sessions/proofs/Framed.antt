@@ -177,7 +177,10 @@ frame_asks frame event is = go frame is
     go frames.Idle same = absurd cc
     go (frames.Refused refusal) same = absurd cc
     go frames.Gone same = absurd cc
+    go (frames.Mirror command) same = absurd cc
+    go (frames.Mirrored answer) same = absurd cc
     go (frames.Command command) same = absurd cc
+    go (frames.FencedTx epoch s actor ops) same = absurd cc
     go (frames.Answer answer) same = absurd cc
 
 node_asks : (frame : Frame) (now : ℕ) (e : NodeEvent) → node_event frame now ≡ Some e → IsAsked e.event

@@ -51,7 +51,10 @@ module _ (old new : NodeState) (e : NodeEvent) (look : e.event ≡ Look) where
   worked_look (Message (frames.Unlock version)) works = stepped_look _ works
   worked_look (Message frames.Idle) works = stepped_look _ works
   worked_look (Message frames.Gone) works = stepped_look _ works
+  worked_look (Message (frames.Mirror command)) works = stepped_look _ works
+  worked_look (Message (frames.Mirrored answer)) works = stepped_look _ works
   worked_look (Message (frames.Command command)) works = stepped_look _ works
+  worked_look (Message (frames.FencedTx epoch s actor ops)) works = stepped_look _ works
   worked_look (Message (frames.Answer answer)) works = stepped_look _ works
 
   moved_look : (r : NodeReply) → NodeMoves old e r new → Told old r

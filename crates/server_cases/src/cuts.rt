@@ -5,15 +5,15 @@ use crate::sessions::link_with;
 use crate::stores::{Memory, serve};
 use case_texts::add;
 use disk_model::MemDisk;
+use fence_rows::Fenced;
 use std::alloc::Global;
 use std::sync::Wait;
-use store_core::Store;
 
 // A new store.
 fn new_store(alloc: Global) -> Option<Memory> {
     let first = MemDisk::new(alloc, b"", &[]).ok()?;
     let second = MemDisk::new(alloc, b"", &[]).ok()?;
-    Store::open(alloc, first, second, true).ok()
+    Fenced::open(alloc, first, second, true).ok()
 }
 
 // What a session of these bytes tells.

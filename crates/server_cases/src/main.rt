@@ -38,8 +38,8 @@
 // Of a journal: `append BYTES`, `start`, `add BYTES` and `finish` of a compaction, `rows`, and `state`, its format,
 // generation and length. Of a disk: `len`, `read AT MOST`, `write AT BYTES`, `cut LEN`, `sync`, `bytes`, `image CHOICE`.
 //
-// It has no contracts that another crate needs. Depends on placement_sessions, placement_node, store_server, store_core,
-// step_gate, tx_journal, disk_model, frame_wire, round_core, actor_ports and case_texts.
+// It has no contracts that another crate needs. Depends on placement_sessions, placement_node, store_server, fence_rows,
+// store_core, step_gate, tx_journal, disk_model, frame_wire, round_core, actor_ports and case_texts.
 #![tactic(auto)]
 
 mod case;

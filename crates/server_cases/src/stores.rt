@@ -1,22 +1,23 @@
-// A store in memory.
+// A store with its fence, in memory.
 ghost use Rattle.step_gate.specs.Gates.{IsSeatOf};
-ghost use Rattle.store_core.specs.Events.{Allows};
+ghost use Rattle.fence_rows.specs.Events.{Allows};
 
 use crate::sessions::{Link, add_told, gate_of, link_of};
 use crate::subject::{Disks, Subject};
 use actor_ports::SessionEnd;
 use case_texts::{add, cut};
 use disk_model::MemDisk;
+use fence_rows::Fenced;
 use placement_node::PlacementOpenError;
 use std::alloc::Global;
 use std::sync::Wait;
 use step_gate::{Gate, Seat};
-use store_core::{CompactEnd, Store};
+use store_core::CompactEnd;
 use store_server::store_session;
 use tx_journal::JournalError;
 
-/// A store in memory.
-pub(crate) type Memory = Store<MemDisk>;
+/// A fenced store in memory.
+pub(crate) type Memory = Fenced<MemDisk>;
 
 // The store behind this gate after a session over a connection, and how the session ended.
 fn served<R: Wait>(
@@ -100,7 +101,7 @@ impl Subject for Memory {
                 },
             ));
         };
-        match Store::open(alloc, first, second, create) {
+        match Fenced::open(alloc, first, second, create) {
             Ok(store) => Ok(store),
             Err((error, first, second)) => Err((
                 PlacementOpenError::Journal { error },
@@ -113,7 +114,7 @@ impl Subject for Memory {
     }
 
     fn close(self) -> Disks {
-        let (first, second) = Store::close(self);
+        let (first, second) = Fenced::close(self);
         Disks { first, second }
     }
 
@@ -122,7 +123,7 @@ impl Subject for Memory {
     }
 
     fn second(&self) -> Option<&MemDisk> {
-        Store::second(self)
+        Fenced::second(self)
     }
 
     fn step<R: Wait>(

@@ -29,5 +29,5 @@ pub use host::Host;
 pub use memory::MemHost;
 pub use port::HostPort;
 pub use server::{serve_port, serve_ports};
-pub use service::{MOST_AT_ONCE, Service};
+pub use service::Service;
 pub use system::SystemHost;

@@ -1,9 +1,6 @@
 // What the threads of a server share.
 ghost use Rattle.std.specs.Prelude.{IfSome};
 
-/// How many connections of a port a server takes at once, each with a thread and a buffer of 65,536 bytes.
-pub const MOST_AT_ONCE: u64 = 4_096;
-
 /// What the threads of a server share. Each has a pass of its own: what a thread has to have to do its work.
 pub trait Service<P: Drop + Send>: Sync {
     /// Which passes it takes.
@@ -18,7 +15,8 @@ pub trait Service<P: Drop + Send>: Sync {
     /// How many works stand beside the connections. Each is named by its number, from 0.
     fn works(&self) -> u32;
 
-    /// How many connections of a port are served at once at most. One beyond them waits to be accepted.
+    /// How many connections of a port are served at once at most, each with a thread and a buffer of 65,536 bytes. One
+    /// beyond them waits to be accepted.
     fn most_at_once(&self) -> u64;
 
     /// Whether the service is over: no further connection is to be served, and no further turn to be made.

@@ -2,6 +2,7 @@
 use crate::beats::{beat, leave};
 use crate::sessions::{Then, cuts, sessions};
 use crate::turn::turn;
+use actors_api::Side;
 use case_texts::{add, escaped_bytes};
 use std::alloc::Global;
 use std::sync::Wait;
@@ -19,9 +20,10 @@ pub(crate) fn answer<R: Wait>(rt: &R, alloc: Global, line: &str) -> Option<Strin
 fn add_answer<R: Wait>(rt: &R, alloc: Global, case: &str, text: &mut String) -> Option<()> {
     let (word, rest) = case.split_once(' ')?;
     match word {
-        "session" => sessions(rt, alloc, rest, Then::Nothing, text),
-        "turns" => sessions(rt, alloc, rest, Then::Turns, text),
-        "idle" => sessions(rt, alloc, rest, Then::LateTick, text),
+        "session" => sessions(rt, alloc, Side::Caller, rest, Then::Nothing, text),
+        "peers" => sessions(rt, alloc, Side::Peer, rest, Then::Nothing, text),
+        "turns" => sessions(rt, alloc, Side::Caller, rest, Then::Turns, text),
+        "idle" => sessions(rt, alloc, Side::Caller, rest, Then::LateTick, text),
         "turn" => turn(rt, alloc, rest.as_bytes(), text),
         "cuts" => cuts(rt, alloc, escaped_bytes(alloc, rest)?.as_slice(), text),
         "beat" => beat(rt, alloc, escaped_bytes(alloc, rest)?.as_slice(), text),

@@ -8,6 +8,7 @@
 //                                            sidecar answers, which then is a host too. With `!N ` before the bytes the Nth
 //                                            call of that connection fails, reads and writes counted together from 1; with
 //                                            `+N ` they have N bytes `a` behind them
+//     NAME peers CALLER|APP;APP|STORE;..     the same of sessions on the port for other sidecars
 //     NAME turns CALLER|APP;APP|STORE;..     the same, and after the sessions a tick and a turn with the reminders
 //     NAME idle CALLER|APP;APP|STORE;..      the same, and after the sessions a tick two hours later
 //     NAME turn TYPE/ID                      how a turn of an actor begins, under which chain, and how it ends

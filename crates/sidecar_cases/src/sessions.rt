@@ -1,4 +1,4 @@
-// Sessions of callers, and the turns by the clock after them.
+// Sessions of callers and of other sidecars, and the turns by the clock after them.
 ghost use Rattle.std.specs.Prelude.{IfSome};
 ghost use Rattle.sidecar_node.specs.Nodes.{IsSeatsOf};
 
@@ -31,6 +31,7 @@ fn serve<R: Wait>(
     alloc: Global,
     node: &SidecarNode,
     seats: Seats,
+    side: Side,
     conn: &mut MemConn,
     links: &mut Links<MemDial>,
     clock: &mut MemClock,
@@ -39,7 +40,6 @@ fn serve<R: Wait>(
     requires { IsSeatsOf node.now seats }
     ensures { IfSome result (λ seats. IsSeatsOf node.now seats) }
 {
-    let side = Side::Caller;
     let (seats, end) = sidecar_session(rt, alloc, node, seats, side, conn, links, clock);
     add(format!(in alloc; "{end:?}|").ok()?.as_str(), text)?;
     add_escaped(alloc, conn.written(), text)?;
@@ -52,6 +52,7 @@ fn serve_second<R: Wait>(
     alloc: Global,
     node: &SidecarNode,
     seats: Seats,
+    side: Side,
     caller: &str,
     links: &mut Links<MemDial>,
     clock: &mut MemClock,
@@ -65,7 +66,7 @@ fn serve_second<R: Wait>(
     }
     let mut conn = conn(alloc, caller)?;
     add("|", text)?;
-    serve(rt, alloc, node, seats, &mut conn, links, clock, text)
+    serve(rt, alloc, node, seats, side, &mut conn, links, clock, text)
 }
 
 // Serves the sessions of one or two callers, one after the other.
@@ -74,6 +75,7 @@ fn serve_callers<R: Wait>(
     alloc: Global,
     node: &SidecarNode,
     seats: Seats,
+    side: Side,
     callers: &str,
     links: &mut Links<MemDial>,
     clock: &mut MemClock,
@@ -84,14 +86,15 @@ fn serve_callers<R: Wait>(
 {
     let (first, second) = cut(callers, ';');
     let mut conn = conn(alloc, first)?;
-    let seats = serve(rt, alloc, node, seats, &mut conn, links, clock, text)?;
-    serve_second(rt, alloc, node, seats, second, links, clock, text)
+    let seats = serve(rt, alloc, node, seats, side, &mut conn, links, clock, text)?;
+    serve_second(rt, alloc, node, seats, side, second, links, clock, text)
 }
 
-/// The sessions of callers, with links that answer so, and what follows them.
+/// The sessions of callers or of other sidecars, with links that answer so, and what follows them.
 pub(crate) fn sessions<R: Wait>(
     rt: &R,
     alloc: Global,
+    side: Side,
     case: &str,
     then: Then,
     text: &mut String,
@@ -104,7 +107,7 @@ pub(crate) fn sessions<R: Wait>(
     let mut clock = clock(alloc)?;
     let (node, seats) = open_node(rt, alloc, has_peer)?;
     let seats = serve_callers(
-        rt, alloc, &node, seats, callers, &mut links, &mut clock, text,
+        rt, alloc, &node, seats, side, callers, &mut links, &mut clock, text,
     )?;
     match then {
         Then::Nothing => {}
@@ -156,7 +159,15 @@ fn is_cut<R: Wait>(rt: &R, alloc: Global, bytes: &[u8]) -> Option<bool> {
     let mut conn = conn_of(alloc, bytes)?;
     let (node, seats) = open_node(rt, alloc, false)?;
     let _seats = serve(
-        rt, alloc, &node, seats, &mut conn, &mut links, &mut clock, &mut text,
+        rt,
+        alloc,
+        &node,
+        seats,
+        Side::Caller,
+        &mut conn,
+        &mut links,
+        &mut clock,
+        &mut text,
     )?;
     Some(text.as_str() == "Malformed { requests: 0 }|")
 }

@@ -78,6 +78,7 @@ fn serve_bound<R: Threads + Wait + Sync, H: Host, N: Dial, K: Clock>(
         clock,
         steady,
         words.sessions,
+        words.connections,
     );
     let callers_failed = H::port_failed(&callers);
     let peers_failed = H::port_failed(&peers);

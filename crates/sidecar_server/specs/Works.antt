@@ -9,7 +9,7 @@ use Rattle.step_gate.specs.declared.gate.Spent.{Spent}
 use Rattle.step_gate.specs.Gates.{SeatOf, Adds, SeesLast}
 use Rattle.sidecar_node.specs.declared.node.SidecarNode.{SidecarNode}
 use Rattle.sidecar_node.specs.declared.node.Seats.{Seats}
-use Rattle.sidecar_node.specs.Entries.{NodeEntry, OnPart, OnBook}
+use Rattle.sidecar_node.specs.Entries.{NodeEntry, OnPart, OnBook, OnCalls}
 use Rattle.sidecar_node.specs.Turns.{Said}
 use Rattle.sidecar_node.specs.Nodes.{part_gates, Acts, StopsAll}
 use Rattle.sidecar_server.specs.declared.watch.StopCause.{StopCause}
@@ -30,6 +30,7 @@ is_of_round event = false
 abbrev pub IsOther : NodeEntry → Type 0
 IsOther (OnPart part e) = is_of_round e.event ≡ false
 IsOther (OnBook book e) = Unit {0}
+IsOther (OnCalls e) = Unit {0}
 
 abbrev pub AreOthers : List NodeEntry → Type 0
 AreOthers [] = Unit {0}

@@ -4,6 +4,7 @@ ghost use denote.Param.Send.{IsSend, IsSync};
 ghost use Rattle.sidecar_node.specs.contracts.node.Seats as seats;
 ghost use Rattle.sidecar_node.specs.contracts.node.SidecarNode as node;
 
+use call_book::CallBook;
 use part_core::Part;
 use part_model::TypeList;
 use step_gate::{Gate, Seat};
@@ -25,13 +26,15 @@ pub(crate) fn seats_cross()
 {
     sent::<Vec<Seat<Part>>>();
     sent::<Vec<Seat<TimerBook>>>();
+    sent::<Seat<CallBook>>();
 }
 
 /// References to the node of a sidecar may be.
 pub(crate) fn node_crosses()
-    ensures { IsSync (node.the_field).row }
+    ensures { IsSync node.the_row }
 {
     shared::<TypeList>();
     shared::<Vec<Gate<Part>>>();
     shared::<Vec<Gate<TimerBook>>>();
+    shared::<Gate<CallBook>>();
 }

@@ -56,6 +56,7 @@ fn serve_watched<R: Threads + Wait + Sync, C: Conn, L: Listen<Link = C>, N: Dial
     peers: L,
     places: SidecarPlaces,
     most: Option<u64>,
+    at_once: u64,
 ) -> (L, L, ServerEnd)
     requires { Admits node.now watch.now pass.seats pass.watch }
     ensures never_falls { L.listen_faults callers ≤ L.listen_faults result.0 }
@@ -70,6 +71,7 @@ fn serve_watched<R: Threads + Wait + Sync, C: Conn, L: Listen<Link = C>, N: Dial
         watch,
         placement: places.placement,
         ending: Ending::new(places.callers, Some(places.peers)),
+        at_once,
     };
     let shared = &service;
     let serve = |pass: Pass<N, K>, conn: C|
@@ -129,7 +131,8 @@ fn stop_all<R: Wait>(rt: &R, node: &SidecarNode, seats: Seats) -> Seats
 }
 
 /// Serves a sidecar at its two ports until `most` connections of callers were served (without a limit if it is `None`), the
-/// sidecar has to stop, or a port fails. Each connection has a thread of its own. Beside them the sidecar speaks with the
+/// sidecar has to stop, or a port fails. Each connection has a thread of its own; at most `at_once` of a port are served
+/// at once. Beside them the sidecar speaks with the
 /// placement and looks whether its lease has ended, every 200 milliseconds; it deactivates idle actors as often, runs the timers
 /// that are due every 100 milliseconds, and the reminders every 1,000. At the end all parts are stopped, and the sidecar
 /// leaves the placement. The lease counts by `steady`. Its host must be one that a Register frame can carry.
@@ -146,6 +149,7 @@ pub fn serve_sidecar<R: Threads + Wait + Sync, C: Conn, L: Listen<Link = C>, N: 
     clock: K,
     steady: K,
     most: Option<u64>,
+    at_once: u64,
 ) -> (L, L, Result<SidecarServed, OutOfMemory>)
     requires seats { IsSeatsOf node.now seats }
     requires host { payload.Fits (frames.Register (host_of node.now)) }
@@ -182,7 +186,7 @@ pub fn serve_sidecar<R: Threads + Wait + Sync, C: Conn, L: Listen<Link = C>, N: 
         link: None,
     };
     let (callers, peers, end) = serve_watched(
-        rt, alloc, node, &gate, pass, callers, peers, places, most,
+        rt, alloc, node, &gate, pass, callers, peers, places, most, at_once,
     );
     let stop = closed_watch(rt, gate, seat);
     // No other thread is left: nothing follows these steps.

@@ -7,7 +7,7 @@ use actor_names::Address;
 use actor_ports::{Clock, Dial};
 use exchanges::Links;
 use placement_beats::PlacementBook;
-use server_ports::{Ending, MOST_AT_ONCE, Service};
+use server_ports::{Ending, Service};
 use sidecar_node::SidecarNode;
 use std::alloc::Global;
 use step_gate::Gate;
@@ -15,8 +15,8 @@ use step_gate::Gate;
 // How many works a sidecar has (`duties`): all that follow the fourth deactivate actors.
 const WORKS: u32 = 12;
 
-/// What the threads of a sidecar share: its node, the gate of the watch, the address of the placement, and the end of the
-/// server, which listens at two ports.
+/// What the threads of a sidecar share: its node, the gate of the watch, the address of the placement, the end of the
+/// server, which listens at two ports, and how many connections of each it serves at once.
 #[derive(Drop)]
 pub(crate) struct SidecarService<'a, N: Dial, K: Clock> {
     pub(crate) alloc: Global,
@@ -24,6 +24,7 @@ pub(crate) struct SidecarService<'a, N: Dial, K: Clock> {
     pub(crate) watch: &'a Gate<Watch<N, K>>,
     pub(crate) placement: Address,
     pub(crate) ending: Ending,
+    pub(crate) at_once: u64,
 }
 
 impl<N: Dial, K: Clock> SidecarService<'_, N, K> {
@@ -88,7 +89,7 @@ impl<N: Dial, K: Clock> Service<Pass<N, K>> for SidecarService<'_, N, K> {
     }
 
     fn most_at_once(&self) -> u64 {
-        MOST_AT_ONCE
+        self.at_once
     }
 
     fn is_over(&self) -> bool {

@@ -1,5 +1,5 @@
 // One case and its answer.
-use super::caller::{HERE, answers};
+use super::caller::{HERE, Visit, answers};
 use super::host::{add_returned, host_of};
 use crate::outside::{CaseOutside, outside_of};
 use actor_ports::{MemSink, MemSource};
@@ -17,9 +17,12 @@ fn add_word(alloc: Global, word: &str, words: &mut Vec<String>) -> Option<()> {
     words.push(String::from_str(alloc, word).ok()?).ok()
 }
 
-// The words of a command that serves so many connections at this port, and one more.
-fn words_of(alloc: Global, command: &str, port: u16, count: u64) -> Option<Vec<String>> {
-    let sessions = count.saturating_add(1);
+// The words of a command that serves these connections at this port.
+fn words_of(alloc: Global, command: &str, port: u16, visit: Visit) -> Option<Vec<String>> {
+    let sessions = match visit {
+        Visit::Together(count) => count.saturating_add(1),
+        Visit::InTurn => 2,
+    };
     let mut words = Vec::new(alloc);
     for word in [command, "--journal=journal", "--new"] {
         add_word(alloc, word, &mut words)?;
@@ -30,6 +33,9 @@ fn words_of(alloc: Global, command: &str, port: u16, count: u64) -> Option<Vec<S
     words
         .push(format!(in alloc; "--sessions={sessions}").ok()?)
         .ok()?;
+    if matches!(visit, Visit::InTurn) {
+        add_word(alloc, "--connections=1", &mut words)?;
+    }
     Some(words)
 }
 
@@ -73,17 +79,17 @@ fn served<
     words: &[String],
     outside: &mut CaseOutside<R>,
     port: u16,
-    count: u64,
+    visit: Visit,
     bytes: &[u8],
 ) -> (Option<String>, u8) {
     thread::join(
         &rt,
-        || answers(rt, alloc, port, count, bytes),
+        || answers(rt, alloc, port, visit, bytes),
         || status_of(rt, alloc, words, outside),
     )
 }
 
-// Appends what so many links and one more are answered by this command, its status, and what it gave back.
+// Appends what these links are answered by this command, its status, and what it gave back.
 fn add_served<
     R: Threads
         + Wait
@@ -93,9 +99,16 @@ fn add_served<
         + Copy
         + Send
         + Drop,
->(rt: R, alloc: Global, command: &str, count: u64, bytes: &[u8], text: &mut String) -> Option<()> {
+>(
+    rt: R,
+    alloc: Global,
+    command: &str,
+    visit: Visit,
+    bytes: &[u8],
+    text: &mut String,
+) -> Option<()> {
     let (listener, port) = bound(&rt)?;
-    let words = words_of(alloc, command, port, count)?;
+    let words = words_of(alloc, command, port, visit)?;
     let input = MemSource::new(alloc, b"", &[]).ok()?;
     let output = MemSink::new(alloc, &[]).ok()?;
     let mut outside = outside_of(rt, alloc, input, output, host_of(rt, alloc, listener)?)?;
@@ -105,7 +118,7 @@ fn add_served<
         words.as_slice(),
         &mut outside,
         port,
-        count,
+        visit,
         bytes,
     );
     add(frames?.as_str(), text)?;
@@ -127,9 +140,13 @@ pub(crate) fn answer<
     let (name, rest) = line.split_once(' ')?;
     let (command, rest) = rest.split_once(' ')?;
     let (count, bytes) = rest.split_once(' ')?;
-    let count = count.parse::<u64>().ok()?;
+    let visit = if count == "in-turn" {
+        Visit::InTurn
+    } else {
+        Visit::Together(count.parse::<u64>().ok()?)
+    };
     let bytes = hex_bytes(alloc, bytes)?;
     let mut text = format!(in alloc; "{name} ").ok()?;
-    add_served(rt, alloc, command, count, bytes.as_slice(), &mut text)?;
+    add_served(rt, alloc, command, visit, bytes.as_slice(), &mut text)?;
     Some(text)
 }

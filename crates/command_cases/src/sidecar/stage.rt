@@ -12,6 +12,9 @@ pub(crate) enum Trial {
     TwoActors,
     /// Two callers of one actor without reentrancy. The application looks for a second call before it answers one.
     OneActor,
+    /// Two callers of two actors, at a sidecar that serves one connection of a port at a time. The application looks for a
+    /// second call before it answers one.
+    OneAtOnce,
     /// One caller, whose actor moves to another host while the application works. The application answers once the turn's
     /// time to drain is over.
     Moved,
@@ -101,7 +104,7 @@ impl Stage {
     fn is_ready(&self, call: u64) -> bool {
         match self.trial {
             Trial::TwoActors => call > 0 || self.calls.load(Ordering::SeqCst) > 1,
-            Trial::OneActor => self.open.load(Ordering::SeqCst) > 1,
+            Trial::OneActor | Trial::OneAtOnce => self.open.load(Ordering::SeqCst) > 1,
             Trial::Moved => self.moment() >= DRAINED_MS,
             Trial::Refused => self.is_woken(),
         }
@@ -121,7 +124,7 @@ impl Stage {
     /// What the application answers to this call: nothing if what it waits for didn't come.
     pub(crate) fn answer(&self, call: u64) -> &'static [u8] {
         let answer = match self.trial {
-            Trial::OneActor => {
+            Trial::OneActor | Trial::OneAtOnce => {
                 self.look(call, IDLE_LOOKS);
                 scenes::RESULT
             }
@@ -140,7 +143,7 @@ impl Stage {
     // What the placement answers once the application has a call.
     fn place_at_work(&self) -> &'static [u8] {
         match self.trial {
-            Trial::TwoActors | Trial::OneActor => scenes::IDLE,
+            Trial::TwoActors | Trial::OneActor | Trial::OneAtOnce => scenes::IDLE,
             Trial::Refused => scenes::NOT_MEMBER,
             Trial::Moved => match self.moves.fetch_add(1, Ordering::SeqCst) {
                 0 => scenes::LOCK_2,

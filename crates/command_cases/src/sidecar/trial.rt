@@ -14,7 +14,7 @@ use std::sync::Wait;
 use std::thread::Threads;
 use std::time::Clock;
 
-// The words of the command, but for the number of connections.
+// The words of the command, but for the numbers of connections.
 const WORDS: [&str; 8] = [
     "sidecar",
     "--node=n1",
@@ -30,6 +30,7 @@ fn trial_of(name: &str) -> Option<Trial> {
     match name {
         "serves_two_connections_at_once" => Some(Trial::TwoActors),
         "end_follows_application_reply" => Some(Trial::OneActor),
+        "second_connection_waits_for_first" => Some(Trial::OneAtOnce),
         "ended_turn_answers_aborted" => Some(Trial::Moved),
         "stopped_turn_answers_stopped" => Some(Trial::Refused),
         _ => None,
@@ -39,7 +40,7 @@ fn trial_of(name: &str) -> Option<Trial> {
 // What the second caller of a trial sends, if it has one.
 fn second_of(trial: Trial) -> Option<&'static [u8]> {
     match trial {
-        Trial::TwoActors => Some(scenes::OTHER_CALL),
+        Trial::TwoActors | Trial::OneAtOnce => Some(scenes::OTHER_CALL),
         Trial::OneActor => Some(scenes::CALL),
         Trial::Moved | Trial::Refused => None,
     }
@@ -55,6 +56,11 @@ fn words_of(alloc: Global, trial: Trial) -> Option<Vec<String>> {
         words.push(String::from_str(alloc, word).ok()?).ok()?;
     }
     words.push(String::from_str(alloc, sessions).ok()?).ok()?;
+    if trial == Trial::OneAtOnce {
+        words
+            .push(String::from_str(alloc, "--connections=1").ok()?)
+            .ok()?;
+    }
     Some(words)
 }
 

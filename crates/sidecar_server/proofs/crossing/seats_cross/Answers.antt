@@ -6,5 +6,5 @@ use Rattle.sidecar_server.proofs.crossing.seats_cross.Goals as goal
 pub returns : goal.returns
 returns c =
     let T = seats.the_type in
-    let parts : AllSend (fields T) = (record { owned = c.sent.ensures.owned; leaving = λ k d w. tt }, (record { owned = c.sent-2.ensures.owned; leaving = λ k d w. tt }, tt)) in
+    let parts : AllSend (fields T) = (record { owned = c.sent.ensures.owned; leaving = λ k d w. tt }, (record { owned = c.sent-2.ensures.owned; leaving = λ k d w. tt }, (record { owned = c.sent-3.ensures.owned; leaving = λ k d w. tt }, tt))) in
     struct_send (shape T) parts

@@ -25,13 +25,11 @@ abbrev shared_of : (g : given.Over) → NamedLft → RattleType
 shared_of g ℓ = service.the_row ℓ (param 3 g.row.N) (param 4 g.row.K) (param 5 g.row.N-Link) g.N.Dial g.N.Link.Conn g.N.Link.Source g.N.Link.Sink g.K.Clock
 
 -- what the threads share may be shared, whatever it borrows for
-service_crosses : (g : given.Over) → IsSync (node.the_field).row → (ℓ : NamedLft) → IsSync (shared_of g ℓ)
+service_crosses : (g : given.Over) → IsSync node.the_row → (ℓ : NamedLft) → IsSync (shared_of g ℓ)
 service_crosses g n ℓ =
     let T = service.the_type ℓ (param 3 g.row.N) (param 4 g.row.K) (param 5 g.row.N-Link) g.N.Dial g.N.Link.Conn g.N.Link.Source g.N.Link.Sink g.K.Clock in
-    let U = node.the_type in
-    let m : IsSync node.the_row = recorded_sync _ _ U.to U.to_one n in
     let w = watch.the_send (param 3 g.row.N) (param 4 g.row.K) (param 5 g.row.N-Link) g.N.Dial g.N.Link.Source g.N.Link.Sink g.K.Clock in
-    recorded_sync _ _ T.to T.to_one (struct_sync (shape T) (search (sendable, crosses) depth 20, (search (m, sendable) depth 9, (search (w, gate.the_sync, sendable, crosses) depth 20, (address.the_field_sync, (search (ending.the_sync, sendable, crosses) depth 20, tt))))))
+    recorded_sync _ _ T.to T.to_one (struct_sync (shape T) (search (sendable, crosses) depth 20, (search (n, sendable) depth 9, (search (w, gate.the_sync, sendable, crosses) depth 20, (address.the_field_sync, (search (ending.the_sync, sendable, crosses) depth 20, (search sendable, tt)))))))
 
 -- a closure that captures two references may be shared if what they lead to may be
 closure_shared : (ν : List ℕ) (A B : RattleType) → IsSync A → IsSync B → IsSync (TupleAt ν (A ∷ B ∷ []))
