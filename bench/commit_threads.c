@@ -3,7 +3,7 @@
        commit_threads mutex FILE THREADS SECONDS    a thread that has a request takes a mutex and commits
        commit_threads one FILE THREADS SECONDS      a thread that has a request asks one more thread, which makes all commits
 
-   A commit is a record of 150 bytes and a byte behind it, each with a sync of its own. Each thread has a client, a thread
+   A commit is a record of 160 bytes and a byte behind it, each with a sync of its own. Each thread has a client, a thread
    too, which sends the next request over a socket once the one before was answered. It prints how many were answered. */
 #define _GNU_SOURCE
 #include <fcntl.h>
@@ -16,7 +16,7 @@
 #include <time.h>
 #include <unistd.h>
 
-enum { MOST = 64, RECORD = 150, ANSWER = 6 };
+enum { MOST = 64, RECORD = 160, ANSWER = 6 };
 
 struct pair {
     int client, server;

@@ -81,11 +81,12 @@ static char *put_name(char *to, const char *name) {
     return to + length;
 }
 
-/* The frame of a transaction; *number is where its number stands. */
+/* The frame of a transaction of epoch 1; *number is where its number stands. */
 static size_t transaction(char *frame, int part, char **number) {
     char id[16], *to = frame + 4;
     snprintf(id, sizeof id, "i%d", part);
-    *to++ = 33;
+    *to++ = 40;
+    to = put(to, 1, 8);
     to = put_name(put_name(to, "default"), "bench");
     to = put(to, boot, 8);
     *to++ = (char)part;

@@ -172,10 +172,13 @@ Host = collections.namedtuple("Host", "node app listen peer application sidecar"
 
 
 class Cluster(Folder):
-    """A placement with HTTP, a store, and hosts that are named by one letter each: a sidecar and its application."""
+    """A placement with HTTP, a store, and hosts that are named by one letter each: a sidecar and its application, a script of
+    this folder."""
 
-    def __init__(self, nodes="ab", before=":"):
+    def __init__(self, nodes="ab", before=":", application="application.py"):
         super().__init__()
+        self.application = application
+        self.numbers = itertools.count(1)
         self.frames_port, self.http_port, self.store_port, *rest = free_ports(3 + 3 * len(nodes))
         self.placement = self.server("placement", self.frames_port, self.path / "placement", before,
                                      ["--http", at(self.http_port)])
@@ -185,22 +188,30 @@ class Cluster(Folder):
     def host(self, node, ports, before):
         app, listen, peer = ports
         application = self.process(f"the application of {node}",
-                                   [sys.executable, "-B", HERE / "application.py", app, listen, node])
+                                   [sys.executable, "-B", HERE / self.application, app, listen, node])
         words = [PROGRAM, "sidecar", "--node", node, "--app-id", "shop", "--app", at(app), "--listen", at(listen),
                  "--peer", at(peer), "--placement", at(self.frames_port), "--store", at(self.store_port)]
         return Host(node, app, listen, peer, application, self.process(f"the sidecar of {node}", words, before))
 
     def start(self, nodes=None):
-        """Starts the servers and these hosts, all if they aren't named, and waits until each host answers."""
+        """Starts the servers and these hosts, all if they aren't named, and waits until each host answers. If that is cut off,
+        nothing stays behind."""
+        try:
+            self.start_each(nodes or self.hosts)
+        except BaseException:
+            self.__exit__()
+            raise
+        return self
+
+    def start_each(self, nodes):
         self.placement.start("--new")
         self.store.start("--new")
         for port in (self.frames_port, self.store_port):
             await_so(lambda port=port: listens(port), 10)
-        for node in nodes or self.hosts:
+        for node in nodes:
             self.start_host(node)
         if answers_again(self.listens(nodes), ["first"], 30) is None:
             sys.exit("the cluster doesn't answer")
-        return self
 
     def start_host(self, node):
         host = self.hosts[node]
@@ -231,7 +242,7 @@ class Cluster(Folder):
             ("the store's port", self.store_port, lambda: is_read_answered(self.store_port)),
             ("a sidecar's port", host.listen, lambda: http_status(host.listen, "PUT", look) == 200),
             ("a sidecar's port for peers", host.peer,
-             lambda: http_status(host.peer, "PUT", look, {"Actors-Least": "0"}) in (200, 421)),
+             lambda: http_status(host.peer, "PUT", look, {"Actors-Least": "0", "Actors-Call": f"prober/1 0 {next(self.numbers)}"}) in (200, 421)),
         ]
 
 

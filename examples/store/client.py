@@ -43,8 +43,13 @@ def upsert(key, value):
     return bytes([1]) + text(key) + blob(value.encode()) + bytes([0])
 
 
-def transaction(whose, word, operations):
-    return frame(33, whose + actor(word) + struct.pack(">H", len(operations)) + b"".join(operations))
+def transaction(whose, word, operations, epoch=1):
+    return frame(40, struct.pack(">Q", epoch) + unfenced(whose, word, operations))
+
+
+def unfenced(whose, word, operations):
+    """The fields of a transaction without an epoch, whose kind is 33; a store refuses it."""
+    return whose + actor(word) + struct.pack(">H", len(operations)) + b"".join(operations)
 
 
 def get(word, key):
@@ -101,7 +106,7 @@ def load(port, links):
             with dial(port) as link:
                 while True:
                     key = "%d-%d-%d" % (drawn, part, number)
-                    if ask(link, transaction(stamp("load", drawn, part, number), "i", [upsert(key, key)])) != "done":
+                    if ask(link, transaction(stamp("load", drawn, part, number), "i", [upsert(key, key)], 3)) != "done":
                         return
                     told[part].append(key)
                     number += 1
@@ -180,9 +185,13 @@ def main():
         elif command == "get":
             print(ask(link, get("i", sys.argv[3])))
         elif command == "set":
+            word, drawn, number, epoch, key, value = sys.argv[3:9]
+            whose = stamp(word, int(drawn), 0, int(number))
+            print(ask(link, transaction(whose, "i", [upsert(key, value)], int(epoch))), ask(link, get("i", key)))
+        elif command == "plain":
             word, drawn, number, key, value = sys.argv[3:8]
             whose = stamp(word, int(drawn), 0, int(number))
-            print(ask(link, transaction(whose, "i", [upsert(key, value)])), ask(link, get("i", key)))
+            print(ask(link, frame(33, unfenced(whose, "i", [upsert(key, value)]))), ask(link, get("i", key)))
 
 
 if __name__ == "__main__":
