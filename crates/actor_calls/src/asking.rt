@@ -20,7 +20,7 @@ use std::alloc::Global;
 use std::sync::Wait;
 
 // The turn that has begun: one exchange with the application, and the End.
-fn run_turn<R: Wait, L: Dial, K: Clock>(
+fn run_turn<R: Wait, A: Dial, P: Dial, S: Dial, K: Clock>(
     rt: &R,
     alloc: Global,
     node: &SidecarNode,
@@ -29,13 +29,13 @@ fn run_turn<R: Wait, L: Dial, K: Clock>(
     request: &HttpRequest,
     call: u64,
     chain: Option<ChainId>,
-    links: &mut Links<L>,
+    links: &mut Links<A, P, S>,
     clock: &mut K,
 ) -> (Seats, ApiReply)
     requires { IsSeatsOf node.now seats }
     ensures seats { IsSeatsOf node.now result.0 }
     ensures turn { (es : List PartEntry) × (xs : List Exchange) × ActsAt (part_at node.now invoke.now.actor) es seats result.0
-        × Dialling xs (L.dialled links.old.app) (L.dialled links.new.app) (L.dial_faults links.old.app) (L.dial_faults links.new.app)
+        × Dialling xs (A.dialled links.old.app) (A.dialled links.new.app) (A.dial_faults links.old.app) (A.dial_faults links.new.app)
         × IsTurn (part_at node.now invoke.now.actor) result.0 links.old.app_at invoke.now request.now call chain (K.shown clock.old) (K.shown clock.new) es xs result.1 }
     ensures places { (links.new.app_at ≡ links.old.app_at) × (links.new.store_at ≡ links.old.store_at) }
     ensures others { (links.new.peers ≡ links.old.peers) × (links.new.store ≡ links.old.store) }
@@ -46,7 +46,7 @@ fn run_turn<R: Wait, L: Dial, K: Clock>(
 }
 
 // What follows the last reply of the beginning.
-fn follow<R: Wait, L: Dial, K: Clock>(
+fn follow<R: Wait, A: Dial, P: Dial, S: Dial, K: Clock>(
     rt: &R,
     alloc: Global,
     node: &SidecarNode,
@@ -54,13 +54,13 @@ fn follow<R: Wait, L: Dial, K: Clock>(
     invoke: &Invoke,
     request: &HttpRequest,
     reply: PartReply,
-    links: &mut Links<L>,
+    links: &mut Links<A, P, S>,
     clock: &mut K,
 ) -> (Seats, Next)
     requires { IsSeatsOf node.now seats }
     ensures seats { IsSeatsOf node.now result.0 }
     ensures follows { (es : List PartEntry) × (xs : List Exchange) × ActsAt (part_at node.now invoke.now.actor) es seats result.0
-        × Dialling xs (L.dialled links.old.app) (L.dialled links.new.app) (L.dial_faults links.old.app) (L.dial_faults links.new.app)
+        × Dialling xs (A.dialled links.old.app) (A.dialled links.new.app) (A.dial_faults links.old.app) (A.dial_faults links.new.app)
         × Follows (part_at node.now invoke.now.actor) result.0 links.old.app_at invoke.now request.now (Ok reply) (K.shown clock.old) (K.shown clock.new) es xs result.1 }
     ensures places { (links.new.app_at ≡ links.old.app_at) × (links.new.store_at ≡ links.old.store_at) }
     ensures others { (links.new.peers ≡ links.old.peers) × (links.new.store ≡ links.old.store) }
@@ -77,7 +77,7 @@ fn follow<R: Wait, L: Dial, K: Clock>(
 }
 
 /// Asks the actor's part for a turn, by an AskAt if there is a least version, and runs the turn if it begins.
-pub(crate) fn ask_here<R: Wait, L: Dial, K: Clock>(
+pub(crate) fn ask_here<R: Wait, A: Dial, P: Dial, S: Dial, K: Clock>(
     rt: &R,
     alloc: Global,
     node: &SidecarNode,
@@ -85,13 +85,13 @@ pub(crate) fn ask_here<R: Wait, L: Dial, K: Clock>(
     invoke: &Invoke,
     request: &HttpRequest,
     least: Option<u64>,
-    links: &mut Links<L>,
+    links: &mut Links<A, P, S>,
     clock: &mut K,
 ) -> (Seats, Next)
     requires { IsSeatsOf node.now seats }
     ensures seats { IsSeatsOf node.now result.0 }
     ensures asked { (es : List PartEntry) × (xs : List Exchange) × ActsAt (part_at node.now invoke.now.actor) es seats result.0
-        × Dialling xs (L.dialled links.old.app) (L.dialled links.new.app) (L.dial_faults links.old.app) (L.dial_faults links.new.app)
+        × Dialling xs (A.dialled links.old.app) (A.dialled links.new.app) (A.dial_faults links.old.app) (A.dial_faults links.new.app)
         × IsAsked (part_at node.now invoke.now.actor) result.0 links.old.app_at invoke.now request.now least (K.shown clock.old) (K.shown clock.new) es xs result.1 }
     ensures places { (links.new.app_at ≡ links.old.app_at) × (links.new.store_at ≡ links.old.store_at) }
     ensures others { (links.new.peers ≡ links.old.peers) × (links.new.store ≡ links.old.store) }

@@ -37,16 +37,16 @@ fn call_method<L: Dial>(
 }
 
 // Calls the method at the application, under the chain of the turn.
-pub(crate) fn call_app<L: Dial>(
+pub(crate) fn call_app<A: Dial, P: Dial, S: Dial>(
     alloc: Global,
-    links: &mut Links<L>,
+    links: &mut Links<A, P, S>,
     invoke: &Invoke,
     request: &HttpRequest,
     chain: Option<&ChainId>,
 ) -> Result<HttpResponse, EdgeError>
     ensures exchange { (xs : List Exchange)
         × IsHttpExchange (call_text links.old.app_at invoke.now.actor invoke.now.method (option_copied chain.entry) request.now) (place_at links.old.app_at) xs result
-        × Dialling xs (L.dialled links.old.app) (L.dialled links.new.app) (L.dial_faults links.old.app) (L.dial_faults links.new.app) }
+        × Dialling xs (A.dialled links.old.app) (A.dialled links.new.app) (A.dial_faults links.old.app) (A.dial_faults links.new.app) }
     ensures places { (links.new.app_at ≡ links.old.app_at) × (links.new.store_at ≡ links.old.store_at) }
     ensures others { (links.new.peers ≡ links.old.peers) × (links.new.store ≡ links.old.store) }
 {

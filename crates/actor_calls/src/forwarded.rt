@@ -84,7 +84,7 @@ fn finish_answer(said: Result<BookReply, Spent>, sent: ApiReply) -> ApiReply
 }
 
 // Serves a call that is new, and notes its response in the book.
-fn serve_new<R: Wait, L: Dial, K: Clock>(
+fn serve_new<R: Wait, A: Dial, P: Dial, S: Dial, K: Clock>(
     rt: &R,
     alloc: Global,
     node: &SidecarNode,
@@ -93,14 +93,14 @@ fn serve_new<R: Wait, L: Dial, K: Clock>(
     call: &CallName,
     invoke: &Invoke,
     request: &HttpRequest,
-    links: &mut Links<L>,
+    links: &mut Links<A, P, S>,
     clock: &mut K,
 ) -> (Seats, ApiReply)
     requires { IsSeatsOf node.now seats }
     ensures seats { IsSeatsOf node.now result.0 }
     ensures served { (ns : List NodeEntry) × (xs : List Exchange) × (ys : List Exchange) × Acts ns seats result.0
-        × Dialling xs (L.dialled links.old.app) (L.dialled links.new.app) (L.dial_faults links.old.app) (L.dial_faults links.new.app)
-        × Dialling ys (L.dialled links.old.peers) (L.dialled links.new.peers) (L.dial_faults links.old.peers) (L.dial_faults links.new.peers)
+        × Dialling xs (A.dialled links.old.app) (A.dialled links.new.app) (A.dial_faults links.old.app) (A.dial_faults links.new.app)
+        × Dialling ys (P.dialled links.old.peers) (P.dialled links.new.peers) (P.dial_faults links.old.peers) (P.dial_faults links.new.peers)
         × IsNewServed node.now result.0 links.old.app_at side request.now call.now invoke.now (K.shown clock.old) (K.shown clock.new) ns xs ys result.1 }
     ensures places { (links.new.app_at ≡ links.old.app_at) × (links.new.store_at ≡ links.old.store_at) }
     ensures store { links.new.store ≡ links.old.store }
@@ -113,7 +113,7 @@ fn serve_new<R: Wait, L: Dial, K: Clock>(
 }
 
 // What follows the reply to the Begin.
-fn after_begin<R: Wait, L: Dial, K: Clock>(
+fn after_begin<R: Wait, A: Dial, P: Dial, S: Dial, K: Clock>(
     rt: &R,
     alloc: Global,
     node: &SidecarNode,
@@ -123,14 +123,14 @@ fn after_begin<R: Wait, L: Dial, K: Clock>(
     invoke: &Invoke,
     request: &HttpRequest,
     reply: BookReply,
-    links: &mut Links<L>,
+    links: &mut Links<A, P, S>,
     clock: &mut K,
 ) -> (Seats, ApiReply)
     requires { IsSeatsOf node.now seats }
     ensures seats { IsSeatsOf node.now result.0 }
     ensures follows { (ns : List NodeEntry) × (xs : List Exchange) × (ys : List Exchange) × Acts ns seats result.0
-        × Dialling xs (L.dialled links.old.app) (L.dialled links.new.app) (L.dial_faults links.old.app) (L.dial_faults links.new.app)
-        × Dialling ys (L.dialled links.old.peers) (L.dialled links.new.peers) (L.dial_faults links.old.peers) (L.dial_faults links.new.peers)
+        × Dialling xs (A.dialled links.old.app) (A.dialled links.new.app) (A.dial_faults links.old.app) (A.dial_faults links.new.app)
+        × Dialling ys (P.dialled links.old.peers) (P.dialled links.new.peers) (P.dial_faults links.old.peers) (P.dial_faults links.new.peers)
         × AfterBegin node.now result.0 links.old.app_at side request.now call.now invoke.now (Ok reply) (K.shown clock.old) (K.shown clock.new) ns xs ys result.1 }
     ensures places { (links.new.app_at ≡ links.old.app_at) × (links.new.store_at ≡ links.old.store_at) }
     ensures store { links.new.store ≡ links.old.store }
@@ -147,7 +147,7 @@ fn after_begin<R: Wait, L: Dial, K: Clock>(
 /// is new, the call is served and has one Finish with the response that goes out. Any other reply to the Begin is the
 /// answer, and nothing else is done. If there is no memory for the response, none goes out, and the Finish notes status
 /// 503 alone, which takes no memory.
-pub fn serve_forwarded<R: Wait, L: Dial, K: Clock>(
+pub fn serve_forwarded<R: Wait, A: Dial, P: Dial, S: Dial, K: Clock>(
     rt: &R,
     alloc: Global,
     node: &SidecarNode,
@@ -156,14 +156,14 @@ pub fn serve_forwarded<R: Wait, L: Dial, K: Clock>(
     call: &CallName,
     invoke: &Invoke,
     request: &HttpRequest,
-    links: &mut Links<L>,
+    links: &mut Links<A, P, S>,
     clock: &mut K,
 ) -> (Seats, ApiReply)
     requires { IsSeatsOf node.now seats }
     ensures seats { IsSeatsOf node.now result.0 }
     ensures served { (ns : List NodeEntry) × (xs : List Exchange) × (ys : List Exchange) × Acts ns seats result.0
-        × Dialling xs (L.dialled links.old.app) (L.dialled links.new.app) (L.dial_faults links.old.app) (L.dial_faults links.new.app)
-        × Dialling ys (L.dialled links.old.peers) (L.dialled links.new.peers) (L.dial_faults links.old.peers) (L.dial_faults links.new.peers)
+        × Dialling xs (A.dialled links.old.app) (A.dialled links.new.app) (A.dial_faults links.old.app) (A.dial_faults links.new.app)
+        × Dialling ys (P.dialled links.old.peers) (P.dialled links.new.peers) (P.dial_faults links.old.peers) (P.dial_faults links.new.peers)
         × IsForwardServed node.now result.0 links.old.app_at side request.now call.now invoke.now (K.shown clock.old) (K.shown clock.new) ns xs ys result.1 }
     ensures places { (links.new.app_at ≡ links.old.app_at) × (links.new.store_at ≡ links.old.store_at) }
     ensures store { links.new.store ≡ links.old.store }

@@ -91,7 +91,7 @@ fn forward<R: Wait, L: Dial>(
 
 // One hop: an AskAt here if the owner is this member, or else a Draw, and the request is handed on to the owner's
 // sidecar.
-fn hop_once<R: Wait, L: Dial, K: Clock>(
+fn hop_once<R: Wait, A: Dial, P: Dial, S: Dial, K: Clock>(
     rt: &R,
     alloc: Global,
     node: &SidecarNode,
@@ -101,14 +101,14 @@ fn hop_once<R: Wait, L: Dial, K: Clock>(
     request: &HttpRequest,
     least: u64,
     owner: &HostInfo,
-    links: &mut Links<L>,
+    links: &mut Links<A, P, S>,
     clock: &mut K,
 ) -> (Seats, Next)
     requires { IsSeatsOf node.now seats }
     ensures seats { IsSeatsOf node.now result.0 }
     ensures hop { (es : List PartEntry) × (xs : List Exchange) × (ys : List Exchange) × ActsAt (part_at node.now invoke.now.actor) es seats result.0
-        × Dialling xs (L.dialled links.old.app) (L.dialled links.new.app) (L.dial_faults links.old.app) (L.dial_faults links.new.app)
-        × Dialling ys (L.dialled links.old.peers) (L.dialled links.new.peers) (L.dial_faults links.old.peers) (L.dial_faults links.new.peers)
+        × Dialling xs (A.dialled links.old.app) (A.dialled links.new.app) (A.dial_faults links.old.app) (A.dial_faults links.new.app)
+        × Dialling ys (P.dialled links.old.peers) (P.dialled links.new.peers) (P.dial_faults links.old.peers) (P.dial_faults links.new.peers)
         × IsHop (part_at node.now invoke.now.actor) result.0 me.now links.old.app_at invoke.now request.now least owner.now (K.shown clock.old) (K.shown clock.new) es xs ys result.1 }
     ensures places { (links.new.app_at ≡ links.old.app_at) × (links.new.store_at ≡ links.old.store_at) }
     ensures store { links.new.store ≡ links.old.store }
@@ -141,7 +141,7 @@ fn hop_once<R: Wait, L: Dial, K: Clock>(
 }
 
 /// Hops from owner to owner until the request is answered or the route refuses a hop.
-pub(crate) fn hop_on<R: Wait, L: Dial, K: Clock>(
+pub(crate) fn hop_on<R: Wait, A: Dial, P: Dial, S: Dial, K: Clock>(
     rt: &R,
     alloc: Global,
     node: &SidecarNode,
@@ -152,15 +152,15 @@ pub(crate) fn hop_on<R: Wait, L: Dial, K: Clock>(
     mut route: Route,
     version: u64,
     owner: HostInfo,
-    links: &mut Links<L>,
+    links: &mut Links<A, P, S>,
     clock: &mut K,
 ) -> (Seats, ApiReply)
     requires seats { IsSeatsOf node.now seats }
     requires few { length route ≤ 7 }
     ensures seats { IsSeatsOf node.now result.0 }
     ensures routed { (es : List PartEntry) × (xs : List Exchange) × (ys : List Exchange) × ActsAt (part_at node.now invoke.now.actor) es seats result.0
-        × Dialling xs (L.dialled links.old.app) (L.dialled links.new.app) (L.dial_faults links.old.app) (L.dial_faults links.new.app)
-        × Dialling ys (L.dialled links.old.peers) (L.dialled links.new.peers) (L.dial_faults links.old.peers) (L.dial_faults links.new.peers)
+        × Dialling xs (A.dialled links.old.app) (A.dialled links.new.app) (A.dial_faults links.old.app) (A.dial_faults links.new.app)
+        × Dialling ys (P.dialled links.old.peers) (P.dialled links.new.peers) (P.dial_faults links.old.peers) (P.dial_faults links.new.peers)
         × IsRouted (part_at node.now invoke.now.actor) result.0 me.now links.old.app_at invoke.now request.now route version owner (K.shown clock.old) (K.shown clock.new) es xs ys result.1 }
     ensures places { (links.new.app_at ≡ links.old.app_at) × (links.new.store_at ≡ links.old.store_at) }
     ensures store { links.new.store ≡ links.old.store }

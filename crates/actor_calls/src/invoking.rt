@@ -22,7 +22,7 @@ use std::alloc::Global;
 use std::sync::Wait;
 
 // What follows if the actor belongs to another member.
-fn move_on<R: Wait, L: Dial, K: Clock>(
+fn move_on<R: Wait, A: Dial, P: Dial, S: Dial, K: Clock>(
     rt: &R,
     alloc: Global,
     node: &SidecarNode,
@@ -33,14 +33,14 @@ fn move_on<R: Wait, L: Dial, K: Clock>(
     request: &HttpRequest,
     version: u64,
     owner: HostInfo,
-    links: &mut Links<L>,
+    links: &mut Links<A, P, S>,
     clock: &mut K,
 ) -> (Seats, ApiReply)
     requires { IsSeatsOf node.now seats }
     ensures seats { IsSeatsOf node.now result.0 }
     ensures goes_on { (es : List PartEntry) × (xs : List Exchange) × (ys : List Exchange) × ActsAt (part_at node.now invoke.now.actor) es seats result.0
-        × Dialling xs (L.dialled links.old.app) (L.dialled links.new.app) (L.dial_faults links.old.app) (L.dial_faults links.new.app)
-        × Dialling ys (L.dialled links.old.peers) (L.dialled links.new.peers) (L.dial_faults links.old.peers) (L.dial_faults links.new.peers)
+        × Dialling xs (A.dialled links.old.app) (A.dialled links.new.app) (A.dial_faults links.old.app) (A.dial_faults links.new.app)
+        × Dialling ys (P.dialled links.old.peers) (P.dialled links.new.peers) (P.dial_faults links.old.peers) (P.dial_faults links.new.peers)
         × GoesOn (part_at node.now invoke.now.actor) result.0 me.now links.old.app_at invoke.now request.now side (Moves version owner) (K.shown clock.old) (K.shown clock.new) es xs ys result.1 }
     ensures places { (links.new.app_at ≡ links.old.app_at) × (links.new.store_at ≡ links.old.store_at) }
     ensures store { links.new.store ≡ links.old.store }
@@ -66,7 +66,7 @@ fn move_on<R: Wait, L: Dial, K: Clock>(
 
 /// Serves a call of an actor's method that came on this port. If the actor belongs to another member, a peer is told so,
 /// and a caller's request is handed on. Want of memory is answered as a refusal.
-pub fn serve_invoke<R: Wait, L: Dial, K: Clock>(
+pub fn serve_invoke<R: Wait, A: Dial, P: Dial, S: Dial, K: Clock>(
     rt: &R,
     alloc: Global,
     node: &SidecarNode,
@@ -74,14 +74,14 @@ pub fn serve_invoke<R: Wait, L: Dial, K: Clock>(
     side: Side,
     invoke: &Invoke,
     request: &HttpRequest,
-    links: &mut Links<L>,
+    links: &mut Links<A, P, S>,
     clock: &mut K,
 ) -> (Seats, ApiReply)
     requires { IsSeatsOf node.now seats }
     ensures seats { IsSeatsOf node.now result.0 }
     ensures invoked { (es : List PartEntry) × (xs : List Exchange) × (ys : List Exchange) × ActsAt (part_at node.now invoke.now.actor) es seats result.0
-        × Dialling xs (L.dialled links.old.app) (L.dialled links.new.app) (L.dial_faults links.old.app) (L.dial_faults links.new.app)
-        × Dialling ys (L.dialled links.old.peers) (L.dialled links.new.peers) (L.dial_faults links.old.peers) (L.dial_faults links.new.peers)
+        × Dialling xs (A.dialled links.old.app) (A.dialled links.new.app) (A.dial_faults links.old.app) (A.dial_faults links.new.app)
+        × Dialling ys (P.dialled links.old.peers) (P.dialled links.new.peers) (P.dial_faults links.old.peers) (P.dial_faults links.new.peers)
         × IsInvoked (part_at node.now invoke.now.actor) result.0 (host_of node.now).member links.old.app_at invoke.now request.now side (K.shown clock.old) (K.shown clock.new) es xs ys result.1 }
     ensures places { (links.new.app_at ≡ links.old.app_at) × (links.new.store_at ≡ links.old.store_at) }
     ensures store { links.new.store ≡ links.old.store }

@@ -19,7 +19,7 @@ use std::alloc::Global;
 use std::sync::Wait;
 
 // Serves a call of a caller, or one that another sidecar forwarded here under a name.
-fn serve_named<R: Wait, L: Dial, K: Clock>(
+fn serve_named<R: Wait, A: Dial, P: Dial, S: Dial, K: Clock>(
     rt: &R,
     alloc: Global,
     node: &SidecarNode,
@@ -28,14 +28,14 @@ fn serve_named<R: Wait, L: Dial, K: Clock>(
     call: Option<CallName>,
     invoke: &Invoke,
     request: &HttpRequest,
-    links: &mut Links<L>,
+    links: &mut Links<A, P, S>,
     clock: &mut K,
 ) -> (Seats, ApiReply)
     requires { IsSeatsOf node.now seats }
     ensures seats { IsSeatsOf node.now result.0 }
     ensures answered { (ns : List NodeEntry) × (xs : List Exchange) × (ys : List Exchange) × Acts ns seats result.0
-        × Dialling xs (L.dialled links.old.app) (L.dialled links.new.app) (L.dial_faults links.old.app) (L.dial_faults links.new.app)
-        × Dialling ys (L.dialled links.old.peers) (L.dialled links.new.peers) (L.dial_faults links.old.peers) (L.dial_faults links.new.peers)
+        × Dialling xs (A.dialled links.old.app) (A.dialled links.new.app) (A.dial_faults links.old.app) (A.dial_faults links.new.app)
+        × Dialling ys (P.dialled links.old.peers) (P.dialled links.new.peers) (P.dial_faults links.old.peers) (P.dial_faults links.new.peers)
         × IsCallAnswered node.now result.0 links.old.app_at side request.now call invoke.now (K.shown clock.old) (K.shown clock.new) ns xs ys result.1 }
     ensures places { (links.new.app_at ≡ links.old.app_at) × (links.new.store_at ≡ links.old.store_at) }
     ensures store { links.new.store ≡ links.old.store }
@@ -49,7 +49,7 @@ fn serve_named<R: Wait, L: Dial, K: Clock>(
 }
 
 // Serves a call, or hands the command back.
-fn serve_command<R: Wait, L: Dial, K: Clock>(
+fn serve_command<R: Wait, A: Dial, P: Dial, S: Dial, K: Clock>(
     rt: &R,
     alloc: Global,
     node: &SidecarNode,
@@ -57,14 +57,14 @@ fn serve_command<R: Wait, L: Dial, K: Clock>(
     side: Side,
     command: ApiCommand,
     request: &HttpRequest,
-    links: &mut Links<L>,
+    links: &mut Links<A, P, S>,
     clock: &mut K,
 ) -> (Seats, Served)
     requires { IsSeatsOf node.now seats }
     ensures seats { IsSeatsOf node.now result.0 }
     ensures follows { (ns : List NodeEntry) × (xs : List Exchange) × (ys : List Exchange) × Acts ns seats result.0
-        × Dialling xs (L.dialled links.old.app) (L.dialled links.new.app) (L.dial_faults links.old.app) (L.dial_faults links.new.app)
-        × Dialling ys (L.dialled links.old.peers) (L.dialled links.new.peers) (L.dial_faults links.old.peers) (L.dial_faults links.new.peers)
+        × Dialling xs (A.dialled links.old.app) (A.dialled links.new.app) (A.dial_faults links.old.app) (A.dial_faults links.new.app)
+        × Dialling ys (P.dialled links.old.peers) (P.dialled links.new.peers) (P.dial_faults links.old.peers) (P.dial_faults links.new.peers)
         × FollowsRead node.now result.0 links.old.app_at side request.now (Ok command) (K.shown clock.old) (K.shown clock.new) ns xs ys result.1 }
     ensures places { (links.new.app_at ≡ links.old.app_at) × (links.new.store_at ≡ links.old.store_at) }
     ensures store { links.new.store ≡ links.old.store }
@@ -94,21 +94,21 @@ fn serve_command<R: Wait, L: Dial, K: Clock>(
 
 /// Reads a request that came on this port, and serves it if it is a call of a method. A request that is refused is
 /// answered with its refusal, and any other command is handed back with nothing done for it.
-pub fn serve_call<R: Wait, L: Dial, K: Clock>(
+pub fn serve_call<R: Wait, A: Dial, P: Dial, S: Dial, K: Clock>(
     rt: &R,
     alloc: Global,
     node: &SidecarNode,
     seats: Seats,
     side: Side,
     request: &HttpRequest,
-    links: &mut Links<L>,
+    links: &mut Links<A, P, S>,
     clock: &mut K,
 ) -> (Seats, Served)
     requires { IsSeatsOf node.now seats }
     ensures seats { IsSeatsOf node.now result.0 }
     ensures served { (ns : List NodeEntry) × (xs : List Exchange) × (ys : List Exchange) × Acts ns seats result.0
-        × Dialling xs (L.dialled links.old.app) (L.dialled links.new.app) (L.dial_faults links.old.app) (L.dial_faults links.new.app)
-        × Dialling ys (L.dialled links.old.peers) (L.dialled links.new.peers) (L.dial_faults links.old.peers) (L.dial_faults links.new.peers)
+        × Dialling xs (A.dialled links.old.app) (A.dialled links.new.app) (A.dial_faults links.old.app) (A.dial_faults links.new.app)
+        × Dialling ys (P.dialled links.old.peers) (P.dialled links.new.peers) (P.dial_faults links.old.peers) (P.dial_faults links.new.peers)
         × IsServed node.now result.0 links.old.app_at side request.now (K.shown clock.old) (K.shown clock.new) ns xs ys result.1 }
     ensures places { (links.new.app_at ≡ links.old.app_at) × (links.new.store_at ≡ links.old.store_at) }
     ensures store { links.new.store ≡ links.old.store }

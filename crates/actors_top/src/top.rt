@@ -36,7 +36,7 @@ use store_command::run_store;
 
 /// The outside of the program.
 #[derive(Drop)]
-pub struct Outside<I, W, N, T, H> {
+pub struct Outside<I, W, N, A, P, T, H> {
     /// The source of a script.
     pub input: I,
     /// The sink of what the command prints.
@@ -45,9 +45,9 @@ pub struct Outside<I, W, N, T, H> {
     pub net: N,
     /// What makes a sidecar's connections to its application. An application that is given up while it works would let turns
     /// of one actor mix there.
-    pub app: N,
+    pub app: A,
     /// What makes its connections to other sidecars.
-    pub peers: N,
+    pub peers: P,
     /// What gives the time.
     pub time: T,
     /// A clock that nobody sets while the program runs: silence is measured by it.
@@ -57,11 +57,20 @@ pub struct Outside<I, W, N, T, H> {
 }
 
 // Runs the placement's server.
-fn placement<R: Threads + Wait + Sync, I: Source, W: Sink, N: Dial, T: Clock, H: Host>(
+fn placement<
+    R: Threads + Wait + Sync,
+    I: Source,
+    W: Sink,
+    N: Dial,
+    A: Dial,
+    P: Dial,
+    T: Clock,
+    H: Host,
+>(
     rt: &R,
     alloc: Global,
     words: &PlacementWords<'_>,
-    out: &mut Outside<I, W, N, T, H>,
+    out: &mut Outside<I, W, N, A, P, T, H>,
 ) -> ServerStatus
     ensures ran { (end : PlacementEnd) × RanPlacement (told_placement words.now) (T.shown out.new.steady) end (told_by H.asked H.handed H.open_faults H.bind_faults out.old.host) (told_by H.asked H.handed H.open_faults H.bind_faults out.new.host)
         × TellsServer (placement_damage end) (placement_status end) result (W.contents out.old.output) (W.contents out.new.output) }
@@ -77,11 +86,20 @@ fn placement<R: Threads + Wait + Sync, I: Source, W: Sink, N: Dial, T: Clock, H:
 }
 
 // Runs the store's server.
-fn store<R: Threads + Wait + Sync, I: Source, W: Sink, N: Dial, T: Clock, H: Host>(
+fn store<
+    R: Threads + Wait + Sync,
+    I: Source,
+    W: Sink,
+    N: Dial,
+    A: Dial,
+    P: Dial,
+    T: Clock,
+    H: Host,
+>(
     rt: &R,
     alloc: Global,
     words: &ServerWords<'_>,
-    out: &mut Outside<I, W, N, T, H>,
+    out: &mut Outside<I, W, N, A, P, T, H>,
 ) -> ServerStatus
     ensures ran { (end : StoreEnd) × RanStore (told_server words.now) end (told_by H.asked H.handed H.open_faults H.bind_faults out.old.host) (told_by H.asked H.handed H.open_faults H.bind_faults out.new.host)
         × TellsServer (store_damage end) (store_status end) result (W.contents out.old.output) (W.contents out.new.output) }
@@ -97,11 +115,20 @@ fn store<R: Threads + Wait + Sync, I: Source, W: Sink, N: Dial, T: Clock, H: Hos
 }
 
 // Runs a sidecar.
-fn sidecar<R: Threads + Wait + Sync, I: Source, W: Sink, N: Dial, T: Clock, H: Host>(
+fn sidecar<
+    R: Threads + Wait + Sync,
+    I: Source,
+    W: Sink,
+    N: Dial,
+    A: Dial<Link = N::Link>,
+    P: Dial<Link = N::Link>,
+    T: Clock,
+    H: Host,
+>(
     rt: &R,
     alloc: Global,
     words: &SidecarWords<'_>,
-    out: &mut Outside<I, W, N, T, H>,
+    out: &mut Outside<I, W, N, A, P, T, H>,
 ) -> SidecarStatus
     ensures asks { AsksPorts (place_of words.now.listen) (place_of words.now.peer) (H.asked out.old.host) (H.asked out.new.host) }
     ensures tells { (end : SidecarEnd)
@@ -143,12 +170,16 @@ fn sidecar<R: Threads + Wait + Sync, I: Source, W: Sink, N: Dial, T: Clock, H: H
 /// the files at the path and at the path with `.2` behind it, in the same way; the second file is made in any case.
 /// `sidecar`: a sidecar of an application, which serves callers and other sidecars at two addresses, with a placement and a
 /// store at two others. Own.
-pub fn run<R: Threads + Wait + Sync, I: Source, W: Sink, N: Dial, T: Clock, H: Host>(
-    rt: &R,
-    alloc: Global,
-    words: &[String],
-    out: &mut Outside<I, W, N, T, H>,
-) -> u8
+pub fn run<
+    R: Threads + Wait + Sync,
+    I: Source,
+    W: Sink,
+    N: Dial,
+    A: Dial<Link = N::Link>,
+    P: Dial<Link = N::Link>,
+    T: Clock,
+    H: Host,
+>(rt: &R, alloc: Global, words: &[String], out: &mut Outside<I, W, N, A, P, T, H>) -> u8
     // Words end as usage only if they have no reading; without a reading, words with options may also run out of memory.
     // Nothing is read or written then.
     ensures usage { result ≡ 2 → reading (map string_bytes words.now) ≡ None }

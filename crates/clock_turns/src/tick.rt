@@ -72,18 +72,18 @@ fn then_timers<R: Wait, L: Dial, K: Clock>(
 /// `Done` counts the calls that began; `AppFault` comes in its place if the application's connection failed on the way.
 /// `Stopped`, `Spent` and `OutOfMemory` end the tick, once what was begun is over. Any other refusal of an Ask ends that
 /// timer's turn alone.
-pub fn tick_turn<R: Wait, L: Dial, K: Clock>(
+pub fn tick_turn<R: Wait, A: Dial, P: Dial, S: Dial, K: Clock>(
     rt: &R,
     alloc: Global,
     node: &SidecarNode,
     mut seats: Seats,
-    links: &mut Links<L>,
+    links: &mut Links<A, P, S>,
     clock: &mut K,
 ) -> (Seats, TickEnd)
     requires { IsSeatsOf node.now seats }
     ensures seats { IsSeatsOf node.now result.0 }
-    ensures turn { TickTurn node.now links.old.app_at seats result.0 (L.dialled links.old.app) (L.dialled links.new.app) (L.dial_faults links.old.app) (L.dial_faults links.new.app) (K.shown clock.old) (K.shown clock.new) result.1 }
-    ensures cause { TickCause (L.dial_faults links.old.app) (L.dial_faults links.new.app) result.1 }
+    ensures turn { TickTurn node.now links.old.app_at seats result.0 (A.dialled links.old.app) (A.dialled links.new.app) (A.dial_faults links.old.app) (A.dial_faults links.new.app) (K.shown clock.old) (K.shown clock.new) result.1 }
+    ensures cause { TickCause (A.dial_faults links.old.app) (A.dial_faults links.new.app) result.1 }
     ensures clock { K.shown clock.old ≤ K.shown clock.new }
     ensures places { (links.new.app_at ≡ links.old.app_at) × (links.new.store_at ≡ links.old.store_at) }
     ensures others { (links.new.peers ≡ links.old.peers) × (links.new.store ≡ links.old.store) }

@@ -17,6 +17,8 @@ pub(crate) type CaseOutside<N> = Outside<
     MemSource,
     MemSink,
     TcpDial<N>,
+    TcpDial<N>,
+    TcpDial<N>,
     SystemClock<N>,
     CaseHost<N>,
 >;

@@ -4,20 +4,20 @@ ghost use Rattle.std.specs.Prelude.{◌≡◌};
 use actor_names::Address;
 use actor_ports::Dial;
 
-/// What a sidecar calls: its application, other sidecars and the store. The count of faults of each is that of its
-/// dialler. A call that is lent these gives back each link that it dialled.
+/// What a sidecar calls: its application, other sidecars and the store, by a dialler of its own type each, so that none can
+/// stand in another's place. The count of faults of each is that of its dialler. A call that is lent these gives back each link that it dialled.
 #[derive(Drop)]
-pub struct Links<L: Dial> {
-    pub app: L,
-    pub peers: L,
-    pub store: L,
+pub struct Links<A: Dial, P: Dial, S: Dial> {
+    pub app: A,
+    pub peers: P,
+    pub store: S,
     pub app_at: Address,
     pub store_at: Address,
 }
 
-impl<L: Dial> Links<L> {
+impl<A: Dial, P: Dial, S: Dial> Links<A, P, S> {
     /// These diallers and addresses. It takes no memory.
-    pub fn new(app: L, peers: L, store: L, app_at: Address, store_at: Address) -> Links<L>
+    pub fn new(app: A, peers: P, store: S, app_at: Address, store_at: Address) -> Links<A, P, S>
         ensures app { result.app ≡ app }
         ensures peers { result.peers ≡ peers }
         ensures store { result.store ≡ store }

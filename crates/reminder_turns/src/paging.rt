@@ -30,23 +30,23 @@ pub(crate) struct Paged {
 }
 
 // Runs the reminders that a page lists.
-fn run_listed<R: Wait, L: Dial, K: Clock>(
+fn run_listed<R: Wait, A: Dial, S: Dial, K: Clock>(
     rt: &R,
     alloc: Global,
     node: &SidecarNode,
     seats: Seats,
     entries: DueEntries,
-    app: &mut L,
+    app: &mut A,
     app_at: &Address,
-    store: &mut L,
+    store: &mut S,
     store_at: &Address,
     clock: &mut K,
 ) -> (Seats, Paged)
     requires { IsSeatsOf node.now seats }
     ensures seats { IsSeatsOf node.now result.0 }
     ensures runs { (last_end : Option TickEnd) × RunsPage node.now app_at.now store_at.now entries (K.shown clock.old) (K.shown clock.new) seats result.0
-        (L.dialled app.old) (L.dialled app.new) (L.dial_faults app.old) (L.dial_faults app.new)
-        (L.dialled store.old) (L.dialled store.new) (L.dial_faults store.old) (L.dial_faults store.new)
+        (A.dialled app.old) (A.dialled app.new) (A.dial_faults app.old) (A.dial_faults app.new)
+        (S.dialled store.old) (S.dialled store.new) (S.dial_faults store.old) (S.dial_faults store.new)
         result.1.turns result.1.faulted last_end × (result.1.next ≡ stand_after (last_key entries) last_end) }
 {
     let (seats, ran) = run_page(
@@ -78,23 +78,23 @@ fn run_listed<R: Wait, L: Dial, K: Clock>(
 }
 
 /// Asks the store for the page behind this place, and runs its reminders.
-pub(crate) fn take_page<R: Wait, L: Dial, K: Clock>(
+pub(crate) fn take_page<R: Wait, A: Dial, S: Dial, K: Clock>(
     rt: &R,
     alloc: Global,
     node: &SidecarNode,
     seats: Seats,
     place: Option<DueKey>,
-    app: &mut L,
+    app: &mut A,
     app_at: &Address,
-    store: &mut L,
+    store: &mut S,
     store_at: &Address,
     clock: &mut K,
 ) -> (Seats, Paged)
     requires { IsSeatsOf node.now seats }
     ensures seats { IsSeatsOf node.now result.0 }
     ensures takes { TakesPage node.now app_at.now store_at.now place (K.shown clock.old) (K.shown clock.new) seats result.0
-        (L.dialled app.old) (L.dialled app.new) (L.dial_faults app.old) (L.dial_faults app.new)
-        (L.dialled store.old) (L.dialled store.new) (L.dial_faults store.old) (L.dial_faults store.new)
+        (A.dialled app.old) (A.dialled app.new) (A.dial_faults app.old) (A.dial_faults app.new)
+        (S.dialled store.old) (S.dialled store.new) (S.dial_faults store.old) (S.dial_faults store.new)
         result.1.turns result.1.faulted result.1.next }
 {
     let asked = StoreCommand::Due {

@@ -34,23 +34,23 @@ pub(crate) fn either(one: bool, other: bool) -> bool
 }
 
 /// Runs one reminder: a turn of its actor with its callback, and a report if one is owed.
-fn run_one<R: Wait, L: Dial, K: Clock>(
+fn run_one<R: Wait, A: Dial, S: Dial, K: Clock>(
     rt: &R,
     alloc: Global,
     node: &SidecarNode,
     seats: Seats,
     entry: &DueEntry,
-    app: &mut L,
+    app: &mut A,
     app_at: &Address,
-    store: &mut L,
+    store: &mut S,
     store_at: &Address,
     clock: &mut K,
 ) -> (Seats, Ran)
     requires { IsSeatsOf node.now seats }
     ensures seats { IsSeatsOf node.now result.0 }
     ensures runs { RunsOne node.now app_at.now store_at.now entry.now (K.shown clock.old) (K.shown clock.new) seats result.0
-        (L.dialled app.old) (L.dialled app.new) (L.dial_faults app.old) (L.dial_faults app.new)
-        (L.dialled store.old) (L.dialled store.new) (L.dial_faults store.old) (L.dial_faults store.new)
+        (A.dialled app.old) (A.dialled app.new) (A.dial_faults app.old) (A.dial_faults app.new)
+        (S.dialled store.old) (S.dialled store.new) (S.dial_faults store.old) (S.dial_faults store.new)
         result.1.turns result.1.faulted result.1.end }
 {
     let (seats, turned) = take_turn(rt, alloc, node, seats, entry, app, app_at, clock);
@@ -81,23 +81,23 @@ fn run_one<R: Wait, L: Dial, K: Clock>(
 }
 
 /// Runs the reminders of a page, in order, until one ends the call.
-pub(crate) fn run_page<R: Wait, L: Dial, K: Clock>(
+pub(crate) fn run_page<R: Wait, A: Dial, S: Dial, K: Clock>(
     rt: &R,
     alloc: Global,
     node: &SidecarNode,
     seats: Seats,
     entries: &[DueEntry],
-    app: &mut L,
+    app: &mut A,
     app_at: &Address,
-    store: &mut L,
+    store: &mut S,
     store_at: &Address,
     clock: &mut K,
 ) -> (Seats, Ran)
     requires { IsSeatsOf node.now seats }
     ensures seats { IsSeatsOf node.now result.0 }
     ensures runs { RunsPage node.now app_at.now store_at.now entries.now (K.shown clock.old) (K.shown clock.new) seats result.0
-        (L.dialled app.old) (L.dialled app.new) (L.dial_faults app.old) (L.dial_faults app.new)
-        (L.dialled store.old) (L.dialled store.new) (L.dial_faults store.old) (L.dial_faults store.new)
+        (A.dialled app.old) (A.dialled app.new) (A.dial_faults app.old) (A.dial_faults app.new)
+        (S.dialled store.old) (S.dialled store.new) (S.dial_faults store.old) (S.dial_faults store.new)
         result.1.turns result.1.faulted result.1.end }
 {
     let mut seats = seats;

@@ -15,22 +15,22 @@ use std::alloc::Global;
 use std::sync::Wait;
 
 // Takes page after page until one is empty or something ends the call.
-fn take_pages<R: Wait, L: Dial, K: Clock>(
+fn take_pages<R: Wait, A: Dial, S: Dial, K: Clock>(
     rt: &R,
     alloc: Global,
     node: &SidecarNode,
     seats: Seats,
-    app: &mut L,
+    app: &mut A,
     app_at: &Address,
-    store: &mut L,
+    store: &mut S,
     store_at: &Address,
     clock: &mut K,
 ) -> (Seats, TickEnd)
     requires { IsSeatsOf node.now seats }
     ensures seats { IsSeatsOf node.now result.0 }
     ensures turn { ReminderTurn node.now app_at.now store_at.now (K.shown clock.old) (K.shown clock.new) seats result.0
-        (L.dialled app.old) (L.dialled app.new) (L.dial_faults app.old) (L.dial_faults app.new)
-        (L.dialled store.old) (L.dialled store.new) (L.dial_faults store.old) (L.dial_faults store.new) result.1 }
+        (A.dialled app.old) (A.dialled app.new) (A.dial_faults app.old) (A.dial_faults app.new)
+        (S.dialled store.old) (S.dialled store.new) (S.dial_faults store.old) (S.dial_faults store.new) result.1 }
 {
     let mut seats = seats;
     let mut place = None;
@@ -64,20 +64,20 @@ fn take_pages<R: Wait, L: Dial, K: Clock>(
 /// with a fault of the application's connection on the way. Any other end breaks the call off, once a turn that began has
 /// ended: a fault or a refusal of the store, an answer of it that has no reading, a part that has stopped or is spent, a
 /// gate that took no further entry, or want of memory. Any other refusal of a turn ends that turn alone.
-pub fn reminder_turn<R: Wait, L: Dial, K: Clock>(
+pub fn reminder_turn<R: Wait, A: Dial, P: Dial, S: Dial, K: Clock>(
     rt: &R,
     alloc: Global,
     node: &SidecarNode,
     seats: Seats,
-    links: &mut Links<L>,
+    links: &mut Links<A, P, S>,
     clock: &mut K,
 ) -> (Seats, TickEnd)
     requires { IsSeatsOf node.now seats }
     ensures seats { IsSeatsOf node.now result.0 }
     ensures turn { ReminderTurn node.now links.old.app_at links.old.store_at (K.shown clock.old) (K.shown clock.new) seats result.0
-        (L.dialled links.old.app) (L.dialled links.new.app) (L.dial_faults links.old.app) (L.dial_faults links.new.app)
-        (L.dialled links.old.store) (L.dialled links.new.store) (L.dial_faults links.old.store) (L.dial_faults links.new.store) result.1 }
-    ensures cause { TickCause (L.dial_faults links.old.app) (L.dial_faults links.new.app) (L.dial_faults links.old.store) (L.dial_faults links.new.store) result.1 }
+        (A.dialled links.old.app) (A.dialled links.new.app) (A.dial_faults links.old.app) (A.dial_faults links.new.app)
+        (S.dialled links.old.store) (S.dialled links.new.store) (S.dial_faults links.old.store) (S.dial_faults links.new.store) result.1 }
+    ensures cause { TickCause (A.dial_faults links.old.app) (A.dial_faults links.new.app) (S.dial_faults links.old.store) (S.dial_faults links.new.store) result.1 }
     ensures places { (links.new.app_at ≡ links.old.app_at) × (links.new.store_at ≡ links.old.store_at) }
     ensures peers { links.new.peers ≡ links.old.peers }
 {

@@ -68,13 +68,11 @@ pub(crate) fn dialler(alloc: Global, text: &str) -> Option<MemDial> {
     MemDial::new(alloc, links, &[]).ok()
 }
 
+/// Links over diallers in memory.
+pub(crate) type MemLinks = Links<MemDial, MemDial, MemDial>;
+
 /// Links to an application, to a store and to another sidecar that answer so.
-pub(crate) fn links_of(
-    alloc: Global,
-    app: &str,
-    store: &str,
-    peer: &str,
-) -> Option<Links<MemDial>> {
+pub(crate) fn links_of(alloc: Global, app: &str, store: &str, peer: &str) -> Option<MemLinks> {
     let app = dialler(alloc, app)?;
     let store = dialler(alloc, store)?;
     let peers = dialler(alloc, peer)?;
@@ -96,7 +94,7 @@ fn add_sent(alloc: Global, dialler: &MemDial, text: &mut String) -> Option<()> {
 /// Appends what the application and the store were sent, and what another sidecar was, if there is one.
 pub(crate) fn add_links(
     alloc: Global,
-    links: &Links<MemDial>,
+    links: &MemLinks,
     has_peer: bool,
     text: &mut String,
 ) -> Option<()> {

@@ -2,13 +2,12 @@
 ghost use Rattle.std.specs.Prelude.{IfSome};
 ghost use Rattle.sidecar_node.specs.Nodes.{IsSeatsOf};
 
-use crate::links::{add_links, conn, conn_of, links_of};
+use crate::links::{MemLinks, add_links, conn, conn_of, links_of};
 use crate::node::{clock, later_clock, open_node};
-use actor_ports::{MemClock, MemConn, MemDial};
+use actor_ports::{MemClock, MemConn};
 use actors_api::Side;
 use case_texts::{add, add_escaped, cut};
 use clock_turns::tick_turn;
-use exchanges::Links;
 use reminder_turns::reminder_turn;
 use sidecar_node::{Seats, SidecarNode};
 use sidecar_requests::sidecar_session;
@@ -33,7 +32,7 @@ fn serve<R: Wait>(
     seats: Seats,
     side: Side,
     conn: &mut MemConn,
-    links: &mut Links<MemDial>,
+    links: &mut MemLinks,
     clock: &mut MemClock,
     text: &mut String,
 ) -> Option<Seats>
@@ -54,7 +53,7 @@ fn serve_second<R: Wait>(
     seats: Seats,
     side: Side,
     caller: &str,
-    links: &mut Links<MemDial>,
+    links: &mut MemLinks,
     clock: &mut MemClock,
     text: &mut String,
 ) -> Option<Seats>
@@ -77,7 +76,7 @@ fn serve_callers<R: Wait>(
     seats: Seats,
     side: Side,
     callers: &str,
-    links: &mut Links<MemDial>,
+    links: &mut MemLinks,
     clock: &mut MemClock,
     text: &mut String,
 ) -> Option<Seats>
@@ -123,7 +122,7 @@ fn add_turns<R: Wait>(
     alloc: Global,
     node: &SidecarNode,
     seats: Seats,
-    links: &mut Links<MemDial>,
+    links: &mut MemLinks,
     clock: &mut MemClock,
     text: &mut String,
 ) -> Option<()>
@@ -141,7 +140,7 @@ fn add_late_tick<R: Wait>(
     alloc: Global,
     node: &SidecarNode,
     seats: Seats,
-    links: &mut Links<MemDial>,
+    links: &mut MemLinks,
     text: &mut String,
 ) -> Option<()>
     requires { IsSeatsOf node.now seats }

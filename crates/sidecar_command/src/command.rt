@@ -78,14 +78,21 @@ fn start_by<R: Wait, N: Dial, K: Clock>(
 }
 
 // Serves the sidecar that has started.
-fn serve_new<R: Threads + Wait + Sync, H: Host, N: Dial, K: Clock>(
+fn serve_new<
+    R: Threads + Wait + Sync,
+    H: Host,
+    N: Dial,
+    A: Dial<Link = N::Link>,
+    P: Dial<Link = N::Link>,
+    K: Clock,
+>(
     rt: &R,
     alloc: Global,
     started: Started,
     words: &SidecarWords<'_>,
     host: &mut H,
     net: &N,
-    callees: &Callees<'_, N>,
+    callees: &Callees<'_, A, P>,
     clock: &K,
     steady: &K,
 ) -> SidecarEnd
@@ -114,13 +121,20 @@ fn serve_new<R: Threads + Wait + Sync, H: Host, N: Dial, K: Clock>(
 /// them, until as many connections of callers were served as the words say, or without an end. It ends earlier if it
 /// doesn't start, has to stop, or a port fails. It starts by `net`, which gives it the connections to the placement and the
 /// store too; those of turns come from `callees`. Silence is measured by `steady`, all else by `clock`.
-pub fn run_sidecar<R: Threads + Wait + Sync, H: Host, N: Dial, K: Clock>(
+pub fn run_sidecar<
+    R: Threads + Wait + Sync,
+    H: Host,
+    N: Dial,
+    A: Dial<Link = N::Link>,
+    P: Dial<Link = N::Link>,
+    K: Clock,
+>(
     rt: &R,
     alloc: Global,
     words: &SidecarWords<'_>,
     host: &mut H,
     net: &mut N,
-    callees: &Callees<'_, N>,
+    callees: &Callees<'_, A, P>,
     clock: &mut K,
     steady: &K,
 ) -> SidecarEnd

@@ -20,11 +20,11 @@ use std::sync::Wait;
 use std::thread::Threads;
 
 // What the sidecar calls, by diallers of its own.
-fn own_links<N: Dial>(
+fn own_links<N: Dial, A: Dial, P: Dial>(
     words: &SidecarWords<'_>,
     net: &N,
-    callees: &Callees<'_, N>,
-) -> Option<Links<N>>
+    callees: &Callees<'_, A, P>,
+) -> Option<Links<A, P, N>>
     ensures { IfSome result (λ l. (l.app_at ≡ words.now.app_at) × (l.store_at ≡ words.now.store)) }
 {
     let app = callees.app.another().ok()?;
@@ -34,7 +34,14 @@ fn own_links<N: Dial>(
 }
 
 // Serves the sidecar at its ports, and gives both back.
-fn serve_bound<R: Threads + Wait + Sync, H: Host, N: Dial, K: Clock>(
+fn serve_bound<
+    R: Threads + Wait + Sync,
+    H: Host,
+    N: Dial,
+    A: Dial<Link = N::Link>,
+    P: Dial<Link = N::Link>,
+    K: Clock,
+>(
     rt: &R,
     alloc: Global,
     node: &SidecarNode,
@@ -43,7 +50,7 @@ fn serve_bound<R: Threads + Wait + Sync, H: Host, N: Dial, K: Clock>(
     peers: H::Port,
     words: &SidecarWords<'_>,
     host: &mut H,
-    links: Links<N>,
+    links: Links<A, P, N>,
     net: N,
     clock: K,
     steady: K,
@@ -91,7 +98,14 @@ fn serve_bound<R: Threads + Wait + Sync, H: Host, N: Dial, K: Clock>(
 }
 
 /// Binds the two ports and serves the sidecar there, and gives both back.
-pub(crate) fn serve_started<R: Threads + Wait + Sync, H: Host, N: Dial, K: Clock>(
+pub(crate) fn serve_started<
+    R: Threads + Wait + Sync,
+    H: Host,
+    N: Dial,
+    A: Dial<Link = N::Link>,
+    P: Dial<Link = N::Link>,
+    K: Clock,
+>(
     rt: &R,
     alloc: Global,
     node: &SidecarNode,
@@ -99,7 +113,7 @@ pub(crate) fn serve_started<R: Threads + Wait + Sync, H: Host, N: Dial, K: Clock
     words: &SidecarWords<'_>,
     host: &mut H,
     net: &N,
-    callees: &Callees<'_, N>,
+    callees: &Callees<'_, A, P>,
     clock: &K,
     steady: &K,
 ) -> SidecarEnd

@@ -46,15 +46,16 @@ abbrev pub dialler : {L : Type 0} → (L → Option Dialled) → (L → ℕ) →
 dialler dialled faults link = record { dialled = dialled link; faults = faults link }
 
 -- that of these seats, links and clock
-abbrev pub standing : {L C K : Type 0} → (L → Option Dialled) → (L → ℕ) → (K → ℕ) → SidecarNode → Seats → Links L C → K → Standing
-standing dialled faults shown node seats links clock = record {
+abbrev pub standing : {A P S K CA CP CS : Type 0} → (A → Option Dialled) → (A → ℕ) → (P → Option Dialled) → (P → ℕ) → (S → Option Dialled) → (S → ℕ) → (K → ℕ)
+    → SidecarNode → Seats → Links A P S CA CP CS → K → Standing
+standing app_dialled app_faults peers_dialled peers_faults store_dialled store_faults shown node seats links clock = record {
   node = node;
   seats = seats;
   app_at = links.app_at;
   store_at = links.store_at;
-  app = dialler dialled faults links.app;
-  peers = dialler dialled faults links.peers;
-  store = dialler dialled faults links.store;
+  app = dialler app_dialled app_faults links.app;
+  peers = dialler peers_dialled peers_faults links.peers;
+  store = dialler store_dialled store_faults links.store;
   shown = shown clock;
 }
 

@@ -74,20 +74,20 @@ fn serve_with<R: Wait, L: Dial, K: Clock>(
 /// Serves a request of an actor's state, timers or reminders, which is any command but the call of a method. The store
 /// is the one of `links`; nothing else is dialled. Want of memory before a hold or a draw makes no entry; after a hold
 /// its release still follows, and takes no memory.
-pub fn serve_record<R: Wait, L: Dial, K: Clock>(
+pub fn serve_record<R: Wait, A: Dial, P: Dial, S: Dial, K: Clock>(
     rt: &R,
     alloc: Global,
     node: &SidecarNode,
     mut seats: Seats,
     command: ApiCommand,
-    links: &mut Links<L>,
+    links: &mut Links<A, P, S>,
     clock: &mut K,
 ) -> (Seats, ApiReply)
     requires seats { IsSeatsOf node.now seats }
     requires record_ { IsRecord command }
     ensures seats { IsSeatsOf node.now result.0 }
     ensures served { (ns : List NodeEntry) × (xs : List Exchange) × Acts ns seats result.0
-        × Dialling xs (L.dialled links.old.store) (L.dialled links.new.store) (L.dial_faults links.old.store) (L.dial_faults links.new.store)
+        × Dialling xs (S.dialled links.old.store) (S.dialled links.new.store) (S.dial_faults links.old.store) (S.dial_faults links.new.store)
         × IsRecordServed node.now links.old.store_at result.0 command (K.shown clock.old) (K.shown clock.new) ns xs result.1 }
     ensures places { (links.new.app_at ≡ links.old.app_at) × (links.new.store_at ≡ links.old.store_at) }
     ensures others { (links.new.app ≡ links.old.app) × (links.new.peers ≡ links.old.peers) }

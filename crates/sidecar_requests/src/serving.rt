@@ -17,22 +17,22 @@ use std::sync::Wait;
 
 /// Serves a request that came on this port: it is read once, and then refused, or served as a call, or served as a
 /// request of state, timers or reminders. Want of memory is answered as a refusal.
-pub fn serve_one<R: Wait, L: Dial, K: Clock>(
+pub fn serve_one<R: Wait, A: Dial, P: Dial, S: Dial, K: Clock>(
     rt: &R,
     alloc: Global,
     node: &SidecarNode,
     seats: Seats,
     side: Side,
     request: &HttpRequest,
-    links: &mut Links<L>,
+    links: &mut Links<A, P, S>,
     clock: &mut K,
 ) -> (Seats, ApiReply)
     requires { IsSeatsOf node.now seats }
     ensures seats { IsSeatsOf node.now result.0 }
     ensures served { (ns : List NodeEntry) × (xs : List Exchange) × (ys : List Exchange) × (zs : List Exchange) × Acts ns seats result.0
-        × Dialling xs (L.dialled links.old.app) (L.dialled links.new.app) (L.dial_faults links.old.app) (L.dial_faults links.new.app)
-        × Dialling ys (L.dialled links.old.peers) (L.dialled links.new.peers) (L.dial_faults links.old.peers) (L.dial_faults links.new.peers)
-        × Dialling zs (L.dialled links.old.store) (L.dialled links.new.store) (L.dial_faults links.old.store) (L.dial_faults links.new.store)
+        × Dialling xs (A.dialled links.old.app) (A.dialled links.new.app) (A.dial_faults links.old.app) (A.dial_faults links.new.app)
+        × Dialling ys (P.dialled links.old.peers) (P.dialled links.new.peers) (P.dial_faults links.old.peers) (P.dial_faults links.new.peers)
+        × Dialling zs (S.dialled links.old.store) (S.dialled links.new.store) (S.dial_faults links.old.store) (S.dial_faults links.new.store)
         × IsRequestServed node.now links.old.app_at links.old.store_at side request.now result.0 (K.shown clock.old) (K.shown clock.new) ns xs ys zs result.1 }
     ensures places { (links.new.app_at ≡ links.old.app_at) × (links.new.store_at ≡ links.old.store_at) }
 {

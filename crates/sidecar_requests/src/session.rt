@@ -19,21 +19,21 @@ use std::sync::Wait;
 const MOST_REQUESTS: u64 = 1 << 62;
 
 // Serves the requests of a connection until it ends.
-fn serve_requests<R: Wait, C: Conn, L: Dial, K: Clock>(
+fn serve_requests<R: Wait, C: Conn, A: Dial, P: Dial, S: Dial, K: Clock>(
     rt: &R,
     alloc: Global,
     node: &SidecarNode,
     seats: Seats,
     side: Side,
     conn: &mut C,
-    links: &mut Links<L>,
+    links: &mut Links<A, P, S>,
     clock: &mut K,
 ) -> (Seats, SessionEnd)
     requires { IsSeatsOf node.now seats }
     ensures seats { IsSeatsOf node.now result.0 }
     ensures session { (deeds : List Deed) × IsSession (IsAnswered side) (edge_response side)
-        (account (standing L.dialled L.dial_faults K.shown node.now seats links.old clock.old) [])
-        (account (standing L.dialled L.dial_faults K.shown node.now result.0 links.new clock.new) deeds)
+        (account (standing A.dialled A.dial_faults P.dialled P.dial_faults S.dialled S.dial_faults K.shown node.now seats links.old clock.old) [])
+        (account (standing A.dialled A.dial_faults P.dialled P.dial_faults S.dialled S.dial_faults K.shown node.now result.0 links.new clock.new) deeds)
         (C.read_traffic conn.old) (C.read_traffic conn.new) (C.read_faults conn.old) (C.read_faults conn.new) result.1 }
     ensures cause { SessionCause (C.read_faults conn.old) (C.read_faults conn.new) result.1 }
 {
@@ -75,21 +75,21 @@ fn serve_requests<R: Wait, C: Conn, L: Dial, K: Clock>(
 /// that asks to close is the last one; so are bytes that have no reading, about which a response is written if their error
 /// has one. A request or such bytes for whose response there is no memory end the session without it. `requests` is the
 /// number of requests whose responses were written whole; a session ends as `Spent` after 2^62 of them.
-pub fn sidecar_session<R: Wait, C: Conn, L: Dial, K: Clock>(
+pub fn sidecar_session<R: Wait, C: Conn, A: Dial, P: Dial, S: Dial, K: Clock>(
     rt: &R,
     alloc: Global,
     node: &SidecarNode,
     seats: Seats,
     side: Side,
     conn: &mut C,
-    links: &mut Links<L>,
+    links: &mut Links<A, P, S>,
     clock: &mut K,
 ) -> (Seats, SessionEnd)
     requires { IsSeatsOf node.now seats }
     ensures seats { IsSeatsOf node.now result.0 }
     ensures session { SessionDoes side
-        (standing L.dialled L.dial_faults K.shown node.now seats links.old clock.old)
-        (standing L.dialled L.dial_faults K.shown node.now result.0 links.new clock.new)
+        (standing A.dialled A.dial_faults P.dialled P.dial_faults S.dialled S.dial_faults K.shown node.now seats links.old clock.old)
+        (standing A.dialled A.dial_faults P.dialled P.dial_faults S.dialled S.dial_faults K.shown node.now result.0 links.new clock.new)
         (C.read_traffic conn.old) (C.read_traffic conn.new) (C.read_faults conn.old) (C.read_faults conn.new) result.1 }
     ensures places { (links.new.app_at ≡ links.old.app_at) × (links.new.store_at ≡ links.old.store_at) }
     ensures cause { SessionCause (C.read_faults conn.old) (C.read_faults conn.new) result.1 }

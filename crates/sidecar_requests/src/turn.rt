@@ -28,7 +28,7 @@ fn response_of(alloc: Global, side: Side, answer: ApiReply) -> Result<HttpRespon
 }
 
 /// Serves a request, and writes the response of its answer.
-pub(crate) fn take_turn<R: Wait, C: Conn, L: Dial, K: Clock>(
+pub(crate) fn take_turn<R: Wait, C: Conn, A: Dial, P: Dial, S: Dial, K: Clock>(
     rt: &R,
     alloc: Global,
     node: &SidecarNode,
@@ -36,14 +36,14 @@ pub(crate) fn take_turn<R: Wait, C: Conn, L: Dial, K: Clock>(
     side: Side,
     request: &HttpRequest,
     conn: &mut C,
-    links: &mut Links<L>,
+    links: &mut Links<A, P, S>,
     clock: &mut K,
 ) -> (Seats, Result<(), EdgeError>)
     requires { IsSeatsOf node.now seats }
     ensures seats { IsSeatsOf node.now result.0 }
     ensures turn { (before : List Deed) → (deed : Deed) × Turns (IsAnswered side)
-        (account (standing L.dialled L.dial_faults K.shown node.now seats links.old clock.old) before)
-        (account (standing L.dialled L.dial_faults K.shown node.now result.0 links.new clock.new) (before ++ deed ∷ []))
+        (account (standing A.dialled A.dial_faults P.dialled P.dial_faults S.dialled S.dial_faults K.shown node.now seats links.old clock.old) before)
+        (account (standing A.dialled A.dial_faults P.dialled P.dial_faults S.dialled S.dial_faults K.shown node.now result.0 links.new clock.new) (before ++ deed ∷ []))
         request.now (C.read_traffic conn.old) (C.read_traffic conn.new) result.1 }
     ensures cause { EdgeCause (C.read_faults conn.old) (C.read_faults conn.new) result.1 }
 {

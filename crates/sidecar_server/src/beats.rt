@@ -15,11 +15,11 @@ use sidecar_node::stop_turn;
 use std::sync::Wait;
 
 // Stops all parts; then the sidecar is over.
-fn stop<R: Wait, N: Dial, K: Clock>(
+fn stop<R: Wait, A: Dial, P: Dial, N: Dial, K: Clock>(
     rt: &R,
     service: &SidecarService<'_, N, K>,
-    pass: Pass<N, K>,
-) -> Pass<N, K>
+    pass: Pass<A, P, N, K>,
+) -> Pass<A, P, N, K>
     requires { Admits service.now.node.now service.now.watch.now pass.seats pass.watch }
     ensures admits { Admits service.now.node.now service.now.watch.now result.seats result.watch }
     ensures stops { GivesStops service.now.node.now pass.seats result.seats }
@@ -33,12 +33,12 @@ fn stop<R: Wait, N: Dial, K: Clock>(
 }
 
 /// Tells the watch what has happened, and stops the sidecar if it has to stop.
-pub(crate) fn tell_watch<R: Wait, N: Dial, K: Clock>(
+pub(crate) fn tell_watch<R: Wait, A: Dial, P: Dial, N: Dial, K: Clock>(
     rt: &R,
     service: &SidecarService<'_, N, K>,
-    pass: Pass<N, K>,
+    pass: Pass<A, P, N, K>,
     event: WatchEvent,
-) -> Pass<N, K>
+) -> Pass<A, P, N, K>
     requires admits { Admits service.now.node.now service.now.watch.now pass.seats pass.watch }
     requires event { WatchTakes N.dialled N.Link.read_traffic K.shown event }
     ensures admits { Admits service.now.node.now service.now.watch.now result.seats result.watch }
@@ -111,12 +111,12 @@ fn kept_link<L: Drop>(end: TurnEnd, link: L) -> Option<L>
 }
 
 // One turn over this link, and what the watch is to be told of it. The link is kept if the turn ended well.
-fn beat_over<R: Wait, N: Dial, K: Clock>(
+fn beat_over<R: Wait, A: Dial, P: Dial, N: Dial, K: Clock>(
     rt: &R,
     service: &SidecarService<'_, N, K>,
-    pass: Pass<N, K>,
+    pass: Pass<A, P, N, K>,
     link: PlacementLink<N>,
-) -> (Pass<N, K>, Option<WatchEvent>)
+) -> (Pass<A, P, N, K>, Option<WatchEvent>)
     requires { Admits service.now.node.now service.now.watch.now pass.seats pass.watch }
     ensures admits { Admits service.now.node.now service.now.watch.now result.0.seats result.0.watch }
     ensures turn { MayTurn N.dialled N.Link.read_traffic K.shown service.now.node.now (place_at link) pass.seats result.0.seats }
@@ -147,12 +147,12 @@ fn beat_over<R: Wait, N: Dial, K: Clock>(
 }
 
 // One turn over this link; the watch is told of it.
-fn beat_on<R: Wait, N: Dial, K: Clock>(
+fn beat_on<R: Wait, A: Dial, P: Dial, N: Dial, K: Clock>(
     rt: &R,
     service: &SidecarService<'_, N, K>,
-    pass: Pass<N, K>,
+    pass: Pass<A, P, N, K>,
     link: PlacementLink<N>,
-) -> Pass<N, K>
+) -> Pass<A, P, N, K>
     requires { Admits service.now.node.now service.now.watch.now pass.seats pass.watch }
     ensures admits { Admits service.now.node.now service.now.watch.now result.seats result.watch }
     ensures does { DoesDuty N.dialled N.Link.read_traffic K.shown service.now.node.now (place_at link) pass.seats result.seats }
@@ -166,11 +166,11 @@ fn beat_on<R: Wait, N: Dial, K: Clock>(
 
 /// One turn with the placement, over the link that is left or a new one. After a turn that didn't end well the next one
 /// dials again.
-pub(crate) fn beat<R: Wait, N: Dial, K: Clock>(
+pub(crate) fn beat<R: Wait, A: Dial, P: Dial, N: Dial, K: Clock>(
     rt: &R,
     service: &SidecarService<'_, N, K>,
-    pass: Pass<N, K>,
-) -> Pass<N, K>
+    pass: Pass<A, P, N, K>,
+) -> Pass<A, P, N, K>
     requires { Admits service.now.node.now service.now.watch.now pass.seats pass.watch }
     ensures admits { Admits service.now.node.now service.now.watch.now result.seats result.watch }
     ensures does { DoesDuty N.dialled N.Link.read_traffic K.shown service.now.node.now (place_at service.now.placement) pass.seats result.seats }
@@ -184,12 +184,12 @@ pub(crate) fn beat<R: Wait, N: Dial, K: Clock>(
 }
 
 // Leaves the placement over this link; the parts are stopped once more.
-fn leave_over<R: Wait, N: Dial, K: Clock>(
+fn leave_over<R: Wait, A: Dial, P: Dial, N: Dial, K: Clock>(
     rt: &R,
     service: &SidecarService<'_, N, K>,
-    pass: Pass<N, K>,
+    pass: Pass<A, P, N, K>,
     link: PlacementLink<N>,
-) -> Pass<N, K>
+) -> Pass<A, P, N, K>
     requires { Admits service.now.node.now service.now.watch.now pass.seats pass.watch }
     ensures admits { Admits service.now.node.now service.now.watch.now result.seats result.watch }
     ensures leaves { LeavesTables pass.seats result.seats }
@@ -203,11 +203,11 @@ fn leave_over<R: Wait, N: Dial, K: Clock>(
 }
 
 /// Stops all parts and leaves the placement, over a new link.
-pub(crate) fn leave<R: Wait, N: Dial, K: Clock>(
+pub(crate) fn leave<R: Wait, A: Dial, P: Dial, N: Dial, K: Clock>(
     rt: &R,
     service: &SidecarService<'_, N, K>,
-    pass: Pass<N, K>,
-) -> Pass<N, K>
+    pass: Pass<A, P, N, K>,
+) -> Pass<A, P, N, K>
     requires { Admits service.now.node.now service.now.watch.now pass.seats pass.watch }
     ensures admits { Admits service.now.node.now service.now.watch.now result.seats result.watch }
     ensures does { DoesDuty N.dialled N.Link.read_traffic K.shown service.now.node.now (place_at service.now.placement) pass.seats result.seats }

@@ -12,11 +12,11 @@ use reminder_turns::reminder_turn;
 use std::sync::Wait;
 
 /// Looks whether the lease has ended.
-pub(crate) fn look<R: Wait, N: Dial, K: Clock>(
+pub(crate) fn look<R: Wait, A: Dial, P: Dial, N: Dial, K: Clock>(
     rt: &R,
     service: &SidecarService<'_, N, K>,
-    pass: Pass<N, K>,
-) -> Pass<N, K>
+    pass: Pass<A, P, N, K>,
+) -> Pass<A, P, N, K>
     requires { Admits service.now.node.now service.now.watch.now pass.seats pass.watch }
     ensures admits { Admits service.now.node.now service.now.watch.now result.seats result.watch }
     ensures leaves { LeavesTables pass.seats result.seats }
@@ -27,11 +27,11 @@ pub(crate) fn look<R: Wait, N: Dial, K: Clock>(
 }
 
 /// Deactivates the actors whose time is over. How that ends doesn't matter: the next turn goes on.
-pub(crate) fn close_idle<R: Wait, N: Dial, K: Clock>(
+pub(crate) fn close_idle<R: Wait, A: Dial, P: Dial, N: Dial, K: Clock>(
     rt: &R,
     service: &SidecarService<'_, N, K>,
-    pass: Pass<N, K>,
-) -> Pass<N, K>
+    pass: Pass<A, P, N, K>,
+) -> Pass<A, P, N, K>
     requires { Admits service.now.node.now service.now.watch.now pass.seats pass.watch }
     ensures admits { Admits service.now.node.now service.now.watch.now result.seats result.watch }
     ensures leaves { LeavesTables pass.seats result.seats }
@@ -50,11 +50,11 @@ pub(crate) fn close_idle<R: Wait, N: Dial, K: Clock>(
 }
 
 /// Runs the timers that are due.
-pub(crate) fn run_timers<R: Wait, N: Dial, K: Clock>(
+pub(crate) fn run_timers<R: Wait, A: Dial, P: Dial, N: Dial, K: Clock>(
     rt: &R,
     service: &SidecarService<'_, N, K>,
-    pass: Pass<N, K>,
-) -> Pass<N, K>
+    pass: Pass<A, P, N, K>,
+) -> Pass<A, P, N, K>
     requires { Admits service.now.node.now service.now.watch.now pass.seats pass.watch }
     ensures admits { Admits service.now.node.now service.now.watch.now result.seats result.watch }
     ensures leaves { LeavesTables pass.seats result.seats }
@@ -73,11 +73,11 @@ pub(crate) fn run_timers<R: Wait, N: Dial, K: Clock>(
 }
 
 /// Runs the reminders that are due.
-pub(crate) fn run_reminders<R: Wait, N: Dial, K: Clock>(
+pub(crate) fn run_reminders<R: Wait, A: Dial, P: Dial, N: Dial, K: Clock>(
     rt: &R,
     service: &SidecarService<'_, N, K>,
-    pass: Pass<N, K>,
-) -> Pass<N, K>
+    pass: Pass<A, P, N, K>,
+) -> Pass<A, P, N, K>
     requires { Admits service.now.node.now service.now.watch.now pass.seats pass.watch }
     ensures admits { Admits service.now.node.now service.now.watch.now result.seats result.watch }
     ensures leaves { LeavesTables pass.seats result.seats }

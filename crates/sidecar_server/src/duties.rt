@@ -38,12 +38,12 @@ fn pause_of(work: u32) -> u64 {
 }
 
 // One turn of a work by the clock.
-fn clocked_turn<R: Wait, N: Dial, K: Clock>(
+fn clocked_turn<R: Wait, A: Dial, P: Dial, N: Dial, K: Clock>(
     rt: &R,
     service: &SidecarService<'_, N, K>,
     work: u32,
-    pass: Pass<N, K>,
-) -> Pass<N, K>
+    pass: Pass<A, P, N, K>,
+) -> Pass<A, P, N, K>
     requires { Admits service.now.node.now service.now.watch.now pass.seats pass.watch }
     ensures admits { Admits service.now.node.now service.now.watch.now result.seats result.watch }
     ensures leaves { LeavesTables pass.seats result.seats }
@@ -61,12 +61,12 @@ fn clocked_turn<R: Wait, N: Dial, K: Clock>(
 }
 
 // One turn of a work.
-fn turn<R: Wait, N: Dial, K: Clock>(
+fn turn<R: Wait, A: Dial, P: Dial, N: Dial, K: Clock>(
     rt: &R,
     service: &SidecarService<'_, N, K>,
     work: u32,
-    pass: Pass<N, K>,
-) -> Pass<N, K>
+    pass: Pass<A, P, N, K>,
+) -> Pass<A, P, N, K>
     requires { Admits service.now.node.now service.now.watch.now pass.seats pass.watch }
     ensures admits { Admits service.now.node.now service.now.watch.now result.seats result.watch }
     ensures does { DoesDuty N.dialled N.Link.read_traffic K.shown service.now.node.now (place_at service.now.placement) pass.seats result.seats }
@@ -78,12 +78,12 @@ fn turn<R: Wait, N: Dial, K: Clock>(
 }
 
 /// What a thread does beside the connections. With the last of its turns the sidecar leaves the placement.
-pub(crate) fn do_duty<R: Wait, N: Dial, K: Clock>(
+pub(crate) fn do_duty<R: Wait, A: Dial, P: Dial, N: Dial, K: Clock>(
     rt: &R,
     service: &SidecarService<'_, N, K>,
     duty: Duty,
-    pass: Pass<N, K>,
-) -> Pass<N, K>
+    pass: Pass<A, P, N, K>,
+) -> Pass<A, P, N, K>
     requires { Admits service.now.node.now service.now.watch.now pass.seats pass.watch }
     ensures admits { Admits service.now.node.now service.now.watch.now result.seats result.watch }
     ensures does { DoesDuty N.dialled N.Link.read_traffic K.shown service.now.node.now (place_at service.now.placement) pass.seats result.seats }

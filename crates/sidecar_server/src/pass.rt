@@ -11,10 +11,10 @@ use step_gate::Seat;
 /// it calls, a dialler for the placement and to wake the ports with, a clock, and one by which silence is measured. The thread that speaks with the placement
 /// alone keeps the book of that and the link to it.
 #[derive(Drop)]
-pub(crate) struct Pass<N: Dial, K: Clock> {
+pub(crate) struct Pass<A: Dial, P: Dial, N: Dial, K: Clock> {
     pub(crate) seats: Seats,
     pub(crate) watch: Seat<Watch<N, K>>,
-    pub(crate) links: Links<N>,
+    pub(crate) links: Links<A, P, N>,
     pub(crate) net: N,
     pub(crate) clock: K,
     pub(crate) steady: K,

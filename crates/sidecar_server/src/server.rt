@@ -46,12 +46,20 @@ pub struct SidecarServed {
 }
 
 // Serves the sidecar under this watch.
-fn serve_watched<R: Threads + Wait + Sync, C: Conn, L: Listen<Link = C>, N: Dial, K: Clock>(
+fn serve_watched<
+    R: Threads + Wait + Sync,
+    C: Conn,
+    L: Listen<Link = C>,
+    A: Dial<Link = N::Link>,
+    P: Dial<Link = N::Link>,
+    N: Dial,
+    K: Clock,
+>(
     rt: &R,
     alloc: Global,
     node: &SidecarNode,
     watch: &Gate<Watch<N, K>>,
-    pass: Pass<N, K>,
+    pass: Pass<A, P, N, K>,
     callers: L,
     peers: L,
     places: SidecarPlaces,
@@ -74,13 +82,13 @@ fn serve_watched<R: Threads + Wait + Sync, C: Conn, L: Listen<Link = C>, N: Dial
         at_once,
     };
     let shared = &service;
-    let serve = |pass: Pass<N, K>, conn: C|
+    let serve = |pass: Pass<A, P, N, K>, conn: C|
         requires { Admits shared.now.node.now shared.now.watch.now pass.seats pass.watch }
     { serve_at(rt, shared, Side::Caller, pass, conn) };
-    let beside = |pass: Pass<N, K>, conn: C|
+    let beside = |pass: Pass<A, P, N, K>, conn: C|
         requires { Admits shared.now.node.now shared.now.watch.now pass.seats pass.watch }
     { serve_at(rt, shared, Side::Peer, pass, conn) };
-    let duty = |duty: Duty, pass: Pass<N, K>| -> Pass<N, K>
+    let duty = |duty: Duty, pass: Pass<A, P, N, K>| -> Pass<A, P, N, K>
         requires { Admits shared.now.node.now shared.now.watch.now pass.seats pass.watch }
         ensures { Admits shared.entry.now.node.now shared.entry.now.watch.now result.seats result.watch }
     { do_duty(rt, shared, duty, pass) };
@@ -136,7 +144,15 @@ fn stop_all<R: Wait>(rt: &R, node: &SidecarNode, seats: Seats) -> Seats
 /// placement and looks whether its lease has ended, every 200 milliseconds; it deactivates idle actors as often, runs the timers
 /// that are due every 100 milliseconds, and the reminders every 1,000. At the end all parts are stopped, and the sidecar
 /// leaves the placement. The lease counts by `steady`. Its host must be one that a Register frame can carry.
-pub fn serve_sidecar<R: Threads + Wait + Sync, C: Conn, L: Listen<Link = C>, N: Dial, K: Clock>(
+pub fn serve_sidecar<
+    R: Threads + Wait + Sync,
+    C: Conn,
+    L: Listen<Link = C>,
+    A: Dial<Link = N::Link>,
+    P: Dial<Link = N::Link>,
+    N: Dial,
+    K: Clock,
+>(
     rt: &R,
     alloc: Global,
     node: &SidecarNode,
@@ -144,7 +160,7 @@ pub fn serve_sidecar<R: Threads + Wait + Sync, C: Conn, L: Listen<Link = C>, N: 
     callers: L,
     peers: L,
     places: SidecarPlaces,
-    links: Links<N>,
+    links: Links<A, P, N>,
     net: N,
     clock: K,
     steady: K,

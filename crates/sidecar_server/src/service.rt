@@ -35,10 +35,10 @@ impl<N: Dial, K: Clock> SidecarService<'_, N, K> {
     }
 }
 
-impl<N: Dial, K: Clock> Service<Pass<N, K>> for SidecarService<'_, N, K> {
+impl<A: Dial, P: Dial, N: Dial, K: Clock> Service<Pass<A, P, N, K>> for SidecarService<'_, N, K> {
     ghost admits = { λ v p. Admits v.node.now v.watch.now p.seats p.watch };
 
-    fn split(&self, pass: Pass<N, K>) -> (Pass<N, K>, Option<Pass<N, K>>) {
+    fn split(&self, pass: Pass<A, P, N, K>) -> (Pass<A, P, N, K>, Option<Pass<A, P, N, K>>) {
         let (Ok(app), Ok(peers), Ok(store)) = (
             pass.links.app.another(),
             pass.links.peers.another(),

@@ -11,11 +11,11 @@ use std::sync::Wait;
 
 /// Serves a connection of this port until it ends. First it looks whether the lease has ended: a sidecar that was held up
 /// stops before it answers a connection that waited meanwhile.
-pub(crate) fn serve_at<R: Wait, C: Conn, N: Dial, K: Clock>(
+pub(crate) fn serve_at<R: Wait, C: Conn, A: Dial, P: Dial, N: Dial, K: Clock>(
     rt: &R,
     service: &SidecarService<'_, N, K>,
     side: Side,
-    pass: Pass<N, K>,
+    pass: Pass<A, P, N, K>,
     conn: C,
 )
     requires { Admits service.now.node.now service.now.watch.now pass.seats pass.watch }

@@ -59,4 +59,4 @@ hop_on-requires g t c κs within =
     let fewer = h.0 in
     let seats = c.hop_once-seats.ensures.seats in
     let few = h.1 in
-    (first_of (search rules, omega (arith, fewer)), (within.0, (within.1.0, (within.1.1.0, (within.1.1.1, (search rules, (search rules, search rules)))))))
+    (first_of (search rules, omega (arith, fewer)), (within.0, (within.1.0, (within.1.1.0, (within.1.1.1.0, (within.1.1.1.1.0, (within.1.1.1.1.1.0, (within.1.1.1.1.1.1.0, (within.1.1.1.1.1.1.1, (search rules, (search rules, search rules)))))))))))

@@ -11,7 +11,7 @@ returns-then-eq-clause-hop g c =
       [],
       a.2,
       a.3,
-      none_kept g.L.Dial.dialled g.L.Dial.dial_faults c.args.links.now.peers c.ask_here.new.links.peers c.ask_here.ensures.others.0,
+      none_kept g.P.Dial.dialled g.P.Dial.dial_faults c.args.links.now.peers c.ask_here.new.links.peers c.ask_here.ensures.others.0,
       inl (sym c.eq.ensures ∙ c.if-eq.true, refl, a.4),
     )
 

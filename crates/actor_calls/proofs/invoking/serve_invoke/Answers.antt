@@ -15,7 +15,7 @@ returns-in-Answered-clause-invoked g c =
       [],
       a.2,
       a.3,
-      none_kept g.L.Dial.dialled g.L.Dial.dial_faults c.args.links.now.peers c.ask_here-seats.new.links.peers c.ask_here-seats.ensures.others.0,
+      none_kept g.P.Dial.dialled g.P.Dial.dial_faults c.args.links.now.peers c.ask_here-seats.new.links.peers c.ask_here-seats.ensures.others.0,
       invoked_answered _ c.ask_here-seats.result.0 _ c.args.links.now.app_at c.args.invoke.now c.args.request.now c.args.side _ _ a.0 a.1 c.in-Answered.reply a.4,
     )
 
@@ -28,7 +28,7 @@ returns-in-Moves-clause-invoked g c =
       o.2,
       acts_at_then _ a.0 o.0 _ _ _ a.2 o.3,
       dialling_then a.1 o.1 _ _ _ _ _ _ a.3 o.4,
-      none_before g.L.Dial.dialled g.L.Dial.dial_faults c.args.links.now.peers c.ask_here-seats.new.links.peers c.ask_here-seats.ensures.others.0 o.2 _ _ o.5,
+      none_before g.P.Dial.dialled g.P.Dial.dial_faults c.args.links.now.peers c.ask_here-seats.new.links.peers c.ask_here-seats.ensures.others.0 o.2 _ _ o.5,
       invoked_moves _ c.move_on.result.0 (host_of c.args.node.now).member c.args.links.now.app_at c.args.invoke.now c.args.request.now c.args.side c.ask_here-seats.result.0 _ _ _ _ _ a.0 o.0 a.1 o.1 o.2 _ _ _
           (ap (λ (h : HostInfo). h.member) c.host-host.ensures) c.ask_here-seats.ensures.places.0 a.4 o.6,
     )

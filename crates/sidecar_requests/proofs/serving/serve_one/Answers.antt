@@ -14,7 +14,7 @@ returns-in-Answered-clause-served g c =
       s.3,
       s.4,
       s.5,
-      none_kept g.L.Dial.dialled g.L.Dial.dial_faults c.args.links.now.store c.serve_call-seats.new.links.store c.serve_call-seats.ensures.store,
+      none_kept g.S.Dial.dialled g.S.Dial.dial_faults c.args.links.now.store c.serve_call-seats.new.links.store c.serve_call-seats.ensures.store,
       answered c.args.node.now c.args.links.now.app_at c.args.side c.args.request.now c.args.links.now.store_at c.serve_call-seats.result.0 _ _ s.0 s.1 s.2 c.in-Answered.reply s.6,
     )
 
@@ -25,8 +25,6 @@ serve_record-requires-clause-record_ g c κs within =
 
 pub returns-in-Other-clause-served : goal.returns-in-Other-clause-served
 returns-in-Other-clause-served g c =
-    let dialled = g.L.Dial.dialled in
-    let faults = g.L.Dial.dial_faults in
     let s = rw c.in-Other.is at c.serve_call-seats.ensures.served in
     let r = c.serve_record.ensures.served in
     let first = c.serve_call-seats.new.links in
@@ -36,9 +34,9 @@ returns-in-Other-clause-served g c =
       s.2,
       r.1,
       acts_then s.0 r.0 _ _ _ s.3 r.2,
-      none_after dialled faults first.app last.app c.serve_record.ensures.others.0 s.1 _ _ s.4,
-      none_after dialled faults first.peers last.peers c.serve_record.ensures.others.1 s.2 _ _ s.5,
-      none_before dialled faults c.args.links.now.store first.store c.serve_call-seats.ensures.store r.1 _ _ r.3,
+      none_after g.A.Dial.dialled g.A.Dial.dial_faults first.app last.app c.serve_record.ensures.others.0 s.1 _ _ s.4,
+      none_after g.P.Dial.dialled g.P.Dial.dial_faults first.peers last.peers c.serve_record.ensures.others.1 s.2 _ _ s.5,
+      none_before g.S.Dial.dialled g.S.Dial.dial_faults c.args.links.now.store first.store c.serve_call-seats.ensures.store r.1 _ _ r.3,
       recorded c.args.node.now c.args.links.now.app_at c.args.side c.args.request.now c.args.links.now.store_at c.serve_record.result.0 c.serve_call-seats.result.0 first.store_at _ _ _ s.0 r.0 s.1 s.2 r.1 c.in-Other.command c.serve_record.result.1
           c.serve_call-seats.ensures.places.1 s.6 r.4,
     )

@@ -8,7 +8,7 @@ use Rattle.sidecar_requests.proofs.session.serve_requests.Goals as goal
 
 pub loop-requests-init : goal.loop-requests-init
 loop-requests-init g c =
-    let s = standing g.L.Dial.dialled g.L.Dial.dial_faults g.K.Clock.shown c.args.node.now c.args.seats c.args.links.now c.args.clock.now in
+    let s = standing g.A.Dial.dialled g.A.Dial.dial_faults g.P.Dial.dialled g.P.Dial.dial_faults g.S.Dial.dialled g.S.Dial.dial_faults g.K.Clock.shown c.args.node.now c.args.seats c.args.links.now c.args.clock.now in
     let t = g.C.Source.read_traffic c.args.conn.now in
     let none = account s [] in
     record {
@@ -61,8 +61,8 @@ returns-in-Err-written-clause-session g c =
     let before = c.loop-requests.invariant.progress.0 in
     let turn = c.take_turn-next.ensures.turn before in
     let cut = rw c.in-Err-written.is at turn.1 in
-    let old = account (standing g.L.Dial.dialled g.L.Dial.dial_faults g.K.Clock.shown c.args.node.now c.args.seats c.args.links.now c.args.clock.now) [] in
-    let new = account (standing g.L.Dial.dialled g.L.Dial.dial_faults g.K.Clock.shown c.args.node.now c.take_turn-next.result.0 c.take_turn-next.new.links c.take_turn-next.new.clock) (before ++ turn.0 ∷ []) in (
+    let old = account (standing g.A.Dial.dialled g.A.Dial.dial_faults g.P.Dial.dialled g.P.Dial.dial_faults g.S.Dial.dialled g.S.Dial.dial_faults g.K.Clock.shown c.args.node.now c.args.seats c.args.links.now c.args.clock.now) [] in
+    let new = account (standing g.A.Dial.dialled g.A.Dial.dial_faults g.P.Dial.dialled g.P.Dial.dial_faults g.S.Dial.dialled g.S.Dial.dial_faults g.K.Clock.shown c.args.node.now c.take_turn-next.result.0 c.take_turn-next.new.links c.take_turn-next.new.clock) (before ++ turn.0 ∷ []) in (
       before ++ turn.0 ∷ [],
       subst (λ (e : SessionEnd). IsSession (IsAnswered c.args.side) (edge_response c.args.side) old new (traffic c.args.conn.now) (traffic c.take_turn-next.new.conn) (faults c.args.conn.now) (faults c.take_turn-next.new.conn) e) (sym c.cut_end.ensures)
           (ends_cut (IsAnswered c.args.side) (edge_response c.args.side) _ _ _ _ c.loop-requests.reader c.loop-requests.requests p _ c.read.new.self c.in-Ok-Some.request (read p.sound) _ _ (faults c.args.conn.now) (faults c.take_turn-next.new.conn) c.in-Err-written.error cut),
@@ -128,7 +128,7 @@ returns-clause-session g c =
     let low = c.loop-requests.auto.requests-end in
     let high = c.loop-requests-test.false in
     let all : c.loop-requests.requests ≡ 4611686018427387904 = omega arith in
-    let old = account (standing g.L.Dial.dialled g.L.Dial.dial_faults g.K.Clock.shown c.args.node.now c.args.seats c.args.links.now c.args.clock.now) [] in
-    let new = account (standing g.L.Dial.dialled g.L.Dial.dial_faults g.K.Clock.shown c.args.node.now c.loop-requests.seats c.loop-requests.links c.loop-requests.clock) c.loop-requests.invariant.progress.0 in
+    let old = account (standing g.A.Dial.dialled g.A.Dial.dial_faults g.P.Dial.dialled g.P.Dial.dial_faults g.S.Dial.dialled g.S.Dial.dial_faults g.K.Clock.shown c.args.node.now c.args.seats c.args.links.now c.args.clock.now) [] in
+    let new = account (standing g.A.Dial.dialled g.A.Dial.dial_faults g.P.Dial.dialled g.P.Dial.dial_faults g.S.Dial.dialled g.S.Dial.dial_faults g.K.Clock.shown c.args.node.now c.loop-requests.seats c.loop-requests.links c.loop-requests.clock) c.loop-requests.invariant.progress.0 in
     let done = subst (λ (n : ℕ). Progress (IsAnswered c.args.side) old new (traffic c.args.conn.now) (traffic c.loop-requests.conn) c.loop-requests.reader n) all p in
     (c.loop-requests.invariant.progress.0, ends_spent (IsAnswered c.args.side) (edge_response c.args.side) _ _ _ _ (faults c.args.conn.now) (faults c.loop-requests.conn) c.loop-requests.reader 4611686018427387904 4611686018427387904 done refl refl)

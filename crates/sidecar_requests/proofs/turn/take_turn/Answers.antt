@@ -7,7 +7,7 @@ use Rattle.sidecar_requests.proofs.turn.take_turn.Goals as goal
 
 pub returns-in-Err-clause-turn : goal.returns-in-Err-clause-turn
 returns-in-Err-clause-turn g c = λ before.
-    let look = standing g.L.Dial.dialled g.L.Dial.dial_faults g.K.Clock.shown c.args.node.now in
+    let look = standing g.A.Dial.dialled g.A.Dial.dial_faults g.P.Dial.dialled g.P.Dial.dial_faults g.S.Dial.dialled g.S.Dial.dial_faults g.K.Clock.shown c.args.node.now in
     let step = c.serve_one-seats in
     let s = step.ensures.served in
     let deed : Deed = record { request = c.args.request.now; entries = s.0; app = s.1; peers = s.2; store = s.3; answer = step.result.1 } in (
@@ -22,7 +22,7 @@ returns-in-Err-clause-turn g c = λ before.
 
 pub returns-in-Ok-clause-turn : goal.returns-in-Ok-clause-turn
 returns-in-Ok-clause-turn g c = λ before.
-    let look = standing g.L.Dial.dialled g.L.Dial.dial_faults g.K.Clock.shown c.args.node.now in
+    let look = standing g.A.Dial.dialled g.A.Dial.dial_faults g.P.Dial.dialled g.P.Dial.dial_faults g.S.Dial.dialled g.S.Dial.dial_faults g.K.Clock.shown c.args.node.now in
     let step = c.serve_one-seats in
     let s = step.ensures.served in
     let old = look c.args.seats c.args.links.now c.args.clock.now in

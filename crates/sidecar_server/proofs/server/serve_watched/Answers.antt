@@ -22,13 +22,13 @@ use Rattle.sidecar_server.proofs.server.serve_watched.Goals as goal
 
 -- the type of what the threads share
 abbrev shared_of : (g : given.Over) → NamedLft → RattleType
-shared_of g ℓ = service.the_row ℓ (param 3 g.row.N) (param 4 g.row.K) (param 5 g.row.N-Link) g.N.Dial g.N.Link.Conn g.N.Link.Source g.N.Link.Sink g.K.Clock
+shared_of g ℓ = service.the_row ℓ (param 5 g.row.N) (param 6 g.row.K) (param 7 g.row.N-Link) g.N.Dial g.N.Link.Conn g.N.Link.Source g.N.Link.Sink g.K.Clock
 
 -- what the threads share may be shared, whatever it borrows for
 service_crosses : (g : given.Over) → IsSync node.the_row → (ℓ : NamedLft) → IsSync (shared_of g ℓ)
 service_crosses g n ℓ =
-    let T = service.the_type ℓ (param 3 g.row.N) (param 4 g.row.K) (param 5 g.row.N-Link) g.N.Dial g.N.Link.Conn g.N.Link.Source g.N.Link.Sink g.K.Clock in
-    let w = watch.the_send (param 3 g.row.N) (param 4 g.row.K) (param 5 g.row.N-Link) g.N.Dial g.N.Link.Source g.N.Link.Sink g.K.Clock in
+    let T = service.the_type ℓ (param 5 g.row.N) (param 6 g.row.K) (param 7 g.row.N-Link) g.N.Dial g.N.Link.Conn g.N.Link.Source g.N.Link.Sink g.K.Clock in
+    let w = watch.the_send (param 5 g.row.N) (param 6 g.row.K) (param 7 g.row.N-Link) g.N.Dial g.N.Link.Source g.N.Link.Sink g.K.Clock in
     recorded_sync _ _ T.to T.to_one (struct_sync (shape T) (search (sendable, crosses) depth 20, (search (n, sendable) depth 9, (search (w, gate.the_sync, sendable, crosses) depth 20, (address.the_field_sync, (search (ending.the_sync, sendable, crosses) depth 20, (search sendable, tt)))))))
 
 -- a closure that captures two references may be shared if what they lead to may be
@@ -42,13 +42,15 @@ serve_shared g ν k ℓ m r v = closure_shared ν (shr_ref_field k (param 0 g.ro
 
 pub serve_ports-requires-send-P : goal.serve_ports-requires-send-P
 serve_ports-requires-send-P g c κs within =
-    let N = param 3 g.row.N in
-    let K = param 4 g.row.K in
-    let L = param 5 g.row.N-Link in
+    let A = param 3 g.row.A in
+    let P = param 4 g.row.P in
+    let N = param 5 g.row.N in
+    let K = param 6 g.row.K in
+    let L = param 7 g.row.N-Link in
     let w = watch.the_send N K L g.N.Dial g.N.Link.Source g.N.Link.Sink g.K.Clock in
-    let T = pass.the_type N K L g.N.Dial g.N.Link.Source g.N.Link.Sink g.K.Clock in
-    let parts : AllSend (fields T) = (c.seats_cross.ensures, (search (w, seat.the_send) depth 9, (search (c.type_bounds.send-N, address.the_field_send, sendable, crosses) depth 20, (c.type_bounds.send-N, (c.type_bounds.send-K, (c.type_bounds.send-K, (search (sendable, crosses) depth 20, (search (link.the_send, c.type_bounds.send-N-Link, sendable, crosses) depth 20, tt)))))))) in
-    param_send _ _ (arg_send _ no (pass.the_row N K L g.N.Dial g.N.Link.Source g.N.Link.Sink g.K.Clock) (recorded_send _ _ T.to T.to_one (struct_send (shape T) parts)))
+    let T = pass.the_type A P N K L L L g.N.Dial g.N.Link.Source g.N.Link.Sink g.K.Clock in
+    let parts : AllSend (fields T) = (c.seats_cross.ensures, (search (w, seat.the_send) depth 9, (search (c.type_bounds.send-A, c.type_bounds.send-P, c.type_bounds.send-N, address.the_field_send, sendable, crosses) depth 20, (c.type_bounds.send-N, (c.type_bounds.send-K, (c.type_bounds.send-K, (search (sendable, crosses) depth 20, (search (link.the_send, c.type_bounds.send-N-Link, sendable, crosses) depth 20, tt)))))))) in
+    param_send _ _ (arg_send _ no (pass.the_row A P N K L L L g.N.Dial g.N.Link.Source g.N.Link.Sink g.K.Clock) (recorded_send _ _ T.to T.to_one (struct_send (shape T) parts)))
 
 pub serve_ports-requires-sync-V : goal.serve_ports-requires-sync-V
 serve_ports-requires-sync-V g c κs within =
