@@ -8,3 +8,4 @@ mod Completed
 pub mod Acting
 pub mod Tries
 pub mod Forwards
+mod ForwardCauses

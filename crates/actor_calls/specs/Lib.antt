@@ -6,3 +6,4 @@ pub mod Forwards
 pub mod Serving
 pub mod PeerReads
 pub mod Causes
+pub mod ForwardCauses

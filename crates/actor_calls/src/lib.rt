@@ -25,7 +25,7 @@ mod serving;
 pub use forwarded::serve_forwarded;
 pub use invoke::Invoke;
 pub use invoking::serve_invoke;
-pub use law::{call_law, peer_law};
+pub use law::{call_law, forward_law, peer_law};
 pub use next::Next;
 pub use outcomes::{next_of, turn_answer};
 pub use peers::peer_next;
