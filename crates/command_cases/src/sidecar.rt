@@ -4,6 +4,7 @@ mod caller;
 mod link;
 mod moments;
 mod scenes;
+mod silence;
 mod stage;
 mod trial;
 

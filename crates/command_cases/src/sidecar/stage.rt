@@ -1,5 +1,6 @@
 // What the fakes of a trial share, and when each does what.
 use super::scenes;
+use super::silence::Silence;
 use std::alloc::Global;
 use std::sync::Mutex;
 use std::sync::atomic::{AtomicBool, AtomicU64, Ordering};
@@ -21,6 +22,8 @@ pub(crate) enum Trial {
     /// One caller. The placement refuses the sidecar while the application works, which answers once the sidecar has
     /// stopped.
     Refused,
+    /// One caller. The placement gets silent while the application works, which answers once the sidecar has stopped.
+    Silent(Silence),
 }
 
 // How often the application looks for what it waits for, with a yield between two looks.
@@ -106,7 +109,7 @@ impl Stage {
             Trial::TwoActors => call > 0 || self.calls.load(Ordering::SeqCst) > 1,
             Trial::OneActor | Trial::OneAtOnce => self.open.load(Ordering::SeqCst) > 1,
             Trial::Moved => self.moment() >= DRAINED_MS,
-            Trial::Refused => self.is_woken(),
+            Trial::Refused | Trial::Silent(_) => self.is_woken(),
         }
     }
 
@@ -140,11 +143,23 @@ impl Stage {
         answer
     }
 
+    // What a placement answers that gets silent.
+    fn place_until_silent(&self, silence: Silence) -> &'static [u8] {
+        let frame = self.moves.fetch_add(1, Ordering::SeqCst);
+        self.moment
+            .store(silence.moment_at(frame), Ordering::SeqCst);
+        if silence.answers(frame) {
+            return scenes::IDLE;
+        }
+        scenes::NOTHING
+    }
+
     // What the placement answers once the application has a call.
     fn place_at_work(&self) -> &'static [u8] {
         match self.trial {
             Trial::TwoActors | Trial::OneActor | Trial::OneAtOnce => scenes::IDLE,
             Trial::Refused => scenes::NOT_MEMBER,
+            Trial::Silent(silence) => self.place_until_silent(silence),
             Trial::Moved => match self.moves.fetch_add(1, Ordering::SeqCst) {
                 0 => scenes::LOCK_2,
                 1 => scenes::UPDATE_2,

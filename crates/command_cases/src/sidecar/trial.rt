@@ -3,6 +3,7 @@ use super::caller::Port;
 use super::link::Dialler;
 use super::moments::Moments;
 use super::scenes;
+use super::silence::Silence;
 use super::stage::{Stage, Trial};
 use actor_ports::{MemSink, MemSource, SystemClock};
 use actors_top::{Outside, run};
@@ -26,6 +27,14 @@ const WORDS: [&str; 8] = [
     "--store=127.0.0.1:3700",
 ];
 
+// A placement that answers its last turn at the first moment, and the clocks show the second one in the end.
+fn silent(answered_at: u64, ends_at: u64) -> Option<Trial> {
+    Some(Trial::Silent(Silence {
+        answered_at,
+        ends_at,
+    }))
+}
+
 fn trial_of(name: &str) -> Option<Trial> {
     match name {
         "serves_two_connections_at_once" => Some(Trial::TwoActors),
@@ -33,6 +42,9 @@ fn trial_of(name: &str) -> Option<Trial> {
         "second_connection_waits_for_first" => Some(Trial::OneAtOnce),
         "ended_turn_answers_aborted" => Some(Trial::Moved),
         "stopped_turn_answers_stopped" => Some(Trial::Refused),
+        "lease_holds_a_millisecond_less_than_five_seconds" => silent(1_000, 6_000),
+        "lease_has_ended_past_five_seconds" => silent(1_000, 6_001),
+        "late_answer_extends_lease_from_before_its_turn" => silent(4_000, 6_000),
         _ => None,
     }
 }
@@ -42,7 +54,7 @@ fn second_of(trial: Trial) -> Option<&'static [u8]> {
     match trial {
         Trial::TwoActors | Trial::OneAtOnce => Some(scenes::OTHER_CALL),
         Trial::OneActor => Some(scenes::CALL),
-        Trial::Moved | Trial::Refused => None,
+        Trial::Moved | Trial::Refused | Trial::Silent(_) => None,
     }
 }
 
