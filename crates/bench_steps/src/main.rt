@@ -4,13 +4,15 @@
 //     gate WORDS        threads at a gate
 //     part WORDS        one part and one table
 //     http WORDS        HTTP messages over a connection in memory
+//     book WORDS        a book of forwarded calls
 //     all               a small run of each
 //
 // The module of each has its words. A run prints how many steps, turns, payloads, requests or bytes there were. It has no
 // contracts that another crate needs. Depends on tx_journal, disk_model, step_gate, part_model, part_core, place_table,
-// actors_api, http_edge, actor_ports and actor_names.
+// actors_api, call_book, http_edge, actor_ports and actor_names.
 #![tactic(auto)]
 
+mod books;
 mod gates;
 mod journals;
 mod messages;
@@ -27,12 +29,13 @@ use std::{env, fs, io};
 const PATH: &str = "bench_steps_journal";
 
 /// The small runs, in their order.
-const SMALL: [[&str; 4]; 5] = [
+const SMALL: [[&str; 4]; 6] = [
     ["journal", "append", PATH, "10"],
     ["journal", "open", PATH, "10"],
     ["gate", "gate", "2", "1000"],
     ["part", "limits", "65536", "256"],
     ["http", "serve", "1000", ""],
+    ["book", "pairs", "1000", ""],
 ];
 
 fn main(rt: HostRuntime) -> io::Result<()> {
@@ -73,7 +76,7 @@ fn print_run<R: AllocGlobal + Print + Files<File = File> + Threads + Wait + Cloc
     match run(rt, words)? {
         Some(count) => println!(rt; "{count}"),
         None => println!(rt;
-            "bench_steps journal|gate|part|http WORDS, or all; or the disk failed, or memory ran out"
+            "bench_steps journal|gate|part|http|book WORDS, or all; or the disk failed, or memory ran out"
         ),
     }
 }
@@ -89,6 +92,7 @@ fn run<R: AllocGlobal + Files<File = File> + Threads + Wait + Clock + Sync>(
         "gate" => Ok(gates::run(rt, rt.alloc(), mode, first, second)),
         "part" => Ok(parts::run(rt.alloc(), mode, first, second)),
         "http" => Ok(messages::run(rt.alloc(), mode, first)),
+        "book" => Ok(books::run(rt.alloc(), mode, first)),
         _ => Ok(None),
     }
 }
