@@ -5,7 +5,8 @@ use actor_names::Address;
 use actor_ports::Dial;
 
 /// What a sidecar calls: its application, other sidecars and the store, by a dialler of its own type each, so that none can
-/// stand in another's place. The count of faults of each is that of its dialler. A call that is lent these gives back each link that it dialled.
+/// stand in another's place. The count of faults of each is that of its dialler. A call that is lent these gives back each
+/// link that it dialled.
 #[derive(Drop)]
 pub struct Links<A: Dial, P: Dial, S: Dial> {
     pub app: A,
