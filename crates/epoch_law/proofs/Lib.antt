@@ -1,2 +1,4 @@
 mod Rising
+mod Staying
 mod Telling
+mod Rows

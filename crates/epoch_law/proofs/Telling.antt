@@ -1,21 +1,21 @@
 -- What a Lock of version 0 and a Hold tell of a part.
-use Rattle.std.proofs.Common.{◌≡◌, ◌⊎◌, ◌∙◌, ℕ, Bool, true, false, not, ◌&&◌, cond, List, [], ◌∷◌, Option, Some, None, refl, sym, ap, inl, inr, arith}
+use Rattle.std.proofs.Common.{◌≡◌, ◌⊎◌, ◌+◌, ℕ, not, ◌&&◌, Option, Some, None, refl, inl, inr, arith}
 use Rattle.std.specs.Prelude.{nat_lt}
 use Rattle.std.proofs.lemmas.Bool.{and_parts, ltb-true, cond_both}
 use Rattle.actor_names.specs.declared.actor_key.ActorKey.{ActorKey}
-use Rattle.actor_names.specs.Same.{same_key}
 use Rattle.place_table.specs.declared.host.HostInfo.{HostInfo}
 use Rattle.place_table.specs.Hosts.{PlacementTable}
-use Rattle.turn_core.specs.CellSound.{In}
+use Rattle.turn_core.specs.Cell.{with_hold}
 use Rattle.part_model.specs.declared.actor_cell.ActorCell.{ActorCell}
 use Rattle.part_model.specs.declared.event.PartEvent.TheVariants.{Lock, Hold}
 use Rattle.part_model.specs.declared.event.Reply.TheVariants as replies
 use Rattle.part_model.specs.declared.stage.Stage.{Stage}
 use Rattle.part_model.specs.declared.stage.Stage.TheVariants.{Locked, Updated, Open, Stopped}
 use Rattle.part_model.specs.Cells.{cell_at}
-use Rattle.part_model.specs.Part.{PartState, PartStep, step_at, lock_part, hold_cell, receipt_of}
-use Rattle.part_model.proofs.KeyOrders.{same_key-true}
-use Rattle.epoch_law.specs.Epochs.{HasActive, IsTold, TellsEpoch, HoldsActive}
+use Rattle.part_model.specs.Part.{PartState, PartStep, is_spent, step_at, lock_part, hold_cell, receipt_of}
+use Rattle.part_model.proofs.Elements.{In-cell_at, key-cell_at}
+use Rattle.epoch_law.specs.Epochs.{IsHeld, IsTold, TellsEpoch, HoldsActive}
+use Rattle.epoch_law.proofs.Staying.{In-keep-itself}
 
 module _ (owner : PlacementTable → ActorKey → Option HostInfo) where
   -- what holds of a step that leaves the part and answers its receipt, or that it has stopped
@@ -36,26 +36,27 @@ module _ (owner : PlacementTable → ActorKey → Option HostInfo) where
 
   -- ---- holds
 
-  found : (cells : List ActorCell) (key : ActorKey) (c : ActorCell) → cell_at cells key ≡ Some c → In c cells × (c.key ≡ key)
-  found [] key c e = absurd (let h : ⊥ = cc in h)
-  found (x ∷ xs) key c e = go (λ f. found xs key c f) (same_key key x.key) refl e
-    where
-      go : (cell_at xs key ≡ Some c → In c xs × (c.key ≡ key)) → (b : Bool) → same_key key x.key ≡ b → cond b (Some x) (cell_at xs key) ≡ Some c → In c (x ∷ xs) × (c.key ≡ key)
-      go behind true same f = let is : x ≡ c = cc in (inl (sym is), ap (λ (y : ActorCell). y.key) (sym is) ∙ sym (same_key-true key x.key same))
-      go behind false same f = let more = behind f in (inr more.0, more.1)
+  -- what holds of a step that answers Held
+  abbrev Holds : PartState → ActorKey → PartStep → Type 0
+  Holds p key s = (n : ℕ) → s.reply ≡ replies.Held n → (m : ℕ) × IsHeld m p key × IsHeld (m + 1) s.part key
 
-  active_in : (p : PartState) (c : ActorCell) (n : ℕ) → (hold_cell owner p (Some c)).reply ≡ replies.Held n → c.active ≡ true
-  active_in p c n = cond_both (c.active && not c.closing) _ _ (λ (s : PartStep). s.reply ≡ replies.Held n → c.active ≡ true) (λ on e. (and_parts c.active (not c.closing) on).0) (λ _ e. absurd (let h : ⊥ = cc in h))
+  held_cell : (p : PartState) (key : ActorKey) (found : Option ActorCell) → cell_at p.cells key ≡ found → Holds p key (hold_cell owner p found)
+  held_cell p key None is = λ n e. absurd (let h : ⊥ = cc in h)
+  held_cell p key (Some c) is =
+      let i = In-cell_at p.cells key c is in
+      let k = key-cell_at p.cells key c is in
+      let x : ActorCell = record c { inner = with_hold c.inner } in
+      cond_both (c.active && not c.closing) _ _ (Holds p key)
+      (λ on. cond_both (is_spent p) _ _ (Holds p key)
+      (λ _ n e. absurd (let h : ⊥ = cc in h))
+      (λ _ n e. let a = (and_parts c.active (not c.closing) on).0 in (c.inner.holds, (c, i, a, k, refl), (x, In-keep-itself p.cells x a, a, k, refl))))
+      (λ _ n e. absurd (let h : ⊥ = cc in h))
 
-  held_cell : (p : PartState) (key : ActorKey) (n : ℕ) (o : Option ActorCell) → cell_at p.cells key ≡ o → (hold_cell owner p o).reply ≡ replies.Held n → HasActive p key
-  held_cell p key n None is e = absurd (let h : ⊥ = cc in h)
-  held_cell p key n (Some c) is e = let f = found p.cells key c is in (c, f.0, active_in p c n e, f.1)
-
-  held_at : (p : PartState) (key : ActorKey) (n : ℕ) (stage : Stage) → (step_at owner p stage (Hold key)).reply ≡ replies.Held n → HasActive p key
-  held_at p key n Stopped e = absurd (let h : ⊥ = cc in h)
-  held_at p key n Locked e = held_cell p key n (cell_at p.cells key) refl e
-  held_at p key n Updated e = held_cell p key n (cell_at p.cells key) refl e
-  held_at p key n Open e = held_cell p key n (cell_at p.cells key) refl e
+  held_at : (p : PartState) (key : ActorKey) (stage : Stage) → Holds p key (step_at owner p stage (Hold key))
+  held_at p key Stopped = λ n e. absurd (let h : ⊥ = cc in h)
+  held_at p key Locked = held_cell p key (cell_at p.cells key) refl
+  held_at p key Updated = held_cell p key (cell_at p.cells key) refl
+  held_at p key Open = held_cell p key (cell_at p.cells key) refl
 
   pub holds_active : (p : PartState) (key : ActorKey) → HoldsActive owner p key
-  holds_active p key n e = held_at p key n p.stage e
+  holds_active p key = held_at p key p.stage
