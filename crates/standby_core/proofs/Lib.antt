@@ -1,0 +1,5 @@
+mod Examples
+pub mod Replicated
+pub mod Told
+mod Mirrored
+mod Attached
