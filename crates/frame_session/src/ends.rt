@@ -42,7 +42,7 @@ fn is_between(mut reader: FrameReader) -> Result<bool, OutOfMemory>
 }
 
 /// The end of a session whose input has ended with what the reader keeps.
-pub(crate) fn end_of_input(reader: FrameReader, requests: u64) -> SessionEnd
+pub fn end_of_input(reader: FrameReader, requests: u64) -> SessionEnd
     requires waits { (reader.ready ≡ []) × (reader.failed ≡ None) }
     requires rest { IsBeginning reader.rest }
     ensures { InputEnd reader.rest requests result }
@@ -55,7 +55,7 @@ pub(crate) fn end_of_input(reader: FrameReader, requests: u64) -> SessionEnd
 }
 
 /// The end of a session whose connection or memory failed.
-pub(crate) fn cut_end(error: PortError, requests: u64) -> SessionEnd
+pub fn cut_end(error: PortError, requests: u64) -> SessionEnd
     ensures { result ≡ cut_end error requests }
 {
     match error {

@@ -12,7 +12,7 @@ const PIECE: usize = 65_536;
 
 /// What came of a read.
 #[derive(Clone, Copy, Drop)]
-pub(crate) enum Fetched {
+pub enum Fetched {
     /// The reader has the next piece.
     Fed,
     /// The reader has the next piece, and there is a fault in it.
@@ -22,7 +22,7 @@ pub(crate) enum Fetched {
 }
 
 /// Reads the next piece and gives it to the reader.
-pub(crate) fn fetch<C: Conn>(
+pub fn fetch_piece<C: Conn>(
     conn: &mut C,
     reader: &mut FrameReader,
     piece: &mut Vec<u8>,

@@ -12,4 +12,6 @@ mod session;
 mod turn;
 
 pub use answers::AnswersFrames;
+pub use ends::{cut_end, end_of_input};
+pub use fetch::{Fetched, fetch_piece};
 pub use session::frame_session;

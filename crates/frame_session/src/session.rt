@@ -5,7 +5,7 @@ ghost use Rattle.frame_session.specs.Sessions.{IsSession, SessionCause};
 
 use crate::answers::AnswersFrames;
 use crate::ends::{cut_answer_end, cut_end, end_of_input};
-use crate::fetch::{Fetched, fetch};
+use crate::fetch::{Fetched, fetch_piece};
 use crate::turn::{Turn, take_turn};
 use actor_ports::{Clock, Conn, SessionEnd};
 use frame_wire::FrameReader;
@@ -57,7 +57,7 @@ pub fn frame_session<R: Wait, M: Machine, A: AnswersFrames<M>, C: Conn, K: Clock
                 if faulty {
                     return (seat, SessionEnd::Malformed { requests });
                 }
-                match fetch(conn, &mut reader, &mut piece) {
+                match fetch_piece(conn, &mut reader, &mut piece) {
                     Err(error) => return (seat, cut_end(error, requests)),
                     Ok(Fetched::Ended) => return (seat, end_of_input(reader, requests)),
                     Ok(Fetched::Faulty) => faulty = true,

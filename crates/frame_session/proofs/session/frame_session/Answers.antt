@@ -70,8 +70,8 @@ returns-then-faulty-clause-session g c =
     let none = none_ready _ _ same c.in-None-next.ensures.none in
     read_fault _ _ _ _ _ _ _ _ _ _ _ _ progress none c.if-faulty.true
 
-pub fetch-requires-after_bounds : goal.fetch-requires-after_bounds
-fetch-requires-after_bounds g c κs within =
+pub fetch_piece-requires-after_bounds : goal.fetch_piece-requires-after_bounds
+fetch_piece-requires-after_bounds g c κs within =
     let same = c.in-None-next.ensures.empty refl in
     let progress = unchanged g.A.AnswersFrames.event_of g.A.AnswersFrames.answer_of g.A.AnswersFrames.breaks_off _ _ _ _ _ _ _ _ _ _ same c.loop.invariant.progress in
     let none = none_ready _ _ same c.in-None-next.ensures.none in
@@ -82,29 +82,29 @@ returns-in-Err-clause-session g c =
     let same = c.in-None-next.ensures.empty refl in
     let progress = unchanged g.A.AnswersFrames.event_of g.A.AnswersFrames.answer_of g.A.AnswersFrames.breaks_off _ _ _ _ _ _ _ _ _ _ same c.loop.invariant.progress in
     let none = none_ready _ _ same c.in-None-next.ensures.none in
-    subst (λ (e : SessionEnd). IsSession g.A.AnswersFrames.event_of g.A.AnswersFrames.answer_of g.A.AnswersFrames.breaks_off c.args.seat c.loop.seat (g.K.Clock.shown c.args.clock.now) (g.K.Clock.shown c.loop.clock) (g.C.Source.read_traffic c.args.conn.now) (g.C.Source.read_traffic c.fetch.new.conn) e) (sym c.cut_end.ensures)
-    (read_cut _ _ _ _ _ _ _ _ _ _ _ _ progress none c.fetch.new.reader _ c.in-Err.error c.in-Err.ensures.fetches)
+    subst (λ (e : SessionEnd). IsSession g.A.AnswersFrames.event_of g.A.AnswersFrames.answer_of g.A.AnswersFrames.breaks_off c.args.seat c.loop.seat (g.K.Clock.shown c.args.clock.now) (g.K.Clock.shown c.loop.clock) (g.C.Source.read_traffic c.args.conn.now) (g.C.Source.read_traffic c.fetch_piece.new.conn) e) (sym c.cut_end.ensures)
+    (read_cut _ _ _ _ _ _ _ _ _ _ _ _ progress none c.fetch_piece.new.reader _ c.in-Err.error c.in-Err.ensures.fetches)
 
 pub end_of_input-requires-clause-waits : goal.end_of_input-requires-clause-waits
 end_of_input-requires-clause-waits g c =
     let same = c.in-None-next.ensures.empty refl in
     let progress = unchanged g.A.AnswersFrames.event_of g.A.AnswersFrames.answer_of g.A.AnswersFrames.breaks_off _ _ _ _ _ _ _ _ _ _ same c.loop.invariant.progress in
     let none = none_ready _ _ same c.in-None-next.ensures.none in
-    read_waits _ _ _ _ _ _ _ _ _ _ _ _ progress none c.fetch.new.reader _ c.if-faulty.false (rw c.in-Ok-Ended.field-0-is at c.in-Ok-Ended.ensures.fetches)
+    read_waits _ _ _ _ _ _ _ _ _ _ _ _ progress none c.fetch_piece.new.reader _ c.if-faulty.false (rw c.in-Ok-Ended.field-0-is at c.in-Ok-Ended.ensures.fetches)
 
 pub end_of_input-requires-clause-rest : goal.end_of_input-requires-clause-rest
 end_of_input-requires-clause-rest g c =
     let same = c.in-None-next.ensures.empty refl in
     let progress = unchanged g.A.AnswersFrames.event_of g.A.AnswersFrames.answer_of g.A.AnswersFrames.breaks_off _ _ _ _ _ _ _ _ _ _ same c.loop.invariant.progress in
     let none = none_ready _ _ same c.in-None-next.ensures.none in
-    read_begins _ _ _ _ _ _ _ _ _ _ _ _ progress none c.fetch.new.reader _ c.if-faulty.false (rw c.in-Ok-Ended.field-0-is at c.in-Ok-Ended.ensures.fetches)
+    read_begins _ _ _ _ _ _ _ _ _ _ _ _ progress none c.fetch_piece.new.reader _ c.if-faulty.false (rw c.in-Ok-Ended.field-0-is at c.in-Ok-Ended.ensures.fetches)
 
 pub returns-in-Ok-Ended-clause-session : goal.returns-in-Ok-Ended-clause-session
 returns-in-Ok-Ended-clause-session g c =
     let same = c.in-None-next.ensures.empty refl in
     let progress = unchanged g.A.AnswersFrames.event_of g.A.AnswersFrames.answer_of g.A.AnswersFrames.breaks_off _ _ _ _ _ _ _ _ _ _ same c.loop.invariant.progress in
     let none = none_ready _ _ same c.in-None-next.ensures.none in
-    read_ended _ _ _ _ _ _ _ _ _ _ _ _ progress none c.fetch.new.reader _ c.end_of_input.result c.if-faulty.false (rw c.in-Ok-Ended.field-0-is at c.in-Ok-Ended.ensures.fetches) c.end_of_input.ensures
+    read_ended _ _ _ _ _ _ _ _ _ _ _ _ progress none c.fetch_piece.new.reader _ c.end_of_input.result c.if-faulty.false (rw c.in-Ok-Ended.field-0-is at c.in-Ok-Ended.ensures.fetches) c.end_of_input.ensures
 
 pub loop-preserved-in-Ok-Faulty : goal.loop-preserved-in-Ok-Faulty
 loop-preserved-in-Ok-Faulty g c =
@@ -112,7 +112,7 @@ loop-preserved-in-Ok-Faulty g c =
     let progress = unchanged g.A.AnswersFrames.event_of g.A.AnswersFrames.answer_of g.A.AnswersFrames.breaks_off _ _ _ _ _ _ _ _ _ _ same c.loop.invariant.progress in
     let none = none_ready _ _ same c.in-None-next.ensures.none in
     record {
-      progress = read_faulty _ _ _ _ _ _ _ _ _ _ _ _ progress none c.fetch.new.reader _ (rw c.in-Ok-Faulty.field-0-is at c.in-Ok-Faulty.ensures.fetches);
+      progress = read_faulty _ _ _ _ _ _ _ _ _ _ _ _ progress none c.fetch_piece.new.reader _ (rw c.in-Ok-Faulty.field-0-is at c.in-Ok-Faulty.ensures.fetches);
       seat = c.loop.invariant.seat;
       faults = omega (arith, c.in-Ok-Faulty.ensures.cause);
     }
@@ -125,9 +125,9 @@ loop-preserved g c =
     let none = none_ready _ _ same c.in-None-next.ensures.none in
     record {
       progress =
-          subst (λ (b : Bool). Progress g.A.AnswersFrames.event_of g.A.AnswersFrames.answer_of g.A.AnswersFrames.breaks_off c.args.seat c.loop.seat (g.K.Clock.shown c.args.clock.now) (g.K.Clock.shown c.loop.clock) (g.C.Source.read_traffic c.args.conn.now) (g.C.Source.read_traffic c.fetch.new.conn) c.fetch.new.reader b c.loop.requests)
+          subst (λ (b : Bool). Progress g.A.AnswersFrames.event_of g.A.AnswersFrames.answer_of g.A.AnswersFrames.breaks_off c.args.seat c.loop.seat (g.K.Clock.shown c.args.clock.now) (g.K.Clock.shown c.loop.clock) (g.C.Source.read_traffic c.args.conn.now) (g.C.Source.read_traffic c.fetch_piece.new.conn) c.fetch_piece.new.reader b c.loop.requests)
           (sym c.if-faulty.false)
-          (read_on _ _ _ _ _ _ _ _ _ _ _ _ progress none c.fetch.new.reader _ (rw c.in-Ok-Fed.field-0-is at c.in-Ok-Fed.ensures.fetches));
+          (read_on _ _ _ _ _ _ _ _ _ _ _ _ progress none c.fetch_piece.new.reader _ (rw c.in-Ok-Fed.field-0-is at c.in-Ok-Fed.ensures.fetches));
       seat = c.loop.invariant.seat;
       faults = omega (arith, c.in-Ok-Fed.ensures.cause);
     }

@@ -1,5 +1,5 @@
 use Rattle.frame_session.proofs.Fetching.{not_came, nothing_came, came}
-use Rattle.frame_session.proofs.fetch.fetch.Goals as goal
+use Rattle.frame_session.proofs.fetch.fetch_piece.Goals as goal
 
 pub returns-in-Err-clause-fetches : goal.returns-in-Err-clause-fetches
 returns-in-Err-clause-fetches g c =

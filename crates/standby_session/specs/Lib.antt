@@ -1,0 +1,4 @@
+pub mod Sessions
+pub mod Taking
+pub mod Standbys
+pub mod Images
