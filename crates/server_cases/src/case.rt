@@ -1,9 +1,11 @@
 // One case and its answer.
 use crate::cuts::add_cuts;
 use crate::disks::add_disk;
+use crate::mirrors::{add_copied, add_mirror};
 use crate::numbers::bytes_of;
 use crate::placements::Placement;
 use crate::runs::{add_last, note};
+use crate::standbys::add_standby;
 use crate::stores::Memory;
 use crate::subject::{Case, Disks, Subject};
 use case_texts::{add, cut};
@@ -36,6 +38,9 @@ fn add_answer<R: Wait>(
         "journal" => add_cases::<R, Journal<MemDisk>>(rt, alloc, rest, text),
         "disk" => add_disk(alloc, rest, text),
         "cuts" => add_cuts(rt, alloc, rest, text),
+        "mirror" => add_mirror(rt, alloc, rest, text),
+        "copied" => add_copied(rt, alloc, rest, text),
+        "standby" => add_standby(rt, alloc, rest, text),
         _ => None,
     }
 }

@@ -5,11 +5,15 @@ use case_texts::{add, add_hex, cut};
 use disk_model::{Disk, MemDisk};
 use std::alloc::Global;
 
-fn add_error(alloc: Global, error: PortError, text: &mut String) -> Option<()> {
+pub(crate) fn add_error(alloc: Global, error: PortError, text: &mut String) -> Option<()> {
     add(format!(in alloc; "{error}").ok()?.as_str(), text)
 }
 
-fn add_result(alloc: Global, made: Result<(), PortError>, text: &mut String) -> Option<()> {
+pub(crate) fn add_result(
+    alloc: Global,
+    made: Result<(), PortError>,
+    text: &mut String,
+) -> Option<()> {
     match made {
         Ok(()) => add("ok", text),
         Err(error) => add_error(alloc, error, text),

@@ -8,6 +8,20 @@
 //     NAME cuts FIRST BYTES ANSWERS                     behind a session of FIRST with a new store, at how many cuts of the
 //                                                       other commands a session answers the whole ones before the cut so,
 //                                                       and ends as it should there
+//     NAME mirror CALL/CALL/CALL ANSWERS FILE/FILE STEP;STEP;..
+//                                                       what each step tells of a disk with a standby, the calls that it
+//                                                       sent, how the standby's session ends, and whether both disks read
+//                                                       the same
+//     NAME copied CALL/CALL/CALL ANSWERS FILE/FILE BYTES;BYTES;.. BYTES
+//                                                       the same, without the calls, of a placement over such a disk, and
+//                                                       of sessions of these frames; then what a placement answers to the
+//                                                       last frames that is opened on three images which a crash may
+//                                                       leave of the standby's disk, and on that disk as it is
+//     NAME standby CALL/CALL FILE BYTES                 how a standby's session of these bytes ends, what it answers, and
+//                                                       what its disk reads as
+//
+// The calls of the last three are those that fail: of the disk, of the link to the standby, and of the standby's disk; of the
+// standby's disk and of its connection. ANSWERS is `standby` if a standby answers, else the bytes that come in their place.
 //
 // HOW is `make` if a file that isn't made is to be made, else `open`. CALLS is the number of the call at which the first
 // disk fails, `/CALL` if the second does, and 0 if none does; with `CALL-CALL` the case is tried with each of these calls,
@@ -38,7 +52,7 @@
 // Of a journal: `append BYTES`, `start`, `add BYTES` and `finish` of a compaction, `rows`, and `state`, its format,
 // generation and length. Of a disk: `len`, `read AT MOST`, `write AT BYTES`, `cut LEN`, `sync`, `bytes`, `image CHOICE`.
 //
-// It has no contracts that another crate needs. Depends on placement_sessions, placement_node, store_server, fence_rows,
+// It has no contracts that another crate needs. Depends on standby_session, standby_core, placement_sessions, placement_node, store_server, fence_rows,
 // store_core, step_gate, tx_journal, disk_model, frame_wire, round_core, actor_ports and case_texts.
 #![tactic(auto)]
 
@@ -47,10 +61,12 @@ mod cuts;
 mod disks;
 mod frames;
 mod journals;
+mod mirrors;
 mod numbers;
 mod placements;
 mod runs;
 mod sessions;
+mod standbys;
 mod stores;
 mod subject;
 
