@@ -1,8 +1,9 @@
 -- Worked examples of the reading.
 use Rattle.std.proofs.Common.{◌≡◌, ℕ, Bool, true, false, List, [], ◌∷◌, Option, None, Some, codes, refl}
 use Rattle.actor_names.specs.Addresses.{part_reading, port_reading}
+use Rattle.actor_names.specs.declared.address.Address.{Address}
 use Rattle.command_words.specs.Options.{Text, read_from}
-use Rattle.command_words.specs.Reading.{Said, Replay, Schedule, Drill, Placement, Store, Sidecar, reading, is_placement, has_options}
+use Rattle.command_words.specs.Reading.{Said, Replay, Schedule, Drill, Placement, Store, Sidecar, Standby, reading, is_placement, has_options}
 
 abbrev asks : Text → Text → Said
 asks now period = Schedule (record { now = now; due = []; period = period; ttl = []; count = 10 })
@@ -101,7 +102,7 @@ seed_is_not_empty = refl
 
 -- `placement` at the journal `j` and at 1.2.3.4:5
 abbrev places : Bool → Option ℕ → Said
-places is_new sessions = Placement (record { server = record { journal = codes "j"; listen = record { ip = 16909060; port = 5 }; is_new = is_new; sessions = sessions; connections = 4096 }; http = None })
+places is_new sessions = Placement (record { server = record { journal = codes "j"; listen = record { ip = 16909060; port = 5 }; is_new = is_new; sessions = sessions; connections = 4096 }; http = None; standby = None })
 
 placement_alone : reading (codes "placement" ∷ codes "--journal" ∷ codes "j" ∷ codes "--listen=1.2.3.4:5" ∷ []) ≡ Some (places false None)
 unfolding read_from part_reading port_reading
@@ -137,9 +138,35 @@ address_has_a_port = refl
 
 placement_with_state :
     reading (codes "placement" ∷ codes "--http=0.0.0.1:80" ∷ codes "--journal=j" ∷ codes "--listen=1.2.3.4:5" ∷ [])
-    ≡ Some (Placement (record { server = record { journal = codes "j"; listen = record { ip = 16909060; port = 5 }; is_new = false; sessions = None; connections = 4096 }; http = Some (record { ip = 1; port = 80 }) }))
+    ≡ Some (Placement (record { server = record { journal = codes "j"; listen = record { ip = 16909060; port = 5 }; is_new = false; sessions = None; connections = 4096 }; http = Some (record { ip = 1; port = 80 }); standby = None }))
 unfolding read_from part_reading port_reading
 placement_with_state = refl
+
+placement_with_standby :
+    reading (codes "placement" ∷ codes "--journal=j" ∷ codes "--standby" ∷ codes "0.0.0.2:90" ∷ codes "--listen=1.2.3.4:5" ∷ [])
+    ≡ Some (Placement (record { server = record { journal = codes "j"; listen = record { ip = 16909060; port = 5 }; is_new = false; sessions = None; connections = 4096 }; http = None; standby = Some (record { ip = 2; port = 90 }) }))
+unfolding read_from part_reading port_reading
+placement_with_standby = refl
+
+standby_has_an_address : reading (codes "placement" ∷ codes "--journal=j" ∷ codes "--standby=" ∷ codes "--listen=1.2.3.4:5" ∷ []) ≡ None
+unfolding read_from part_reading port_reading
+standby_has_an_address = refl
+
+standby_alone :
+    reading (codes "standby" ∷ codes "--journal=j" ∷ codes "--listen" ∷ codes "1.2.3.4:5" ∷ [])
+    ≡ Some (Standby (record { journal = codes "j"; listen = record { ip = 16909060; port = 5 }; sessions = None }))
+unfolding read_from part_reading port_reading
+standby_alone = refl
+
+standby_with_sessions :
+    reading (codes "standby" ∷ codes "--sessions=02" ∷ codes "--journal=j" ∷ codes "--listen=1.2.3.4:5" ∷ [])
+    ≡ Some (Standby (record { journal = codes "j"; listen = record { ip = 16909060; port = 5 }; sessions = Some 2 }))
+unfolding read_from part_reading port_reading
+standby_with_sessions = refl
+
+standby_has_no_flag : reading (codes "standby" ∷ codes "--new" ∷ codes "--journal=j" ∷ codes "--listen=1.2.3.4:5" ∷ []) ≡ None
+unfolding read_from part_reading port_reading
+standby_has_no_flag = refl
 
 store_of_one_connection :
     reading (codes "store" ∷ codes "--journal=j" ∷ codes "--connections" ∷ codes "1" ∷ codes "--listen=1.2.3.4:5" ∷ [])
@@ -170,8 +197,8 @@ sidecar_line node more =
     ∷ codes "--placement=0.0.0.7:8" ∷ codes "--store=0.0.0.9:10" ∷ more
 
 -- what they say with the node `n`
-abbrev seats : Text → ℕ → Option ℕ → ℕ → Said
-seats space parts sessions connections = Sidecar (record {
+abbrev seats : Option Address → Text → ℕ → Option ℕ → ℕ → Said
+seats placement2 space parts sessions connections = Sidecar (record {
   node = codes "n";
   app = codes "a";
   space = space;
@@ -179,19 +206,28 @@ seats space parts sessions connections = Sidecar (record {
   listen = record { ip = 3; port = 4 };
   peer = record { ip = 5; port = 6 };
   placement = record { ip = 7; port = 8 };
+  placement2 = placement2;
   store = record { ip = 9; port = 10 };
   parts = parts;
   sessions = sessions;
   connections = connections;
 })
 
-sidecar_alone : reading (sidecar_line (codes "--node=n") []) ≡ Some (seats (codes "default") 4 None 4096)
+sidecar_alone : reading (sidecar_line (codes "--node=n") []) ≡ Some (seats None (codes "default") 4 None 4096)
 unfolding read_from part_reading port_reading
 sidecar_alone = refl
 
-sidecar_with_all : reading (sidecar_line (codes "--node=n") (codes "--parts=016" ∷ codes "--space" ∷ codes "b" ∷ codes "--sessions=7" ∷ codes "--connections=02" ∷ [])) ≡ Some (seats (codes "b") 16 (Some 7) 2)
+sidecar_with_all : reading (sidecar_line (codes "--node=n") (codes "--parts=016" ∷ codes "--space" ∷ codes "b" ∷ codes "--sessions=7" ∷ codes "--connections=02" ∷ [])) ≡ Some (seats None (codes "b") 16 (Some 7) 2)
 unfolding read_from part_reading port_reading
 sidecar_with_all = refl
+
+sidecar_of_two_placements : reading (sidecar_line (codes "--node=n") (codes "--placement2" ∷ codes "0.0.0.11:12" ∷ [])) ≡ Some (seats (Some (record { ip = 11; port = 12 })) (codes "default") 4 None 4096)
+unfolding read_from part_reading port_reading
+sidecar_of_two_placements = refl
+
+second_placement_is_an_address : reading (sidecar_line (codes "--node=n") (codes "--placement2=x" ∷ [])) ≡ None
+unfolding read_from part_reading port_reading
+second_placement_is_an_address = refl
 
 sidecar_needs_its_node : reading (sidecar_line (codes "--parts=1") []) ≡ None
 unfolding read_from part_reading port_reading

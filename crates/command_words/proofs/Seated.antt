@@ -10,7 +10,7 @@ use Rattle.std.specs.List.{list_all}
 use Rattle.std.specs.Str.{bytes_eq}
 use Rattle.command_words.specs.Counts.{from_one, number_up_to, positive_up_to}
 use Rattle.command_words.specs.Options.{Text, Given, options_given}
-use Rattle.command_words.specs.Reading.{Said, Schedule, Placement, Store, Sidecar, Hosting, Placing, Seating, asking, count_or_ten, drilling, greatest_seed, most_steps, placing, hosting, reading, replay_said, schedule_said, schedule_options, drill_said, drill_options, placement_said, placement_options, store_said, server_options, sidecar_options, text_of, value_of, faultless, node_text, app_text, space_or_default, address_of, most_parts, parts_or_four, sessions_or_none, connections_or_most, seating, sidecar_said}
+use Rattle.command_words.specs.Reading.{Said, Schedule, Placement, Store, Sidecar, Standby, Hosting, Placing, Standing, Seating, asking, count_or_ten, drilling, greatest_seed, most_steps, placing, hosting, reading, replay_said, schedule_said, schedule_options, drill_said, drill_options, placement_said, placement_options, store_said, server_options, standing, standby_said, standby_options, sidecar_options, text_of, value_of, faultless, node_text, app_text, space_or_default, address_of, address_or_none, most_parts, parts_or_four, sessions_or_none, connections_or_most, seating, sidecar_said}
 use Rattle.command_words.specs.Seated.{IsSeated}
 
 faultless_none : (fault : Text → Option NameError) (text named : Text) → faultless (fault text) text ≡ Some named → fault named ≡ None
@@ -44,8 +44,8 @@ parts_within None parts e = let same = same_Some 4 parts e in (omega arith, omeg
 parts_within (Some text) parts e = positive_within most_parts text parts e
 
 -- a reading of these pieces, each of which may have none
-abbrev read_pieces : Option Text → Option Text → Option Text → Option Address → Option Address → Option Address → Option Address → Option Address → Option ℕ → Option (Option ℕ) → Option ℕ → Option Seating
-read_pieces node app space app_at listen peer placement store parts sessions connections =
+abbrev read_pieces : Option Text → Option Text → Option Text → Option Address → Option Address → Option Address → Option Address → Option (Option Address) → Option Address → Option ℕ → Option (Option ℕ) → Option ℕ → Option Seating
+read_pieces node app space app_at listen peer placement placement2 store parts sessions connections =
     option_and_then (λ node.
     option_and_then (λ app.
     option_and_then (λ space.
@@ -53,6 +53,7 @@ read_pieces node app space app_at listen peer placement store parts sessions con
     option_and_then (λ listen.
     option_and_then (λ peer.
     option_and_then (λ placement.
+    option_and_then (λ placement2.
     option_and_then (λ store.
     option_and_then (λ parts.
     option_and_then (λ sessions.
@@ -64,12 +65,14 @@ read_pieces node app space app_at listen peer placement store parts sessions con
       listen = listen;
       peer = peer;
       placement = placement;
+      placement2 = placement2;
       store = store;
       parts = parts;
       sessions = sessions;
       connections = connections;
     }) connections) sessions) parts)
     store)
+    placement2)
     placement)
     peer)
     listen)
@@ -79,21 +82,22 @@ read_pieces node app space app_at listen peer placement store parts sessions con
     node
 
 -- those that the record keeps as they are
-pieces_are : (node app space : Option Text) (app_at listen peer placement store : Option Address) (parts : Option ℕ) (sessions : Option (Option ℕ)) (connections : Option ℕ) (s : Seating)
-    → read_pieces node app space app_at listen peer placement store parts sessions connections ≡ Some s
+pieces_are : (node app space : Option Text) (app_at listen peer placement : Option Address) (placement2 : Option (Option Address)) (store : Option Address) (parts : Option ℕ) (sessions : Option (Option ℕ)) (connections : Option ℕ) (s : Seating)
+    → read_pieces node app space app_at listen peer placement placement2 store parts sessions connections ≡ Some s
     → (node ≡ Some s.node) × (app ≡ Some s.app) × (space ≡ Some s.space) × (parts ≡ Some s.parts)
-pieces_are None app space app_at listen peer placement store parts sessions connections s e = absurd (none-some s e)
-pieces_are (Some node) None space app_at listen peer placement store parts sessions connections s e = absurd (none-some s e)
-pieces_are (Some node) (Some app) None app_at listen peer placement store parts sessions connections s e = absurd (none-some s e)
-pieces_are (Some node) (Some app) (Some space) None listen peer placement store parts sessions connections s e = absurd (none-some s e)
-pieces_are (Some node) (Some app) (Some space) (Some app_at) None peer placement store parts sessions connections s e = absurd (none-some s e)
-pieces_are (Some node) (Some app) (Some space) (Some app_at) (Some listen) None placement store parts sessions connections s e = absurd (none-some s e)
-pieces_are (Some node) (Some app) (Some space) (Some app_at) (Some listen) (Some peer) None store parts sessions connections s e = absurd (none-some s e)
-pieces_are (Some node) (Some app) (Some space) (Some app_at) (Some listen) (Some peer) (Some placement) None parts sessions connections s e = absurd (none-some s e)
-pieces_are (Some node) (Some app) (Some space) (Some app_at) (Some listen) (Some peer) (Some placement) (Some store) None sessions connections s e = absurd (none-some s e)
-pieces_are (Some node) (Some app) (Some space) (Some app_at) (Some listen) (Some peer) (Some placement) (Some store) (Some parts) None connections s e = absurd (none-some s e)
-pieces_are (Some node) (Some app) (Some space) (Some app_at) (Some listen) (Some peer) (Some placement) (Some store) (Some parts) (Some sessions) None s e = absurd (none-some s e)
-pieces_are (Some node) (Some app) (Some space) (Some app_at) (Some listen) (Some peer) (Some placement) (Some store) (Some parts) (Some sessions) (Some connections) s e =
+pieces_are None app space app_at listen peer placement placement2 store parts sessions connections s e = absurd (none-some s e)
+pieces_are (Some node) None space app_at listen peer placement placement2 store parts sessions connections s e = absurd (none-some s e)
+pieces_are (Some node) (Some app) None app_at listen peer placement placement2 store parts sessions connections s e = absurd (none-some s e)
+pieces_are (Some node) (Some app) (Some space) None listen peer placement placement2 store parts sessions connections s e = absurd (none-some s e)
+pieces_are (Some node) (Some app) (Some space) (Some app_at) None peer placement placement2 store parts sessions connections s e = absurd (none-some s e)
+pieces_are (Some node) (Some app) (Some space) (Some app_at) (Some listen) None placement placement2 store parts sessions connections s e = absurd (none-some s e)
+pieces_are (Some node) (Some app) (Some space) (Some app_at) (Some listen) (Some peer) None placement2 store parts sessions connections s e = absurd (none-some s e)
+pieces_are (Some node) (Some app) (Some space) (Some app_at) (Some listen) (Some peer) (Some placement) None store parts sessions connections s e = absurd (none-some s e)
+pieces_are (Some node) (Some app) (Some space) (Some app_at) (Some listen) (Some peer) (Some placement) (Some placement2) None parts sessions connections s e = absurd (none-some s e)
+pieces_are (Some node) (Some app) (Some space) (Some app_at) (Some listen) (Some peer) (Some placement) (Some placement2) (Some store) None sessions connections s e = absurd (none-some s e)
+pieces_are (Some node) (Some app) (Some space) (Some app_at) (Some listen) (Some peer) (Some placement) (Some placement2) (Some store) (Some parts) None connections s e = absurd (none-some s e)
+pieces_are (Some node) (Some app) (Some space) (Some app_at) (Some listen) (Some peer) (Some placement) (Some placement2) (Some store) (Some parts) (Some sessions) None s e = absurd (none-some s e)
+pieces_are (Some node) (Some app) (Some space) (Some app_at) (Some listen) (Some peer) (Some placement) (Some placement2) (Some store) (Some parts) (Some sessions) (Some connections) s e =
     let same = same_Some (record {
       node = node;
       app = app;
@@ -102,6 +106,7 @@ pieces_are (Some node) (Some app) (Some space) (Some app_at) (Some listen) (Some
       listen = listen;
       peer = peer;
       placement = placement;
+      placement2 = placement2;
       store = store;
       parts = parts;
       sessions = sessions;
@@ -113,7 +118,8 @@ pub seating_seated : (given : Given) (s : Seating) → seating given ≡ Some s 
 seating_seated given s e =
     let p = pieces_are
     (node_text (text_of (codes "node") given)) (app_text (text_of (codes "app-id") given)) (space_or_default (value_of (codes "space") given))
-    (address_of (codes "app") given) (address_of (codes "listen") given) (address_of (codes "peer") given) (address_of (codes "placement") given) (address_of (codes "store") given)
+    (address_of (codes "app") given) (address_of (codes "listen") given) (address_of (codes "peer") given) (address_of (codes "placement") given)
+    (address_or_none (value_of (codes "placement2") given)) (address_of (codes "store") given)
     (parts_or_four (value_of (codes "parts") given)) (sessions_or_none (value_of (codes "sessions") given)) (connections_or_most (value_of (codes "connections") given)) s e in
     let parts = parts_within (value_of (codes "parts") given) s.parts p.3 in
     record {
@@ -172,28 +178,38 @@ store_said_not (Some given) s e = go (hosting given) e
     go None said = cc
     go (Some h) said = cc
 
+standby_said_not : (read : Option Given) (s : Seating) → option_and_then standby_said read ≡ Some (Sidecar s) → IsSeated s
+standby_said_not None s e = cc
+standby_said_not (Some given) s e = go (standing given) e
+  where
+    go : (o : Option Standing) → option_map (λ h. Standby h) o ≡ Some (Sidecar s) → IsSeated s
+    go None said = cc
+    go (Some h) said = cc
+
 -- what the words say, by which command they are of
-abbrev chosen : Bool → Bool → Bool → Bool → Bool → Bool → List Text → Option Said
-chosen replay schedule drill placement store sidecar rest =
+abbrev chosen : Bool → Bool → Bool → Bool → Bool → Bool → Bool → List Text → Option Said
+chosen replay schedule drill placement store sidecar standby rest =
     if replay then replay_said rest else (
     if schedule then option_and_then schedule_said (options_given schedule_options rest) else (
     if drill then option_and_then drill_said (options_given drill_options rest) else (
     if placement then option_and_then placement_said (options_given placement_options rest) else (
     if store then option_and_then store_said (options_given server_options rest) else (
-    if sidecar then option_and_then sidecar_said (options_given sidecar_options rest) else None)))))
+    if sidecar then option_and_then sidecar_said (options_given sidecar_options rest) else (
+    if standby then option_and_then standby_said (options_given standby_options rest) else None))))))
 
-chosen_seated : (replay schedule drill placement store sidecar : Bool) (rest : List Text) (s : Seating) → chosen replay schedule drill placement store sidecar rest ≡ Some (Sidecar s) → IsSeated s
-chosen_seated true schedule drill placement store sidecar rest s e = replay_said_not rest s e
-chosen_seated false true drill placement store sidecar rest s e = schedule_said_not (options_given schedule_options rest) s e
-chosen_seated false false true placement store sidecar rest s e = drill_said_not (options_given drill_options rest) s e
-chosen_seated false false false true store sidecar rest s e = placement_said_not (options_given placement_options rest) s e
-chosen_seated false false false false true sidecar rest s e = store_said_not (options_given server_options rest) s e
-chosen_seated false false false false false true rest s e = said_seated (options_given sidecar_options rest) s e
-chosen_seated false false false false false false rest s e = cc
+chosen_seated : (replay schedule drill placement store sidecar standby : Bool) (rest : List Text) (s : Seating) → chosen replay schedule drill placement store sidecar standby rest ≡ Some (Sidecar s) → IsSeated s
+chosen_seated true schedule drill placement store sidecar standby rest s e = replay_said_not rest s e
+chosen_seated false true drill placement store sidecar standby rest s e = schedule_said_not (options_given schedule_options rest) s e
+chosen_seated false false true placement store sidecar standby rest s e = drill_said_not (options_given drill_options rest) s e
+chosen_seated false false false true store sidecar standby rest s e = placement_said_not (options_given placement_options rest) s e
+chosen_seated false false false false true sidecar standby rest s e = store_said_not (options_given server_options rest) s e
+chosen_seated false false false false false true standby rest s e = said_seated (options_given sidecar_options rest) s e
+chosen_seated false false false false false false true rest s e = standby_said_not (options_given standby_options rest) s e
+chosen_seated false false false false false false false rest s e = cc
 
 pub reading_seated : (words : List Text) (s : Seating) → reading words ≡ Some (Sidecar s) → IsSeated s
 reading_seated [] s e = cc
 reading_seated (command ∷ rest) s e =
     chosen_seated
     (bytes_eq command (codes "replay")) (bytes_eq command (codes "schedule")) (bytes_eq command (codes "drill"))
-    (bytes_eq command (codes "placement")) (bytes_eq command (codes "store")) (bytes_eq command (codes "sidecar")) rest s e
+    (bytes_eq command (codes "placement")) (bytes_eq command (codes "store")) (bytes_eq command (codes "sidecar")) (bytes_eq command (codes "standby")) rest s e

@@ -31,15 +31,22 @@ pub record Hosting : Type 0 where
   pub sessions : Option ℕ
   pub connections : ℕ
 
--- the words of `placement`: those of a server, and where its state is asked for over HTTP
+-- the words of `placement`: those of a server, where its state is asked for over HTTP, and where its standby listens
 pub record Placing : Type 0 where
   pub server : Hosting
   pub http : Option Address
+  pub standby : Option Address
+
+-- the words of `standby`: the path of its file, where to listen, and after how many sessions the command ends
+pub record Standing : Type 0 where
+  pub journal : Text
+  pub listen : Address
+  pub sessions : Option ℕ
 
 -- the words of `sidecar`: the texts of its node, its application's id and its space, each of which is a name of its
 -- form; where the application is, where the sidecar listens for it and for its peers, where the placement and the store
--- are; how many parts it has, after how many sessions the command ends, and how many connections of a port are served at
--- once
+-- are, and where the placement may be too; how many parts it has, after how many sessions the command ends, and how many
+-- connections of a port are served at once
 pub record Seating : Type 0 where
   pub node : Text
   pub app : Text
@@ -48,6 +55,7 @@ pub record Seating : Type 0 where
   pub listen : Address
   pub peer : Address
   pub placement : Address
+  pub placement2 : Option Address
   pub store : Address
   pub parts : ℕ
   pub sessions : Option ℕ
@@ -61,6 +69,7 @@ pub data Said : Type 0 where
   Placement : Placing → Said
   Store : Hosting → Said
   Sidecar : Seating → Said
+  Standby : Standing → Said
 
 -- only the moment is needed
 abbrev pub schedule_options : Options
@@ -151,7 +160,8 @@ hosting given =
 -- those of `placement`
 abbrev pub placement_options : Options
 placement_options =
-    (codes "journal", Needed) ∷ (codes "listen", Needed) ∷ (codes "http", Optional) ∷ (codes "new", Flag) ∷ (codes "sessions", Optional) ∷ (codes "connections", Optional) ∷ []
+    (codes "journal", Needed) ∷ (codes "listen", Needed) ∷ (codes "http", Optional) ∷ (codes "standby", Optional) ∷ (codes "new", Flag)
+    ∷ (codes "sessions", Optional) ∷ (codes "connections", Optional) ∷ []
 
 -- no address, or one
 abbrev pub address_or_none : Option Text → Option (Option Address)
@@ -162,7 +172,9 @@ address_or_none (Some text) = option_map (λ a. Some a) (result_ok (address_read
 abbrev pub placing : Given → Option Placing
 placing given =
     option_and_then (λ server.
-    option_map (λ http. record { server = server; http = http })
+    option_and_then (λ http.
+    option_map (λ standby. record { server = server; http = http; standby = standby })
+    (address_or_none (value_of (codes "standby") given)))
     (address_or_none (value_of (codes "http") given)))
     (hosting given)
 
@@ -174,12 +186,30 @@ placement_said given = option_map (λ p. Placement p) (placing given)
 abbrev pub store_said : Given → Option Said
 store_said given = option_map (λ h. Store h) (hosting given)
 
+-- those of `standby`
+abbrev pub standby_options : Options
+standby_options = (codes "journal", Needed) ∷ (codes "listen", Needed) ∷ (codes "sessions", Optional) ∷ []
+
+-- what the options of `standby` say
+abbrev pub standing : Given → Option Standing
+standing given =
+    option_and_then (λ journal.
+    option_and_then (λ listen.
+    option_map (λ sessions. record { journal = journal; listen = listen; sessions = sessions })
+    (sessions_or_none (value_of (codes "sessions") given)))
+    (result_ok (address_reading (text_of (codes "listen") given))))
+    (filled_text (text_of (codes "journal") given))
+
+-- the words after `standby`
+abbrev pub standby_said : Given → Option Said
+standby_said given = option_map (λ s. Standby s) (standing given)
+
 -- those of `sidecar`
 abbrev pub sidecar_options : Options
 sidecar_options =
     (codes "node", Needed) ∷ (codes "app-id", Needed) ∷ (codes "app", Needed) ∷ (codes "listen", Needed) ∷ (codes "peer", Needed)
-    ∷ (codes "placement", Needed) ∷ (codes "store", Needed) ∷ (codes "parts", Optional) ∷ (codes "space", Optional) ∷ (codes "sessions", Optional)
-    ∷ (codes "connections", Optional) ∷ []
+    ∷ (codes "placement", Needed) ∷ (codes "placement2", Optional) ∷ (codes "store", Needed) ∷ (codes "parts", Optional) ∷ (codes "space", Optional)
+    ∷ (codes "sessions", Optional) ∷ (codes "connections", Optional) ∷ []
 
 -- a text without a fault
 abbrev pub faultless : Option NameError → Text → Option Text
@@ -221,6 +251,7 @@ seating given =
     option_and_then (λ listen.
     option_and_then (λ peer.
     option_and_then (λ placement.
+    option_and_then (λ placement2.
     option_and_then (λ store.
     option_and_then (λ parts.
     option_and_then (λ sessions.
@@ -232,6 +263,7 @@ seating given =
       listen = listen;
       peer = peer;
       placement = placement;
+      placement2 = placement2;
       store = store;
       parts = parts;
       sessions = sessions;
@@ -241,6 +273,7 @@ seating given =
     (sessions_or_none (value_of (codes "sessions") given)))
     (parts_or_four (value_of (codes "parts") given)))
     (address_of (codes "store") given))
+    (address_or_none (value_of (codes "placement2") given)))
     (address_of (codes "placement") given))
     (address_of (codes "peer") given))
     (address_of (codes "listen") given))
@@ -263,7 +296,8 @@ abbrev pub served_by : Text → List Text → Option Said
 served_by command rest =
     if bytes_eq command (codes "placement") then option_and_then placement_said (options_given placement_options rest) else (
     if bytes_eq command (codes "store") then option_and_then store_said (options_given server_options rest) else (
-    if bytes_eq command (codes "sidecar") then option_and_then sidecar_said (options_given sidecar_options rest) else None))
+    if bytes_eq command (codes "sidecar") then option_and_then sidecar_said (options_given sidecar_options rest) else (
+    if bytes_eq command (codes "standby") then option_and_then standby_said (options_given standby_options rest) else None)))
 
 abbrev pub said_by : Text → List Text → Option Said
 said_by command rest =
@@ -273,7 +307,8 @@ said_by command rest =
 
 -- the command is a server
 abbrev pub is_server : Text → Bool
-is_server command = bytes_eq command (codes "placement") || (bytes_eq command (codes "store") || bytes_eq command (codes "sidecar"))
+is_server command =
+    bytes_eq command (codes "placement") || (bytes_eq command (codes "store") || (bytes_eq command (codes "sidecar") || bytes_eq command (codes "standby")))
 
 -- the first word is this one
 abbrev pub is_command : Text → List Text → Bool
@@ -292,9 +327,14 @@ is_store words = is_command (codes "store") words
 abbrev pub is_sidecar : List Text → Bool
 is_sidecar words = is_command (codes "sidecar") words
 
+-- the same of `standby`
+abbrev pub is_standby : List Text → Bool
+is_standby words = is_command (codes "standby") words
+
 -- the words are those of a command with options, whose reading takes memory
 abbrev pub has_options : List Text → Bool
-has_options words = is_command (codes "schedule") words || (is_command (codes "drill") words || (is_placement words || (is_store words || is_sidecar words)))
+has_options words =
+    is_command (codes "schedule") words || (is_command (codes "drill") words || (is_placement words || (is_store words || (is_sidecar words || is_standby words))))
 
 -- The first word is the command; words that say nothing have no reading.
 abbrev pub reading : List Text → Option Said

@@ -4,6 +4,7 @@ use Rattle.command_words.specs.declared.options.OptionKind.{OptionKind}
 use Rattle.command_words.specs.declared.options.OptionKind.TheVariants as kind
 use Rattle.command_words.specs.declared.server.PlacementWords.{PlacementWords}
 use Rattle.command_words.specs.declared.server.ServerWords.{ServerWords}
+use Rattle.command_words.specs.declared.server.StandbyWords.{StandbyWords}
 use Rattle.command_words.specs.declared.sidecar.SidecarWords.{SidecarWords}
 use Rattle.command_words.specs.declared.meaning.Meaning.{Meaning}
 use Rattle.command_words.specs.declared.meaning.Meaning.TheVariants as meaning
@@ -13,7 +14,7 @@ use Rattle.command_words.specs.declared.reading.DrillWords.{DrillWords}
 use Rattle.command_words.specs.declared.reading.ScheduleWords.{ScheduleWords}
 use Rattle.command_words.specs.Options.{Text, Kind, Needed, Optional, Flag, Refused, Names, Gives}
 use Rattle.command_words.specs.Options.{Meaning as Meant}
-use Rattle.command_words.specs.Reading.{Asking, Drilling, Hosting, Placing, Seating, Said, Replay, Schedule, Drill, Placement, Store, Sidecar}
+use Rattle.command_words.specs.Reading.{Asking, Drilling, Hosting, Placing, Standing, Seating, Said, Replay, Schedule, Drill, Placement, Store, Sidecar, Standby}
 
 abbrev pub told_kind : OptionKind → Kind
 told_kind kind.Needed = Needed
@@ -38,7 +39,10 @@ abbrev pub told_server : ServerWords → Hosting
 told_server p = record { journal = p.journal.now; listen = p.listen; is_new = p.is_new; sessions = p.sessions; connections = p.connections }
 
 abbrev pub told_placement : PlacementWords → Placing
-told_placement p = record { server = told_server p.server; http = p.http }
+told_placement p = record { server = told_server p.server; http = p.http; standby = p.standby }
+
+abbrev pub told_standby : StandbyWords → Standing
+told_standby s = record { journal = s.journal.now; listen = s.listen; sessions = s.sessions }
 
 abbrev pub told_sidecar : SidecarWords → Seating
 told_sidecar s = record {
@@ -49,6 +53,7 @@ told_sidecar s = record {
   listen = s.listen;
   peer = s.peer;
   placement = s.placement;
+  placement2 = s.placement2;
   store = s.store;
   parts = s.parts;
   sessions = s.sessions;
@@ -62,3 +67,4 @@ told (words.Drill d) = Drill (told_drill d)
 told (words.Placement p) = Placement (told_placement p)
 told (words.Store p) = Store (told_server p)
 told (words.Sidecar s) = Sidecar (told_sidecar s)
+told (words.Standby s) = Standby (told_standby s)

@@ -17,5 +17,5 @@ mod sidecar;
 
 pub use error::WordsError;
 pub use reading::{CommandWords, DrillWords, ScheduleWords, read_words};
-pub use server::{PlacementWords, ServerWords};
+pub use server::{PlacementWords, ServerWords, StandbyWords};
 pub use sidecar::SidecarWords;

@@ -3,14 +3,16 @@ ghost use Rattle.std.specs.Prelude.{◌≡◌, true, None, Some, IfOk, IfErr, Ma
 ghost use Rattle.command_words.specs.declared.error.WordsError.TheVariants.{Usage, OutOfMemory};
 ghost use Rattle.command_words.specs.Given.{Holds};
 ghost use Rattle.command_words.specs.Options.{Given, options_given};
-ghost use Rattle.command_words.specs.Reading.{reading, has_options, replay_said, schedule_said, schedule_options, count_or_ten, drill_said, drill_options, placement_said, store_said, sidecar_said, placement_options, server_options, sidecar_options, served_by, is_server};
+ghost use Rattle.command_words.specs.Reading.{reading, has_options, replay_said, schedule_said, schedule_options, count_or_ten, drill_said, drill_options, placement_said, store_said, sidecar_said, standby_said, placement_options, server_options, sidecar_options, standby_options, served_by, is_server};
 ghost use Rattle.command_words.specs.Told.{told, told_option};
 
 use crate::count::{read_count, read_number};
 use crate::error::WordsError;
 use crate::matches::{read_options, text_of};
 use crate::options::{CommandOption, needed, optional};
-use crate::server::{PlacementWords, ServerWords, placement_words, store_words};
+use crate::server::{
+    PlacementWords, ServerWords, StandbyWords, placement_words, standby_words, store_words,
+};
 use crate::sidecar::{SidecarWords, sidecar_words};
 use clap::ArgMatches;
 use std::alloc::Global;
@@ -60,6 +62,8 @@ pub enum CommandWords<'a> {
     Store(ServerWords<'a>),
     /// `sidecar`: serve the actors of an application.
     Sidecar(SidecarWords<'a>),
+    /// `standby`: keep a copy of a placement's journal.
+    Standby(StandbyWords<'a>),
 }
 
 /// The options of `schedule`.
@@ -174,7 +178,19 @@ fn sidecar_command<'a>(alloc: Global, words: &'a [String]) -> Result<CommandWord
     }
 }
 
-/// A server, `placement`, `store` or `sidecar`, with the words after its name.
+/// The command `standby` with the words after its name.
+fn standby_command<'a>(alloc: Global, words: &'a [String]) -> Result<CommandWords<'a>, WordsError>
+    ensures { MatchResult result
+        (λ c. option_and_then standby_said (options_given standby_options (map string_bytes words.entry.now)) ≡ Some (told c))
+        (λ e. e ≡ Usage → option_and_then standby_said (options_given standby_options (map string_bytes words.entry.now)) ≡ None) }
+{
+    match standby_words(alloc, words) {
+        Ok(words) => Ok(CommandWords::Standby(words)),
+        Err(error) => Err(error),
+    }
+}
+
+/// A server, `placement`, `store`, `sidecar` or `standby`, with the words after its name.
 fn server_command<'a>(
     alloc: Global,
     command: &str,
@@ -193,6 +209,9 @@ fn server_command<'a>(
     }
     if command == "sidecar" {
         return sidecar_command(alloc, words);
+    }
+    if command == "standby" {
+        return standby_command(alloc, words);
     }
     Err(WordsError::Usage)
 }
@@ -213,10 +232,12 @@ fn replay_words<'a>(words: &'a [String]) -> Result<CommandWords<'a>, WordsError>
 /// `--now M` and perhaps `--due T`, `--period T`, `--ttl T` and `--count N`, N from 1 to 1,000 and 10 if it isn't
 /// given, `drill` with `--seed N`, below 2^64, and `--steps N`, up to 200,000, or `placement` or `store` with
 /// `--journal PATH`, of at least one byte, `--listen ADDR`, an address and a port, and perhaps `--new`, `--sessions N`, N
-/// from 1 and below 2^64, and `--connections N`, from 1 to 4,096 and 4,096 if it isn't given; `placement` perhaps with `--http ADDR`; or `sidecar` with `--node N` and `--app-id A`, each of
-/// 1 to 64 lowercase letters, digits and `-`, `--app ADDR`, `--listen ADDR`, `--peer ADDR`, `--placement ADDR`,
-/// `--store ADDR`, and perhaps `--parts P`, from 1 to 16 and 4 if it isn't given, `--space S`, of the form of a node and
-/// `default` if it isn't given, `--sessions N` and `--connections N`. Options are written `--name value` or `--name=value`, in any order,
+/// from 1 and below 2^64, and `--connections N`, from 1 to 4,096 and 4,096 if it isn't given; `placement` perhaps with
+/// `--http ADDR` and `--standby ADDR`; or `sidecar` with `--node N` and `--app-id A`, each of 1 to 64 lowercase letters,
+/// digits and `-`, `--app ADDR`, `--listen ADDR`, `--peer ADDR`, `--placement ADDR`, `--store ADDR`, and perhaps
+/// `--placement2 ADDR`, `--parts P`, from 1 to 16 and 4 if it isn't given, `--space S`, of the form of a node and `default`
+/// if it isn't given, `--sessions N` and `--connections N`; or `standby` with `--journal PATH`, `--listen ADDR` and perhaps
+/// `--sessions N`. Options are written `--name value` or `--name=value`, in any order,
 /// each at most once, and `--new` without a value; a value that is a word of its own doesn't begin with `-`. Help and
 /// version words have no reading. Own.
 pub fn read_words<'a>(alloc: Global, words: &'a [String]) -> Result<CommandWords<'a>, WordsError>

@@ -1,10 +1,10 @@
-// The words after the name of a server: `placement` or `store`.
+// The words after the name of a server: `placement`, `store` or `standby`.
 ghost use Rattle.std.specs.Prelude.{◌≡◌, Some, None, MatchResult, map, option_map, option_and_then, string_bytes};
 ghost use Rattle.command_words.specs.declared.error.WordsError.TheVariants.{Usage};
 ghost use Rattle.command_words.specs.Given.{Holds};
 ghost use Rattle.command_words.specs.Options.{Given, options_given};
-ghost use Rattle.command_words.specs.Reading.{server_options, placement_options, filled_text, sessions_or_none, connections_or_most, address_or_none, hosting, placing};
-ghost use Rattle.command_words.specs.Told.{told_option, told_server, told_placement};
+ghost use Rattle.command_words.specs.Reading.{server_options, placement_options, standby_options, filled_text, sessions_or_none, connections_or_most, address_or_none, hosting, placing, standing};
+ghost use Rattle.command_words.specs.Told.{told_option, told_server, told_placement, told_standby};
 
 use crate::count::read_positive;
 use crate::error::WordsError;
@@ -39,6 +39,19 @@ pub struct PlacementWords<'a> {
     pub server: ServerWords<'a>,
     /// Where the placement's state is asked for over HTTP; `None` if the words don't say.
     pub http: Option<Address>,
+    /// Where the standby of its journal listens; `None` if it has none.
+    pub standby: Option<Address>,
+}
+
+/// What the words of `standby` say.
+#[derive(Clone, Copy)]
+pub struct StandbyWords<'a> {
+    /// The path of the standby's file, at least one byte.
+    pub journal: &'a str,
+    /// Where it listens for the placement.
+    pub listen: Address,
+    /// After how many sessions the command ends, from 1; `None` if the words don't say.
+    pub sessions: Option<u64>,
 }
 
 /// The options of a store.
@@ -55,17 +68,25 @@ fn server_options() -> [CommandOption<'static>; 5]
 }
 
 /// The options of a placement.
-fn placement_options() -> [CommandOption<'static>; 6]
+fn placement_options() -> [CommandOption<'static>; 7]
     ensures { map told_option result ≡ placement_options }
 {
     [
         needed("journal"),
         needed("listen"),
         optional("http"),
+        optional("standby"),
         flag("new"),
         optional("sessions"),
         optional("connections"),
     ]
+}
+
+/// The options of a standby.
+fn standby_options() -> [CommandOption<'static>; 3]
+    ensures { map told_option result ≡ standby_options }
+{
+    [needed("journal"), needed("listen"), optional("sessions")]
 }
 
 /// The text, if it has at least one byte.
@@ -99,7 +120,7 @@ pub(crate) fn connections_or_most(text: Option<&str>) -> Option<u64>
 }
 
 /// No address, or one.
-fn address_or_none(text: Option<&str>) -> Option<Option<Address>>
+pub(crate) fn address_or_none(text: Option<&str>) -> Option<Option<Address>>
     ensures { result ≡ address_or_none (option_map (λ t. t.now) text.entry) }
 {
     match text {
@@ -135,7 +156,26 @@ fn placing<'a>(matches: &ArgMatches<'a>) -> Option<PlacementWords<'a>>
 {
     let server = hosting(matches)?;
     let http = address_or_none(matches.get_str("http"))?;
-    Some(PlacementWords { server, http })
+    let standby = address_or_none(matches.get_str("standby"))?;
+    Some(PlacementWords {
+        server,
+        http,
+        standby,
+    })
+}
+
+/// What the options of a standby say.
+fn standing<'a>(matches: &ArgMatches<'a>) -> Option<StandbyWords<'a>>
+    ensures { (given : Given) → Holds standby_options given matches.now → option_map told_standby result ≡ standing given }
+{
+    let journal = filled_text(text_of(matches, "journal"))?;
+    let listen = read_address(text_of(matches, "listen").as_bytes()).ok()?;
+    let sessions = sessions_or_none(matches.get_str("sessions"))?;
+    Some(StandbyWords {
+        journal,
+        listen,
+        sessions,
+    })
 }
 
 /// The words after `placement`.
@@ -167,6 +207,23 @@ pub(crate) fn store_words<'a>(
     let options = server_options();
     let matches = read_options(alloc, "store", options.as_slice(), words)?;
     match hosting(&matches) {
+        None => Err(WordsError::Usage),
+        Some(words) => Ok(words),
+    }
+}
+
+/// The words after `standby`.
+pub(crate) fn standby_words<'a>(
+    alloc: Global,
+    words: &'a [String],
+) -> Result<StandbyWords<'a>, WordsError>
+    ensures { MatchResult result
+        (λ s. option_and_then standing (options_given standby_options (map string_bytes words.entry.now)) ≡ Some (told_standby s))
+        (λ e. e ≡ Usage → option_and_then standing (options_given standby_options (map string_bytes words.entry.now)) ≡ None) }
+{
+    let options = standby_options();
+    let matches = read_options(alloc, "standby", options.as_slice(), words)?;
+    match standing(&matches) {
         None => Err(WordsError::Usage),
         Some(words) => Ok(words),
     }

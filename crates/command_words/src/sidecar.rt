@@ -13,7 +13,7 @@ use crate::count::read_positive;
 use crate::error::WordsError;
 use crate::matches::{read_options, text_of};
 use crate::options::{CommandOption, needed, optional};
-use crate::server::{connections_or_most, sessions_or_none};
+use crate::server::{address_or_none, connections_or_most, sessions_or_none};
 use actor_names::{Address, NameError, app_id_fault, node_fault, read_address, space_fault};
 use clap::ArgMatches;
 use std::alloc::Global;
@@ -41,6 +41,8 @@ pub struct SidecarWords<'a> {
     pub peer: Address,
     /// Where the placement is.
     pub placement: Address,
+    /// Where the placement may be too, once its standby has taken its place; `None` if the words don't say.
+    pub placement2: Option<Address>,
     /// Where the store is.
     pub store: Address,
     /// How many parts the sidecar has, from 1 to 16; 4 if the words don't say.
@@ -52,7 +54,7 @@ pub struct SidecarWords<'a> {
 }
 
 /// The options of a sidecar.
-fn sidecar_options() -> [CommandOption<'static>; 11]
+fn sidecar_options() -> [CommandOption<'static>; 12]
     ensures { map told_option result ≡ sidecar_options }
 {
     [
@@ -62,6 +64,7 @@ fn sidecar_options() -> [CommandOption<'static>; 11]
         needed("listen"),
         needed("peer"),
         needed("placement"),
+        optional("placement2"),
         needed("store"),
         optional("parts"),
         optional("space"),
@@ -135,6 +138,7 @@ fn seating<'a>(matches: &ArgMatches<'a>) -> Option<SidecarWords<'a>>
     let listen = address_of(matches, "listen")?;
     let peer = address_of(matches, "peer")?;
     let placement = address_of(matches, "placement")?;
+    let placement2 = address_or_none(matches.get_str("placement2"))?;
     let store = address_of(matches, "store")?;
     let parts = parts_or_four(matches.get_str("parts"))?;
     let sessions = sessions_or_none(matches.get_str("sessions"))?;
@@ -147,6 +151,7 @@ fn seating<'a>(matches: &ArgMatches<'a>) -> Option<SidecarWords<'a>>
         listen,
         peer,
         placement,
+        placement2,
         store,
         parts,
         sessions,

@@ -1,6 +1,6 @@
 // The commands that need no thread: one call for all of them.
 ghost use Rattle.std.specs.Prelude.{◌≡◌, ◌≢◌, ◌<◌, ◌⊎◌, ◌∷◌, [], true, None, Some, map, codes, string_bytes};
-ghost use Rattle.command_words.specs.Reading.{Asking, Schedule, Drilling, Drill, Hosting, Placing, Seating, Placement, Store, Sidecar, has_options, reading};
+ghost use Rattle.command_words.specs.Reading.{Asking, Schedule, Drilling, Drill, Hosting, Placing, Seating, Standing, Placement, Store, Sidecar, Standby, has_options, reading};
 ghost use Rattle.plain_commands.specs.Drilled.{DrillEnds, DrillsHonestly};
 ghost use Rattle.plain_commands.specs.Status.{code_of};
 ghost use Rattle.plain_commands.specs.ReplayTold.{Replays};
@@ -32,10 +32,11 @@ pub fn run_plain<I: Source, W: Sink>(
 ) -> u8
     // Words end as usage only if they have no reading, or are those of a server, which needs threads; without a reading,
     // words with options may also run out of memory. Nothing is read or written then.
-    ensures usage { result ≡ 2 → (reading (map string_bytes words.now) ≡ None) ⊎ (((p : Placing) × (reading (map string_bytes words.now) ≡ Some (Placement p))) ⊎ (((p : Hosting) × (reading (map string_bytes words.now) ≡ Some (Store p))) ⊎ ((s : Seating) × (reading (map string_bytes words.now) ≡ Some (Sidecar s))))) }
+    ensures usage { result ≡ 2 → (reading (map string_bytes words.now) ≡ None) ⊎ (((p : Placing) × (reading (map string_bytes words.now) ≡ Some (Placement p))) ⊎ (((p : Hosting) × (reading (map string_bytes words.now) ≡ Some (Store p))) ⊎ (((s : Seating) × (reading (map string_bytes words.now) ≡ Some (Sidecar s))) ⊎ ((s : Standing) × (reading (map string_bytes words.now) ≡ Some (Standby s)))))) }
     ensures placed { (p : Placing) → reading (map string_bytes words.now) ≡ Some (Placement p) → (input.new ≡ input.old) × (output.new ≡ output.old) }
     ensures stored { (p : Hosting) → reading (map string_bytes words.now) ≡ Some (Store p) → (input.new ≡ input.old) × (output.new ≡ output.old) }
     ensures seated { (s : Seating) → reading (map string_bytes words.now) ≡ Some (Sidecar s) → (input.new ≡ input.old) × (output.new ≡ output.old) }
+    ensures standing { (s : Standing) → reading (map string_bytes words.now) ≡ Some (Standby s) → (input.new ≡ input.old) × (output.new ≡ output.old) }
     ensures no_reading { reading (map string_bytes words.now) ≡ None
         → (result ≡ 2) ⊎ ((result ≡ 8) × (has_options (map string_bytes words.now) ≡ true)) }
     ensures untouched { reading (map string_bytes words.now) ≡ None → (input.new ≡ input.old) × (output.new ≡ output.old) }
@@ -69,6 +70,7 @@ pub fn run_plain<I: Source, W: Sink>(
         Ok(CommandWords::Placement(_)) => Status::Usage,
         Ok(CommandWords::Store(_)) => Status::Usage,
         Ok(CommandWords::Sidecar(_)) => Status::Usage,
+        Ok(CommandWords::Standby(_)) => Status::Usage,
         Err(WordsError::Usage) => Status::Usage,
         Err(WordsError::OutOfMemory) => Status::OutOfMemory,
     };
