@@ -1,5 +1,6 @@
 -- What a run of the placement does to the disk of its host, and what a crash leaves of it. Own.
-use Rattle.std.specs.Prelude.{◌≡◌, ◌⊎◌, ℕ, Bool, false, List, [], ◌∷◌, Option, Some}
+use Rattle.std.specs.Prelude.{◌≡◌, ◌⊎◌, ℕ, Bool, false, List, [], ◌∷◌, Option, Some, None}
+use Rattle.actor_names.specs.declared.address.Address.{Address}
 use Rattle.disk_model.specs.Disk.{DiskState, Tells}
 use Rattle.server_ports.specs.Hosts.{Opened, Handed, nothing_handed}
 use Rattle.step_gate.specs.History.{HistoryLeadsTo}
@@ -49,6 +50,14 @@ pub record ServesNode (n : NodeState) (back : List (Option DiskState)) : Type 0 
   pub leads : HistoryLeadsTo NodeAllows n history last
   pub keeps : (run : List RunEvent) → IsAt run n → KeepsAll run n (steps_of history) last
   pub returned : back ≡ (first_side last.journal).told ∷ []
+
+-- an end by the ports alone: no disk has failed, and none is damaged
+abbrev pub IsPortsEnd : PlacementEnd → Type 0
+IsPortsEnd ends.Done = Unit {0}
+IsPortsEnd ends.PortFault = Unit {0}
+IsPortsEnd ends.OutOfMemory = Unit {0}
+IsPortsEnd ends.DiskFault = ⊥
+IsPortsEnd (ends.Damaged offset) = ⊥
 
 -- a run that has opened its node isn't told as damaged
 abbrev pub IsServedEnd : PlacementEnd → Type 0
@@ -121,8 +130,21 @@ given_back back = record { opened = []; returned = back }
 abbrev pub disk_opened : List ℕ → Bool → Option DiskState → Opened
 disk_opened path is_new state = record { path = path; create = is_new; state = state }
 
--- What a run does to its disk: it opens none; or this one, and what comes of it.
-abbrev pub RunsPlacement : List ℕ → Bool → ℕ → PlacementEnd → Handed → Type 0
-RunsPlacement path is_new now end given =
+-- a run that hasn't opened its node for want of its standby
+abbrev pub IsUncopied : PlacementEnd → Type 0
+IsUncopied end = (end ≡ ends.PortFault) ⊎ IsUnopened end
+
+-- what came of a disk with a standby: that wasn't reached, or it didn't get the bytes of the disk, and the disk was given
+-- back as it was; or what comes of a disk without one
+abbrev pub RunsMirrored : Bool → ℕ → Option DiskState → PlacementEnd → List (Option DiskState) → Type 0
+RunsMirrored create now disk end back = (IsUncopied end × (back ≡ disk ∷ [])) ⊎ RunsDisk create now disk end back
+
+abbrev pub RunsWith : Option Address → Bool → ℕ → Option DiskState → PlacementEnd → List (Option DiskState) → Type 0
+RunsWith None create now disk end back = RunsDisk create now disk end back
+RunsWith (Some standby) create now disk end back = RunsMirrored create now disk end back
+
+-- What a run does to its disk, with this standby or none: it opens none; or this one, and what comes of it.
+abbrev pub RunsPlacement : Option Address → List ℕ → Bool → ℕ → PlacementEnd → Handed → Type 0
+RunsPlacement standby path is_new now end given =
     ((given ≡ nothing_handed) × IsUnopened end)
-    ⊎ ((disk : Option DiskState) × (back : List (Option DiskState)) × (given ≡ record { opened = disk_opened path is_new disk ∷ []; returned = back }) × RunsDisk is_new now disk end back)
+    ⊎ ((disk : Option DiskState) × (back : List (Option DiskState)) × (given ≡ record { opened = disk_opened path is_new disk ∷ []; returned = back }) × RunsWith standby is_new now disk end back)

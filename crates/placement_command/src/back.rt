@@ -1,15 +1,22 @@
-// What a placement that has ended gives back, and how the command ends with it.
+// What came of the ports of a placement, and the disk that a node gives back.
 ghost use Rattle.std.specs.Prelude.{◌≡◌, ◌≢◌, ◌<◌, ◌≤◌, ◌+◌, false, [], ◌∷◌, IsTrue};
 ghost use Rattle.server_ports.specs.declared.accept.ServerEnd.TheVariants.{Served};
 ghost use Rattle.server_ports.specs.Hosts.{Hands};
 ghost use Rattle.tx_journal.specs.Calls.{first_side};
-ghost use Rattle.placement_command.specs.Runs.{IsServedEnd, given_back};
+ghost use Rattle.placement_command.specs.Runs.{IsPortsEnd, IsServedEnd, given_back};
 
 use crate::command::PlacementEnd;
 use actor_ports::PortError;
+use disk_model::Disk;
 use placement_node::PlacementNode;
-use placement_server::PlacementServed;
 use server_ports::{Host, ServerEnd};
+
+/// A node whose ports were served, or couldn't be bound, and how the command ends by them.
+#[derive(Drop)]
+pub(crate) struct NodeBack<D: Disk> {
+    pub(crate) node: PlacementNode<D>,
+    pub(crate) end: PlacementEnd,
+}
 
 /// Gives back the disk of a node, and answers whether it has failed.
 pub(crate) fn give_back<H: Host>(host: &mut H, node: PlacementNode<H::Store>) -> bool
@@ -28,11 +35,11 @@ pub(crate) fn give_back<H: Host>(host: &mut H, node: PlacementNode<H::Store>) ->
     failed
 }
 
-/// How the command ends if a port isn't bound.
+/// How the command ends if a port isn't bound, or a standby isn't reached.
 pub(crate) fn unbound(error: PortError) -> PlacementEnd
     ensures port { result ≡ PlacementEnd.PortFault → error ≡ PortError.Failed }
-    ensures others { (result ≢ PlacementEnd.Done) × (result ≢ PlacementEnd.DiskFault) }
-    ensures opened { IsServedEnd result }
+    ensures others { result ≢ PlacementEnd.Done }
+    ensures ports { IsPortsEnd result }
 {
     match error {
         PortError::Failed => PlacementEnd::PortFault,
@@ -40,27 +47,12 @@ pub(crate) fn unbound(error: PortError) -> PlacementEnd
     }
 }
 
-/// How the command ends once its server has ended; the disk is given back. A server that is over has lost its disk.
-pub(crate) fn ended<H: Host>(
-    host: &mut H,
-    served: PlacementServed<H::Store>,
-    port_failed: bool,
-) -> PlacementEnd
-    requires { 0 < H.disks_out host.old }
-    ensures disk_cause { result ≡ PlacementEnd.DiskFault → H.open_faults host.old < H.open_faults host.new }
-    ensures port_cause { result ≡ PlacementEnd.PortFault → IsTrue port_failed }
-    ensures never_falls { H.open_faults host.old ≤ H.open_faults host.new }
-    ensures disk_back { H.disks_out host.old ≡ H.disks_out host.new + 1 }
-    ensures ports { (H.ports_out host.new ≡ H.ports_out host.old) × (H.bind_faults host.new ≡ H.bind_faults host.old) }
-    ensures asks { H.asked host.new ≡ H.asked host.old }
-    ensures done { result ≡ PlacementEnd.Done → (H.open_faults host.new ≡ H.open_faults host.old) × (port_failed ≡ false) × (served.end ≡ Served) }
-    ensures opened { IsServedEnd result }
-    ensures hands { Hands (H.handed host.old) (given_back ((first_side served.node.journal).told ∷ [])) (H.handed host.new) }
+/// How the command ends once its server has, by its ports.
+pub(crate) fn ports_end(end: ServerEnd, port_failed: bool) -> PlacementEnd
+    ensures cause { result ≡ PlacementEnd.PortFault → IsTrue port_failed }
+    ensures done { result ≡ PlacementEnd.Done → (port_failed ≡ false) × (end ≡ Served) }
+    ensures ports { IsPortsEnd result }
 {
-    let PlacementServed { node, end } = served;
-    if give_back(host, node) {
-        return PlacementEnd::DiskFault;
-    }
     if port_failed {
         return PlacementEnd::PortFault;
     }
@@ -68,4 +60,18 @@ pub(crate) fn ended<H: Host>(
         ServerEnd::Served => PlacementEnd::Done,
         _ => PlacementEnd::OutOfMemory,
     }
+}
+
+/// How the command ends by its ports, and by whether its disk has failed, which counts first.
+pub(crate) fn disk_end(end: PlacementEnd, disk_failed: bool) -> PlacementEnd
+    requires { IsPortsEnd end }
+    ensures cause { result ≡ PlacementEnd.DiskFault → IsTrue disk_failed }
+    ensures port { result ≡ PlacementEnd.PortFault → end ≡ PlacementEnd.PortFault }
+    ensures done { result ≡ PlacementEnd.Done → (disk_failed ≡ false) × (end ≡ PlacementEnd.Done) }
+    ensures opened { IsServedEnd result }
+{
+    if disk_failed {
+        return PlacementEnd::DiskFault;
+    }
+    end
 }

@@ -258,8 +258,8 @@ impl<D: Disk> PlacementNode<D> {
         }
     }
 
-    // Whether a disk fault was met, so that the node has to be opened again.
-    fn is_shut(&self) -> bool
+    /// Whether a disk fault was met, so that the node has to be opened again.
+    pub fn is_shut(&self) -> bool
         ensures { result ≡ self.now.journal.is_broken }
     {
         self.journal.is_broken()

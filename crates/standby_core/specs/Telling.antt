@@ -43,6 +43,15 @@ IsLost calls last t0 t1 =
     (front : List ℕ) × (got : List ℕ) × IsFront front (call_bytes last) × (got ≢ done_bytes)
     × Over t0 t1 (record { read = dones_bytes calls ++ got; written = calls_bytes calls ++ front })
 
+-- Calls were sent over some link of this type, and the last of them was lost. `traffic` is what went over a link; where
+-- nothing else is known of links, only a call of a mirror that wasn't answered as done knows this.
+abbrev pub WasLost : {L : Type 0} → (L → Option Traffic) → Type 0
+WasLost {L} traffic = (before : L) × (after : L) × (calls : List MirrorCommand) × (last : MirrorCommand) × IsLost calls last (traffic before) (traffic after)
+
+-- a number of answers that weren't read as done is above 0 only if one was lost
+abbrev pub HasLost : {L : Type 0} → (L → Option Traffic) → ℕ → Type 0
+HasLost traffic unheard = (unheard ≡ 0) ⊎ WasLost traffic
+
 -- the number of answers that couldn't be read, or told a fault, after one more call was lost: if the link failed, that
 -- is counted there
 abbrev pub MayRise : ℕ → ℕ → Type 0

@@ -5,6 +5,7 @@ ghost use Rattle.disk_model.specs.Disk.{DiskState, Writes, Cuts, Syncs, Reads, T
 ghost use Rattle.frame_wire.specs.declared.mirror.MirrorCommand.TheVariants as commands;
 ghost use Rattle.standby_core.specs.Mirrors.{IsOnly, IsWrite, BeginsWrite, IsUntold, Copies};
 ghost use Rattle.standby_core.specs.Attaching.{Attaches, AttachCause};
+ghost use Rattle.standby_core.specs.Telling.{HasLost};
 
 use crate::attach::copy_disk;
 use crate::replica::{Replica, text_room};
@@ -29,10 +30,13 @@ pub struct Mirror<D: Disk + Drop, L: Wire> {
 
 impl<D: Disk + Drop, L: Wire> Model for Mirror<D, L> {
     ghost use Rattle.standby_core.specs.Mirrors.{MirrorState};
+    ghost use Rattle.standby_core.specs.Telling.{HasLost};
 
     ghost Value = { MirrorState D L };
 
     ghost view = { λ m. record { disk = m.disk; link = m.replica.link; unheard = m.replica.unheard } };
+
+    ghost invariant = { λ m. HasLost L.read_traffic m.replica.unheard };
 }
 
 impl<D: Disk + Drop, L: Wire> Mirror<D, L> {
@@ -69,6 +73,7 @@ impl<D: Disk + Drop, L: Wire> Mirror<D, L> {
     pub fn detach(self) -> (D, L)
         ensures disk { result.0 ≡ self.disk }
         ensures link { result.1 ≡ self.link }
+        ensures lost { HasLost L.read_traffic self.unheard }
     {
         let Mirror { disk, replica } = self;
         let Replica { link, .. } = replica;
