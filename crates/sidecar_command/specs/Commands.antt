@@ -55,7 +55,7 @@ unstarted_end end = ends.Unstarted end
 
 -- whose turns with whom a stop goes back to
 abbrev pub parties_in : Seating → Started → Parties
-parties_in words started = record { member = started.host.member; placement = words.placement }
+parties_in words started = record { member = started.host.member; placement = record { first = words.placement; second = words.placement2 } }
 
 -- `dialled` says what a dialler did, `traffic` is what went over a link, `shown` the moment that a clock showed last
 module _ {N L K : Type 0} (dialled : N → Option Dialled) (traffic : L → Option Traffic) (shown : K → ℕ) where

@@ -14,7 +14,7 @@ use command_words::SidecarWords;
 use exchanges::Links;
 use server_ports::Host;
 use sidecar_node::{Seats, SidecarNode};
-use sidecar_server::{SidecarPlaces, serve_sidecar};
+use sidecar_server::{Placements, SidecarPlaces, serve_sidecar};
 use std::alloc::Global;
 use std::sync::Wait;
 use std::thread::Threads;
@@ -70,7 +70,10 @@ fn serve_bound<
     let places = SidecarPlaces {
         callers: words.listen,
         peers: words.peer,
-        placement: words.placement,
+        placement: Placements {
+            first: words.placement,
+            second: words.placement2,
+        },
     };
     let (callers, peers, served) = serve_sidecar(
         rt,

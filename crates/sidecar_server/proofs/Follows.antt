@@ -1,15 +1,19 @@
 -- What works come to, one step after the other.
 use Rattle.std.proofs.Common.{◌≡◌, inl, ℕ, List, [], ◌∷◌, length, Option, None, Some, Result, Ok, Err, refl, subst, ap, ◌∙◌}
-use Rattle.actor_ports.specs.Traffic.{Place, Traffic, Dialled}
+use Rattle.actor_names.specs.declared.address.Address.{Address}
+use Rattle.actor_ports.specs.Traffic.{Traffic, Dialled}
+use Rattle.exchanges.specs.Replies.{place_at}
 use Rattle.step_gate.specs.declared.gate.Spent.{Spent}
 use Rattle.step_gate.specs.declared.view.HistoryEntry.{HistoryEntry}
 use Rattle.step_gate.specs.History.{HistoryLeadsTo}
 use Rattle.sidecar_node.specs.declared.node.SidecarNode.{SidecarNode}
 use Rattle.sidecar_node.specs.declared.node.Seats.{Seats}
 use Rattle.sidecar_node.specs.Nodes.{part_gates}
+use Rattle.sidecar_server.specs.declared.placements.Placements.{Placements}
 use Rattle.sidecar_server.specs.declared.watch.StopCause.{StopCause}
 use Rattle.sidecar_server.specs.declared.watch.WatchEvent.{WatchEvent}
 use Rattle.sidecar_server.specs.declared.watch.WatchEvent.TheVariants as events
+use Rattle.sidecar_server.specs.Links.{IsOneOf}
 use Rattle.sidecar_server.specs.Watch.{WatchState, WatchMoves, watch_after}
 use Rattle.sidecar_server.specs.Works.{LeavesTables, WatchSeat, AfterWatch, TellsWatch, MayTurn, DoesDuty}
 use Rattle.sidecar_server.proofs.Others.{leaves_same, stops_leave}
@@ -36,11 +40,12 @@ answer_leaves node (Err spent) before after follows = stops_leave (length (part_
 pub tells_leave : (node : SidecarNode) (event : WatchEvent) (old new : WatchSeat) (before after : Seats) → TellsWatch node event old new before after → LeavesTables before after
 tells_leave node event old new before after tells = answer_leaves node tells.reply before after tells.follows
 
-module _ {N L K : Type 0} (dialled : N → Option Dialled) (traffic : L → Option Traffic) (shown : K → ℕ) (node : SidecarNode) (at : Place) where
+module _ {N L K : Type 0} (dialled : N → Option Dialled) (traffic : L → Option Traffic) (shown : K → ℕ) (node : SidecarNode) (placement : Placements) where
   -- no turn with the placement was made
-  pub other_duty : (before after : Seats) → LeavesTables before after → DoesDuty dialled traffic shown node at before after
-  other_duty before after rest = record { middle = before; turn = inl refl; rest = rest }
+  pub other_duty : (before after : Seats) → LeavesTables before after → DoesDuty dialled traffic shown node placement before after
+  other_duty before after rest = record { middle = before; turn = (placement.first, inl refl, inl refl); rest = rest }
 
   -- a turn, and what followed
-  pub turn_duty : (before middle after : Seats) → MayTurn dialled traffic shown node at before middle → LeavesTables middle after → DoesDuty dialled traffic shown node at before after
-  turn_duty before middle after turn rest = record { middle = middle; turn = turn; rest = rest }
+  pub turn_duty : (at : Address) (before middle after : Seats) → IsOneOf placement at → MayTurn dialled traffic shown node (place_at at) before middle → LeavesTables middle after
+      → DoesDuty dialled traffic shown node placement before after
+  turn_duty at before middle after leads turn rest = record { middle = middle; turn = (at, leads, turn); rest = rest }

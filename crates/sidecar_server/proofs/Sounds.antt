@@ -1,5 +1,5 @@
 -- What the watch keeps: each moment is one that a clock showed, and a cause is sound.
-use Rattle.std.proofs.Common.{arith, ◌≡◌, ◌≤◌, ◌+◌, ◌-◌, ℕ, ◌==◌, nat_le, max, bytes_eq, Bool, true, false, ◌&&◌, if◌then◌else◌, Option, None, Some, refl, subst}
+use Rattle.std.proofs.Common.{arith, ◌≡◌, ◌≤◌, ◌+◌, ◌-◌, ℕ, ◌==◌, nat_le, max, bytes_eq, Bool, true, false, ◌&&◌, if◌then◌else◌, Option, None, Some, refl, ap, subst}
 use Rattle.std.proofs.lemmas.Bool.Decides.{nat_tests, Decides-eqb}
 use Rattle.std.proofs.lemmas.Slice.Eq.{bytes_eq-Decides}
 use Rattle.actor_names.specs.declared.address.Address.{Address}
@@ -8,6 +8,8 @@ use Rattle.actor_names.specs.Same.{same_member}
 use Rattle.actor_ports.specs.Traffic.{Traffic, Dialled}
 use Rattle.round_core.specs.declared.event.PlaceReply.{PlaceReply}
 use Rattle.lease_core.specs.Lease.{lease_time, extended, has_ended}
+use Rattle.sidecar_server.specs.declared.placements.Placements.{Placements}
+use Rattle.sidecar_server.specs.Links.{is_same_address, is_same_second, are_same_placements}
 use Rattle.sidecar_server.specs.declared.watch.Parties.{Parties}
 use Rattle.sidecar_server.specs.declared.watch.StopCause.{StopCause}
 use Rattle.sidecar_server.specs.declared.watch.StopCause.TheVariants as causes
@@ -38,11 +40,24 @@ member_same a b is =
     let boot = (Decides-eqb a.boot b.boot).0 later.1 in
     λ i. record { space = space i; node = node i; boot = boot i }
 
+second_same : (a b : Option Address) → is_same_second a b ≡ true → a ≡ b
+second_same None None is = refl
+second_same None (Some b) is = cc
+second_same (Some a) None is = cc
+second_same (Some a) (Some b) is = ap (λ (x : Address). Some x) (address_same a b is)
+
+placements_same : (a b : Placements) → are_same_placements a b ≡ true → a ≡ b
+placements_same a b is =
+    let parts = both (is_same_address a.first b.first) (is_same_second a.second b.second) is in
+    let first = address_same a.first b.first parts.0 in
+    let second = second_same a.second b.second parts.1 in
+    λ i. record { first = first i; second = second i }
+
 parties_same : (a b : Parties) → are_same a b ≡ true → a ≡ b
 parties_same a b is =
-    let parts = both (same_member a.member b.member) ((a.placement.ip == b.placement.ip) && (a.placement.port == b.placement.port)) is in
+    let parts = both (same_member a.member b.member) (are_same_placements a.placement b.placement) is in
     let member = member_same a.member b.member parts.0 in
-    let placement = address_same a.placement b.placement parts.1 in
+    let placement = placements_same a.placement b.placement parts.1 in
     λ i. record { member = member i; placement = placement i }
 
 -- ---- the lease

@@ -1,5 +1,6 @@
 -- A turn with the placement: over which link, and what the watch is told of it.
 use Rattle.std.proofs.Common.{◌≡◌, ◌⊎◌, inl, inr, ◌==◌, ℕ, Bool, true, false, if◌then◌else◌, List, length, Option, None, Some, Ok, IfSome, refl, sym, subst}
+use Rattle.actor_names.specs.declared.address.Address.{Address}
 use Rattle.actor_ports.specs.Traffic.{Place, Traffic, Dialled, Dials}
 use Rattle.http_edge.specs.Carry.{Carried, Over, nothing, then_carried}
 use Rattle.http_edge.proofs.Carried.{over_nothing, over_then}
@@ -18,7 +19,7 @@ use Rattle.placement_beats.specs.Answers.{hindrance}
 use Rattle.placement_beats.specs.Beats.{AfterTicks, HeartbeatTurn, IsIdle}
 use Rattle.sidecar_server.specs.declared.watch.Parties.{Parties}
 use Rattle.sidecar_server.specs.declared.watch.WatchEvent.TheVariants as events
-use Rattle.sidecar_server.specs.Links.{IsLinkTo}
+use Rattle.sidecar_server.specs.Links.{IsLinkTo, IsOneOf}
 use Rattle.sidecar_server.specs.Causes.{journal_full, IsTurnOf}
 use Rattle.sidecar_server.specs.Watch.{refusal_event, turn_event, WatchTakes}
 use Rattle.sidecar_server.specs.Works.{MayTurn}
@@ -76,17 +77,19 @@ module _ {N L K : Type 0} (dialled : N → Option Dialled) (traffic : L → Opti
   end_takes end turn = tt
 
   pub turn_takes : (node : SidecarNode) (since read : K) (book new : PlacementBook) (before after : Seats) (link used : L) (end : TurnEnd)
-      → (host_of node).member ≡ parties.member → IsSeatsOf node after → shown since ≡ sent → IsLinkTo dialled traffic (place_at parties.placement) link
+      → (host_of node).member ≡ parties.member → IsSeatsOf node after → shown since ≡ sent → (at : Address) → IsOneOf parties.placement at → IsLinkTo dialled traffic (place_at at) link
       → (IsIdle book new before after (traffic link) (traffic used) end ⊎ HeartbeatTurn node (shown since) (shown read) book new before after (traffic link) (traffic used) end)
       → IfSome (turn_event parties end sent) (WatchTakes dialled traffic shown)
-  turn_takes node since read book new before after link used end member seats is leads (inl idle) =
+  turn_takes node since read book new before after link used end member seats is at one_of leads (inl idle) =
       subst (λ e. IfSome (turn_event parties e sent) (WatchTakes dialled traffic shown)) (sym idle.3) tt
-  turn_takes node since read book new before after link used end member seats is leads (inr turn) = end_takes end (record {
+  turn_takes node since read book new before after link used end member seats is at one_of leads (inr turn) = end_takes end (record {
     node = node;
     of_member = member;
     before = before;
     after = after;
     seats = seats;
+    at = at;
+    one_of = one_of;
     turn = record { book = book; new = new; since = since; read = read; sent_is = is; link = link; used = used; leads = leads; turn = turn };
   })
 

@@ -1,5 +1,6 @@
 -- Turns with the placement, and why a sidecar has to stop. Own.
 use Rattle.std.specs.Prelude.{◌≡◌, ◌≤◌, ◌+◌, ◌==◌, ℕ, Bool, true, false, Option, None, Some}
+use Rattle.actor_names.specs.declared.address.Address.{Address}
 use Rattle.actor_ports.specs.Traffic.{Place, Traffic, Dialled}
 use Rattle.round_core.specs.declared.event.PlaceReply.{PlaceReply}
 use Rattle.round_core.specs.declared.event.PlaceReply.TheVariants as replies
@@ -15,7 +16,7 @@ use Rattle.placement_beats.specs.Beats.{HeartbeatTurn}
 use Rattle.sidecar_server.specs.declared.watch.Parties.{Parties}
 use Rattle.sidecar_server.specs.declared.watch.StopCause.{StopCause}
 use Rattle.sidecar_server.specs.declared.watch.StopCause.TheVariants as causes
-use Rattle.sidecar_server.specs.Links.{IsLinkTo}
+use Rattle.sidecar_server.specs.Links.{IsLinkTo, IsOneOf}
 
 -- the refusals after which a sidecar has to stop
 abbrev pub is_final : PlaceReply → Bool
@@ -61,14 +62,16 @@ module _ {N L K : Type 0} (dialled : N → Option Dialled) (traffic : L → Opti
     pub leads : IsLinkTo dialled traffic at link
     pub turn : HeartbeatTurn node (shown since) (shown read) book new before after (traffic link) (traffic used) end
 
-  -- the same of a node of this member
+  -- the same of a node of this member, with the placement at one of these addresses
   pub record IsTurnOf (parties : Parties) (sent : ℕ) (end : TurnEnd) : Type 0 where
     pub node : SidecarNode
     pub of_member : (host_of node).member ≡ parties.member
     pub before : Seats
     pub after : Seats
     pub seats : IsSeatsOf node after
-    pub turn : IsTurn node (place_at parties.placement) sent before after end
+    pub at : Address
+    pub one_of : IsOneOf parties.placement at
+    pub turn : IsTurn node (place_at at) sent before after end
 
   -- the turn that was begun then was answered by the placement
   pub record IsAnswered (parties : Parties) (sent : ℕ) : Type 0 where

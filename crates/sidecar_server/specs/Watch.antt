@@ -12,6 +12,7 @@ use Rattle.sidecar_server.specs.declared.watch.StopCause.{StopCause}
 use Rattle.sidecar_server.specs.declared.watch.StopCause.TheVariants as causes
 use Rattle.sidecar_server.specs.declared.watch.WatchEvent.{WatchEvent}
 use Rattle.sidecar_server.specs.declared.watch.WatchEvent.TheVariants as events
+use Rattle.sidecar_server.specs.Links.{are_same_placements}
 use Rattle.sidecar_server.specs.Causes.{journal_full, is_final, IsShown, IsAnswered, IsRefused}
 
 -- whose turns it is told of, the start of the lease, and why the sidecar has to stop
@@ -22,7 +23,7 @@ pub record WatchState : Type 0 where
 
 -- the two are the same
 abbrev pub are_same : Parties → Parties → Bool
-are_same a b = same_member a.member b.member && ((a.placement.ip == b.placement.ip) && (a.placement.port == b.placement.port))
+are_same a b = same_member a.member b.member && are_same_placements a.placement b.placement
 
 abbrev pub new_watch : Parties → ℕ → WatchState
 new_watch parties now = record { parties = parties; lease = now; stop = None }

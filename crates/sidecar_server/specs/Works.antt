@@ -1,5 +1,6 @@
 -- What the threads of a sidecar do beside its connections, at the gates of its parts. Own.
 use Rattle.std.specs.Prelude.{◌≡◌, ◌⊎◌, ◌^◌, ℕ, Bool, true, false, List, [], ◌∷◌, length, Option, None, Some, Result, Ok, Err, IfOk, IfErr}
+use Rattle.actor_names.specs.declared.address.Address.{Address}
 use Rattle.actor_ports.specs.Traffic.{Place, Traffic, Dialled}
 use Rattle.part_model.specs.declared.event.PartEvent.{PartEvent}
 use Rattle.part_model.specs.declared.event.PartEvent.TheVariants as parts
@@ -14,6 +15,9 @@ use Rattle.sidecar_node.specs.Turns.{Said}
 use Rattle.sidecar_node.specs.Nodes.{part_gates, Acts, StopsAll}
 use Rattle.sidecar_server.specs.declared.watch.StopCause.{StopCause}
 use Rattle.sidecar_server.specs.declared.watch.WatchEvent.{WatchEvent}
+use Rattle.exchanges.specs.Replies.{place_at}
+use Rattle.sidecar_server.specs.declared.placements.Placements.{Placements}
+use Rattle.sidecar_server.specs.Links.{IsOneOf}
 use Rattle.sidecar_server.specs.Causes.{IsTurn}
 use Rattle.sidecar_server.specs.Watch.{WatchState}
 
@@ -76,9 +80,13 @@ module _ {N L K : Type 0} (dialled : N → Option Dialled) (traffic : L → Opti
   abbrev pub MayTurn : SidecarNode → Place → Seats → Seats → Type 0
   MayTurn node at before after = (after ≡ before) ⊎ ((sent : ℕ) × (end : TurnEnd) × IsTurn dialled traffic shown node at sent before after end)
 
-  -- What a thread did beside its connection: perhaps a turn of this node with the placement at this place, over a link that
-  -- was dialled there; and then other entries. So no Lock, Update or Unlock was made but by such a turn.
-  pub record DoesDuty (node : SidecarNode) (at : Place) (before after : Seats) : Type 0 where
+  -- the same with the placement at one of these addresses
+  abbrev pub MayTurnWith : SidecarNode → Placements → Seats → Seats → Type 0
+  MayTurnWith node placement before after = (at : Address) × IsOneOf placement at × MayTurn node (place_at at) before after
+
+  -- What a thread did beside its connection: perhaps a turn of this node with the placement at one of these addresses, over a
+  -- link that was dialled there; and then other entries. So no Lock, Update or Unlock was made but by such a turn.
+  pub record DoesDuty (node : SidecarNode) (placement : Placements) (before after : Seats) : Type 0 where
     pub middle : Seats
-    pub turn : MayTurn node at before middle
+    pub turn : MayTurnWith node placement before middle
     pub rest : LeavesTables middle after

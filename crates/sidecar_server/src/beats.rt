@@ -1,12 +1,14 @@
 // The turns with the placement.
 ghost use Rattle.std.specs.Prelude.{◌≡◌, IfSome};
 ghost use Rattle.exchanges.specs.Replies.{place_at};
+ghost use Rattle.sidecar_server.specs.Links.{IsOneOf};
 ghost use Rattle.sidecar_server.specs.Passes.{Admits};
 ghost use Rattle.sidecar_server.specs.Watch.{WatchTakes};
 ghost use Rattle.sidecar_server.specs.Works.{DoesDuty, GivesStops, LeavesTables, MayTurn, TellsWatch, left_by};
 
 use crate::link::PlacementLink;
 use crate::pass::Pass;
+use crate::placements::{is_one_of, next_address};
 use crate::service::SidecarService;
 use crate::watch::{Parties, WatchEvent, turn_event};
 use actor_ports::{Clock, Dial, Waits};
@@ -66,15 +68,16 @@ const LEAVE_WAITS: Waits = Waits {
     whole_ms: Some(1_000),
 };
 
-// A new link to the placement, which waits so.
+// A new link to the placement at the address whose turn it is, which waits so.
 fn dial_placement<N: Dial, K: Clock>(
     service: &SidecarService<'_, N, K>,
     net: &mut N,
     waits: Waits,
+    is_second: bool,
 ) -> Option<PlacementLink<N>>
-    ensures { IfSome result (λ l. l ≡ service.now.placement) }
+    ensures { IfSome result (IsOneOf service.now.placement) }
 {
-    let at = service.placement;
+    let at = next_address(service.placement, is_second);
     match net.dial_waiting(at.ip, at.port, waits) {
         Ok(link) => Some(PlacementLink { link, at }),
         Err(_) => None,
@@ -86,15 +89,16 @@ fn linked<N: Dial, K: Clock>(
     service: &SidecarService<'_, N, K>,
     net: &mut N,
     link: Option<PlacementLink<N>>,
+    is_second: bool,
 ) -> Option<PlacementLink<N>>
-    ensures { IfSome result (λ l. l ≡ service.now.placement) }
+    ensures { IfSome result (IsOneOf service.now.placement) }
 {
     if let Some(link) = link {
-        if link.at == service.placement {
+        if is_one_of(service.placement, link.at) {
             return Some(link);
         }
     }
-    dial_placement(service, net, WAITS)
+    dial_placement(service, net, WAITS, is_second)
 }
 
 // The link, if the turn over it ended well.
@@ -110,6 +114,11 @@ fn kept_link<L: Drop>(end: TurnEnd, link: L) -> Option<L>
     }
 }
 
+// Whether the link failed over which a turn ended so: then the other address is dialled next.
+fn has_failed(end: TurnEnd) -> bool {
+    matches!(end, TurnEnd::ConnFault | TurnEnd::BadReply { .. })
+}
+
 // One turn over this link, and what the watch is to be told of it. The link is kept if the turn ended well.
 fn beat_over<R: Wait, A: Dial, P: Dial, N: Dial, K: Clock>(
     rt: &R,
@@ -117,7 +126,8 @@ fn beat_over<R: Wait, A: Dial, P: Dial, N: Dial, K: Clock>(
     pass: Pass<A, P, N, K>,
     link: PlacementLink<N>,
 ) -> (Pass<A, P, N, K>, Option<WatchEvent>)
-    requires { Admits service.now.node.now service.now.watch.now pass.seats pass.watch }
+    requires admits { Admits service.now.node.now service.now.watch.now pass.seats pass.watch }
+    requires leads { IsOneOf service.now.placement link }
     ensures admits { Admits service.now.node.now service.now.watch.now result.0.seats result.0.watch }
     ensures turn { MayTurn N.dialled N.Link.read_traffic K.shown service.now.node.now (place_at link) pass.seats result.0.seats }
     ensures event { IfSome result.1 (WatchTakes N.dialled N.Link.read_traffic K.shown) }
@@ -139,9 +149,10 @@ fn beat_over<R: Wait, A: Dial, P: Dial, N: Dial, K: Clock>(
     pass.seats = seats;
     let used = PlacementLink { link, at };
     pass.link = kept_link(end, used);
+    pass.is_second ^= has_failed(end);
     let parties = Parties {
         member: service.node.host().member,
-        placement: at,
+        placement: service.placement,
     };
     (pass, turn_event(parties, end, sent))
 }
@@ -153,9 +164,10 @@ fn beat_on<R: Wait, A: Dial, P: Dial, N: Dial, K: Clock>(
     pass: Pass<A, P, N, K>,
     link: PlacementLink<N>,
 ) -> Pass<A, P, N, K>
-    requires { Admits service.now.node.now service.now.watch.now pass.seats pass.watch }
+    requires admits { Admits service.now.node.now service.now.watch.now pass.seats pass.watch }
+    requires leads { IsOneOf service.now.placement link }
     ensures admits { Admits service.now.node.now service.now.watch.now result.seats result.watch }
-    ensures does { DoesDuty N.dialled N.Link.read_traffic K.shown service.now.node.now (place_at link) pass.seats result.seats }
+    ensures does { DoesDuty N.dialled N.Link.read_traffic K.shown service.now.node.now service.now.placement pass.seats result.seats }
 {
     let (beaten, event) = beat_over(rt, service, pass, link);
     match event {
@@ -165,7 +177,7 @@ fn beat_on<R: Wait, A: Dial, P: Dial, N: Dial, K: Clock>(
 }
 
 /// One turn with the placement, over the link that is left or a new one. After a turn that didn't end well the next one
-/// dials again.
+/// dials again, and the other address if the dial or the link failed.
 pub(crate) fn beat<R: Wait, A: Dial, P: Dial, N: Dial, K: Clock>(
     rt: &R,
     service: &SidecarService<'_, N, K>,
@@ -173,12 +185,15 @@ pub(crate) fn beat<R: Wait, A: Dial, P: Dial, N: Dial, K: Clock>(
 ) -> Pass<A, P, N, K>
     requires { Admits service.now.node.now service.now.watch.now pass.seats pass.watch }
     ensures admits { Admits service.now.node.now service.now.watch.now result.seats result.watch }
-    ensures does { DoesDuty N.dialled N.Link.read_traffic K.shown service.now.node.now (place_at service.now.placement) pass.seats result.seats }
+    ensures does { DoesDuty N.dialled N.Link.read_traffic K.shown service.now.node.now service.now.placement pass.seats result.seats }
 {
     let mut pass = pass;
     let left = pass.link.take();
-    match linked(service, &mut pass.net, left) {
-        None => pass,
+    match linked(service, &mut pass.net, left, pass.is_second) {
+        None => {
+            pass.is_second = !pass.is_second;
+            pass
+        }
         Some(link) => beat_on(rt, service, pass, link),
     }
 }
@@ -202,7 +217,7 @@ fn leave_over<R: Wait, A: Dial, P: Dial, N: Dial, K: Clock>(
     pass
 }
 
-/// Stops all parts and leaves the placement, over a new link.
+/// Stops all parts and leaves the placement, over a new link to the address at which it was heard last.
 pub(crate) fn leave<R: Wait, A: Dial, P: Dial, N: Dial, K: Clock>(
     rt: &R,
     service: &SidecarService<'_, N, K>,
@@ -210,13 +225,13 @@ pub(crate) fn leave<R: Wait, A: Dial, P: Dial, N: Dial, K: Clock>(
 ) -> Pass<A, P, N, K>
     requires { Admits service.now.node.now service.now.watch.now pass.seats pass.watch }
     ensures admits { Admits service.now.node.now service.now.watch.now result.seats result.watch }
-    ensures does { DoesDuty N.dialled N.Link.read_traffic K.shown service.now.node.now (place_at service.now.placement) pass.seats result.seats }
+    ensures does { DoesDuty N.dialled N.Link.read_traffic K.shown service.now.node.now service.now.placement pass.seats result.seats }
 {
     let mut pass = pass;
     let (seats, _) = stop_turn(rt, service.node, pass.seats);
     pass.seats = seats;
     pass.link = None;
-    match dial_placement(service, &mut pass.net, LEAVE_WAITS) {
+    match dial_placement(service, &mut pass.net, LEAVE_WAITS, pass.is_second) {
         None => pass,
         Some(link) => leave_over(rt, service, pass, link),
     }

@@ -1,5 +1,4 @@
 // What a thread of a sidecar does beside the connections.
-ghost use Rattle.exchanges.specs.Replies.{place_at};
 ghost use Rattle.sidecar_server.specs.Passes.{Admits};
 ghost use Rattle.sidecar_server.specs.Works.{DoesDuty, LeavesTables};
 
@@ -69,7 +68,7 @@ fn turn<R: Wait, A: Dial, P: Dial, N: Dial, K: Clock>(
 ) -> Pass<A, P, N, K>
     requires { Admits service.now.node.now service.now.watch.now pass.seats pass.watch }
     ensures admits { Admits service.now.node.now service.now.watch.now result.seats result.watch }
-    ensures does { DoesDuty N.dialled N.Link.read_traffic K.shown service.now.node.now (place_at service.now.placement) pass.seats result.seats }
+    ensures does { DoesDuty N.dialled N.Link.read_traffic K.shown service.now.node.now service.now.placement pass.seats result.seats }
 {
     if work == BEATS {
         return beat(rt, service, pass);
@@ -86,7 +85,7 @@ pub(crate) fn do_duty<R: Wait, A: Dial, P: Dial, N: Dial, K: Clock>(
 ) -> Pass<A, P, N, K>
     requires { Admits service.now.node.now service.now.watch.now pass.seats pass.watch }
     ensures admits { Admits service.now.node.now service.now.watch.now result.seats result.watch }
-    ensures does { DoesDuty N.dialled N.Link.read_traffic K.shown service.now.node.now (place_at service.now.placement) pass.seats result.seats }
+    ensures does { DoesDuty N.dialled N.Link.read_traffic K.shown service.now.node.now service.now.placement pass.seats result.seats }
 {
     match duty {
         Duty::Turn(work) => turn(rt, service, work, pass),

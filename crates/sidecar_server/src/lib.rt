@@ -14,10 +14,12 @@ mod crossing;
 mod duties;
 mod link;
 mod pass;
+mod placements;
 mod server;
 mod service;
 mod session;
 mod watch;
 
+pub use placements::Placements;
 pub use server::{SidecarPlaces, SidecarServed, serve_sidecar};
 pub use watch::{Parties, StopCause, Watch, WatchEvent};

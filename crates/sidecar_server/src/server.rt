@@ -14,6 +14,7 @@ ghost use Rattle.sidecar_server.specs.Stopped.{StopsParts};
 use crate::crossing::{node_crosses, seats_cross};
 use crate::duties::do_duty;
 use crate::pass::Pass;
+use crate::placements::Placements;
 use crate::service::SidecarService;
 use crate::session::serve_at;
 use crate::watch::{Parties, StopCause, Watch};
@@ -29,12 +30,12 @@ use std::sync::Wait;
 use std::thread::Threads;
 use step_gate::{Gate, Seat};
 
-/// Where a sidecar listens for its callers and for other sidecars, and where the placement listens.
+/// Where a sidecar listens for its callers and for other sidecars, and where the placement may listen.
 #[derive(Clone, Copy)]
 pub struct SidecarPlaces {
     pub callers: Address,
     pub peers: Address,
-    pub placement: Address,
+    pub placement: Placements,
 }
 
 /// How a server ended, why its sidecar had to stop, if it had to, and the seats that stopped its parts at the end.
@@ -97,11 +98,11 @@ fn serve_watched<
     )
 }
 
-// The gate of a watch over this node's turns with the placement at this address, whose lease begins at this moment.
+// The gate of a watch over this node's turns with the placement at these addresses, whose lease begins at this moment.
 fn new_watch<N: Dial, K: Clock>(
     alloc: Global,
     node: &SidecarNode,
-    placement: Address,
+    placement: Placements,
     now: u64,
 ) -> Result<(Gate<Watch<N, K>>, Seat<Watch<N, K>>), OutOfMemory>
     requires { IsShown K.shown now }
@@ -200,6 +201,7 @@ pub fn serve_sidecar<
             heard: now,
         },
         link: None,
+        is_second: false,
     };
     let (callers, peers, end) = serve_watched(
         rt, alloc, node, &gate, pass, callers, peers, places, most, at_once,

@@ -2,8 +2,8 @@
 ghost use Rattle.sidecar_server.specs.Passes.{Admits};
 
 use crate::pass::Pass;
+use crate::placements::Placements;
 use crate::watch::Watch;
-use actor_names::Address;
 use actor_ports::{Clock, Dial};
 use exchanges::Links;
 use placement_beats::PlacementBook;
@@ -15,14 +15,14 @@ use step_gate::Gate;
 // How many works a sidecar has (`duties`): all that follow the fourth deactivate actors.
 const WORKS: u32 = 12;
 
-/// What the threads of a sidecar share: its node, the gate of the watch, the address of the placement, the end of the
+/// What the threads of a sidecar share: its node, the gate of the watch, the addresses of the placement, the end of the
 /// server, which listens at two ports, and how many connections of each it serves at once.
 #[derive(Drop)]
 pub(crate) struct SidecarService<'a, N: Dial, K: Clock> {
     pub(crate) alloc: Global,
     pub(crate) node: &'a SidecarNode,
     pub(crate) watch: &'a Gate<Watch<N, K>>,
-    pub(crate) placement: Address,
+    pub(crate) placement: Placements,
     pub(crate) ending: Ending,
     pub(crate) at_once: u64,
 }
@@ -80,6 +80,7 @@ impl<A: Dial, P: Dial, N: Dial, K: Clock> Service<Pass<A, P, N, K>> for SidecarS
             steady,
             book,
             link: None,
+            is_second: pass.is_second,
         };
         (pass, Some(other))
     }

@@ -30,6 +30,7 @@ pub(crate) fn serve_at<R: Wait, C: Conn, A: Dial, P: Dial, N: Dial, K: Clock>(
         steady: _,
         book: _,
         link: _,
+        is_second: _,
     } = pass;
     let mut conn = conn;
     let mut links = links;

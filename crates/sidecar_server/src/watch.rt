@@ -3,7 +3,8 @@ ghost use Rattle.std.specs.Prelude.{◌≡◌};
 ghost use Rattle.sidecar_server.specs.Causes.{IsShown, IsSound};
 ghost use Rattle.sidecar_server.specs.Watch.{are_same, new_watch, first_cause, heard_lease, stop_after, refused_stop, refusal_event, turn_event};
 
-use actor_names::{Address, Member};
+use crate::placements::{Placements, are_same_placements};
+use actor_names::Member;
 use actor_ports::{Clock, Dial};
 use lease_core::Lease;
 use placement_beats::TurnEnd;
@@ -20,11 +21,11 @@ pub enum StopCause {
     Refused { reply: PlaceReply },
 }
 
-/// Whose turns a watch is told of: a member's, with the placement at an address.
+/// Whose turns a watch is told of: a member's, with the placement at one of its addresses.
 #[derive(Clone, Copy)]
 pub struct Parties {
     pub member: Member,
-    pub placement: Address,
+    pub placement: Placements,
 }
 
 /// What the watch is told.
@@ -98,7 +99,7 @@ pub(crate) fn turn_event(parties: Parties, end: TurnEnd, sent: u64) -> Option<Wa
 fn are_same(a: &Parties, b: &Parties) -> bool
     ensures { result ≡ are_same a.now b.now }
 {
-    a.member == b.member && a.placement == b.placement
+    a.member == b.member && are_same_placements(a.placement, b.placement)
 }
 
 // The first cause counts.

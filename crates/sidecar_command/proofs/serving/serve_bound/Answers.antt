@@ -14,6 +14,6 @@ returns-after-callers_failed-clause-ends g c =
     let shown = g.K.Clock.shown in
     let served = c.in-Ok.served in
     let run = c.serve_sidecar-callers.ensures in
-    let sound = subst (λ r. IfOk r (λ (s : SidecarServed). IsSound dialled traffic shown (record { member = (host_of c.args.node.now).member; placement = c.args.words.now.placement }) s.stop)) c.in-Ok.is run.stop in
+    let sound = subst (λ r. IfOk r (λ (s : SidecarServed). IsSound dialled traffic shown (record { member = (host_of c.args.node.now).member; placement = record { first = c.args.words.now.placement; second = c.args.words.now.placement2 } }) s.stop)) c.in-Ok.is run.stop in
     let stopped = subst (λ r. IfOk r (λ (s : SidecarServed). StopsParts c.args.node.now c.args.seats s.seats)) c.in-Ok.is run.stopped in
     after_served dialled traffic shown (told_sidecar c.args.words.now) c.args.node.now c.args.seats served.seats served.stop c.ended.result c.requires.new stopped sound c.ended.ensures.own c.ended.ensures.stop

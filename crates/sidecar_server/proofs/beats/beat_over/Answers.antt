@@ -2,6 +2,7 @@ use Rattle.std.proofs.Common.{ap, sym, subst}
 use Rattle.actor_names.specs.declared.address.Address.{Address}
 use Rattle.place_table.specs.declared.host.HostInfo.{HostInfo}
 use Rattle.exchanges.specs.Replies.{place_at}
+use Rattle.sidecar_server.specs.Links.{IsOneOf}
 use Rattle.sidecar_server.specs.Works.{MayTurn}
 use Rattle.sidecar_server.proofs.Turns.{used_link, turn_takes, turn_may}
 use Rattle.sidecar_server.proofs.beats.beat_over.Goals as goal
@@ -17,4 +18,4 @@ returns-clause-turn g c =
 pub returns-clause-event : goal.returns-clause-event
 returns-clause-event g c =
     rw c.turn_event.ensures (turn_takes g.N.Dial.dialled g.N.Link.Source.read_traffic g.K.Clock.shown _ _ _ _ _ _ _ _ _ _ _ _
-    (ap (λ (h : HostInfo). h.member) (sym c.host.ensures)) c.placement_turn-seats.ensures.seats c.now_ms-sent.ensures.shows c.link.invariant c.placement_turn-seats.ensures.turn)
+    (ap (λ (h : HostInfo). h.member) (sym c.host.ensures)) c.placement_turn-seats.ensures.seats c.now_ms-sent.ensures.shows _ (subst (λ (a : Address). IsOneOf c.args.service.now.placement a) (sym c.link.view_is) c.requires.leads) c.link.invariant c.placement_turn-seats.ensures.turn)

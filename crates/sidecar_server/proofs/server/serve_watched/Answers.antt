@@ -15,6 +15,7 @@ use Rattle.sidecar_node.specs.contracts.node.SidecarNode as node
 use Rattle.sidecar_server.specs.contracts.pass.Pass as pass
 use Rattle.sidecar_server.specs.contracts.service.SidecarService as service
 use Rattle.sidecar_server.proofs.link.PlacementLink.TheSendSync as link
+use Rattle.sidecar_server.proofs.placements.Placements.TheSendSync as placements
 use Rattle.sidecar_server.proofs.watch.Watch.TheSendSync as watch
 use Rattle.server_ports.proofs.ending.Ending.TheSendSync as ending
 use Rattle.sidecar_server.proofs.server.serve_watched.Given as given
@@ -29,7 +30,7 @@ service_crosses : (g : given.Over) → IsSync node.the_row → (ℓ : NamedLft) 
 service_crosses g n ℓ =
     let T = service.the_type ℓ (param 5 g.row.N) (param 6 g.row.K) (param 7 g.row.N-Link) g.N.Dial g.N.Link.Conn g.N.Link.Source g.N.Link.Sink g.K.Clock in
     let w = watch.the_send (param 5 g.row.N) (param 6 g.row.K) (param 7 g.row.N-Link) g.N.Dial g.N.Link.Source g.N.Link.Sink g.K.Clock in
-    recorded_sync _ _ T.to T.to_one (struct_sync (shape T) (search (sendable, crosses) depth 20, (search (n, sendable) depth 9, (search (w, gate.the_sync, sendable, crosses) depth 20, (address.the_field_sync, (search (ending.the_sync, sendable, crosses) depth 20, (search sendable, tt)))))))
+    recorded_sync _ _ T.to T.to_one (struct_sync (shape T) (search (sendable, crosses) depth 20, (search (n, sendable) depth 9, (search (w, gate.the_sync, sendable, crosses) depth 20, (placements.the_field_sync, (search (ending.the_sync, sendable, crosses) depth 20, (search sendable, tt)))))))
 
 -- a closure that captures two references may be shared if what they lead to may be
 closure_shared : (ν : List ℕ) (A B : RattleType) → IsSync A → IsSync B → IsSync (TupleAt ν (A ∷ B ∷ []))
@@ -49,7 +50,7 @@ serve_ports-requires-send-P g c κs within =
     let L = param 7 g.row.N-Link in
     let w = watch.the_send N K L g.N.Dial g.N.Link.Source g.N.Link.Sink g.K.Clock in
     let T = pass.the_type A P N K L L L g.N.Dial g.N.Link.Source g.N.Link.Sink g.K.Clock in
-    let parts : AllSend (fields T) = (c.seats_cross.ensures, (search (w, seat.the_send) depth 9, (search (c.type_bounds.send-A, c.type_bounds.send-P, c.type_bounds.send-N, address.the_field_send, sendable, crosses) depth 20, (c.type_bounds.send-N, (c.type_bounds.send-K, (c.type_bounds.send-K, (search (sendable, crosses) depth 20, (search (link.the_send, c.type_bounds.send-N-Link, sendable, crosses) depth 20, tt)))))))) in
+    let parts : AllSend (fields T) = (c.seats_cross.ensures, (search (w, seat.the_send) depth 9, (search (c.type_bounds.send-A, c.type_bounds.send-P, c.type_bounds.send-N, address.the_field_send, sendable, crosses) depth 20, (c.type_bounds.send-N, (c.type_bounds.send-K, (c.type_bounds.send-K, (search (sendable, crosses) depth 20, (search (link.the_send, c.type_bounds.send-N-Link, sendable, crosses) depth 20, (search sendable, tt))))))))) in
     param_send _ _ (arg_send _ no (pass.the_row A P N K L L L g.N.Dial g.N.Link.Source g.N.Link.Sink g.K.Clock) (recorded_send _ _ T.to T.to_one (struct_send (shape T) parts)))
 
 pub serve_ports-requires-sync-V : goal.serve_ports-requires-sync-V
