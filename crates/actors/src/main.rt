@@ -20,6 +20,10 @@ use std::{env, io};
 /// How long a dial waits for its answer, in milliseconds.
 const CONNECT_MS: u64 = 5_000;
 
+/// The same of one to a placement, a store or a standby. A sidecar whose placement is away can look for the other one before its
+/// lease has ended.
+const SERVER_CONNECT_MS: u64 = 1_500;
+
 /// How long a link to a placement or a store waits for a byte, in milliseconds. One to an application waits without an end.
 const LINK_WAIT_MS: u64 = 10_000;
 
@@ -29,6 +33,13 @@ const PEER_WAIT_MS: u64 = 300_000;
 /// How long a connection to a server waits: for the next message, and for the whole of one that has begun.
 const CONNECTION_WAITS: Waits = Waits {
     quiet_ms: Some(60_000),
+    message_ms: Some(30_000),
+    whole_ms: None,
+};
+
+/// How long a connection to a standby waits: a placement that changes nothing sends nothing.
+const STANDBY_WAITS: Waits = Waits {
+    quiet_ms: None,
     message_ms: Some(30_000),
     whole_ms: None,
 };
@@ -76,7 +87,13 @@ fn status<
     let mut outside = Outside {
         input,
         output: WriterSink::new(io::writer(&rt)),
-        net: TcpDial::new(rt.alloc(), rt, ended, connect, Waits::quiet(LINK_WAIT_MS)),
+        net: TcpDial::new(
+            rt.alloc(),
+            rt,
+            ended,
+            Some(SERVER_CONNECT_MS),
+            Waits::quiet(LINK_WAIT_MS),
+        ),
         app: TcpDial::new(rt.alloc(), rt, app_ended, connect, WITHOUT_END),
         peers: TcpDial::new(
             rt.alloc(),
@@ -87,9 +104,17 @@ fn status<
         ),
         time: SystemClock::new(rt),
         steady: SystemClock::steady(rt),
-        host: SystemHost::new(rt.alloc(), rt, host_ended, CONNECTION_WAITS),
+        host: SystemHost::new(rt.alloc(), rt, host_ended, waits_of(words.as_slice())),
     };
     run(&rt, rt.alloc(), words.as_slice(), &mut outside)
+}
+
+/// How long the connections to the server of these words wait.
+fn waits_of(words: &[String]) -> Waits {
+    match words {
+        [command, ..] if command.as_str() == "standby" => STANDBY_WAITS,
+        _ => CONNECTION_WAITS,
+    }
 }
 
 /// The words after the program's name, or the status that the program ends with if they can't be read.

@@ -5,10 +5,12 @@ use Rattle.actor_names.specs.declared.address.Address.{Address}
 use Rattle.actor_ports.specs.Traffic.{Place, Dialled}
 use Rattle.server_ports.specs.Hosts.{Asked, nothing_handed, place_of}
 use Rattle.server_ports.proofs.Handed.{hands_nothing}
-use Rattle.command_words.specs.Reading.{Hosting, Placing}
+use Rattle.command_words.specs.Reading.{Hosting, Placing, Standing}
 use Rattle.placement_command.specs.declared.command.PlacementEnd.TheVariants as places
 use Rattle.store_command.specs.declared.command.StoreEnd.TheVariants as stores
-use Rattle.actors_top.specs.Ran.{HostTold, RanPlacement, RanStore}
+use Rattle.standby_command.specs.declared.command.StandbyEnd.TheVariants as standbys
+use Rattle.standby_command.specs.Commands.{AsksOnly as AsksStandby}
+use Rattle.actors_top.specs.Ran.{HostTold, RanPlacement, RanStandby, RanStore}
 use Rattle.placement_command.specs.Commands.{AsksOnly}
 use Rattle.store_command.specs.Commands.{AsksOnly as AsksStore}
 use Rattle.sidecar_command.specs.Commands.{AsksPorts, DialsOnly}
@@ -25,6 +27,10 @@ nothing_asked_for path at state (Some a) = inl refl
 no_store_asked : (path : List ℕ) (at : Place) (asked : Option Asked) → AsksStore path at asked asked
 no_store_asked path at None = tt
 no_store_asked path at (Some a) = inl refl
+
+no_standby_asked : (path : List ℕ) (at : Place) (asked : Option Asked) → AsksStandby path at asked asked
+no_standby_asked path at None = tt
+no_standby_asked path at (Some a) = inl refl
 
 pub no_ports_asked : (callers peers : Place) (asked : Option Asked) → AsksPorts callers peers asked asked
 no_ports_asked callers peers None = tt
@@ -43,6 +49,9 @@ placement_not_done is = cc
 
 store_not_done : {P : Type 0} → stores.OutOfMemory ≡ stores.Done → P
 store_not_done is = cc
+
+standby_not_done : {P : Type 0} → standbys.OutOfMemory ≡ standbys.Done → P
+standby_not_done is = cc
 
 pub no_placement : (p : Placing) (now : ℕ) (h : HostTold) → RanPlacement p now places.OutOfMemory h h
 no_placement p now h = record {
@@ -64,4 +73,15 @@ no_store p h = record {
   limit = store_not_done;
   bound = store_not_done;
   sound = store_not_done;
+}
+
+pub no_standby : (s : Standing) (h : HostTold) → RanStandby s standbys.OutOfMemory h h
+no_standby s h = record {
+  asks = no_standby_asked s.journal (place_of s.listen) h.asked;
+  given = nothing_handed;
+  hands = hands_nothing h.handed h.handed refl;
+  ran = inl (refl, inr refl);
+  limit = standby_not_done;
+  bound = standby_not_done;
+  sound = standby_not_done;
 }

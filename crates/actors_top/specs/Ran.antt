@@ -1,6 +1,6 @@
 -- What a server did to its host, by the words and by how it ended. Own.
-use Rattle.std.specs.Prelude.{◌≡◌, ℕ, Option, IsSome}
-use Rattle.command_words.specs.Reading.{Hosting, Placing}
+use Rattle.std.specs.Prelude.{◌≡◌, ℕ, Bool, false, Option, Some, is_some, IsSome}
+use Rattle.command_words.specs.Reading.{Hosting, Placing, Standing, Said, Placement}
 use Rattle.server_ports.specs.Hosts.{Asked, Handed, Hands, place_of}
 use Rattle.placement_command.specs.declared.command.PlacementEnd.{PlacementEnd}
 use Rattle.placement_command.specs.declared.command.PlacementEnd.TheVariants as places
@@ -10,6 +10,10 @@ use Rattle.store_command.specs.declared.command.StoreEnd.{StoreEnd}
 use Rattle.store_command.specs.declared.command.StoreEnd.TheVariants as stores
 use Rattle.store_command.specs.Commands.{AsksOnly as AsksStore, AsksAll as AsksStoreAll}
 use Rattle.store_command.specs.Runs.{RunsStore}
+use Rattle.standby_command.specs.declared.command.StandbyEnd.{StandbyEnd}
+use Rattle.standby_command.specs.declared.command.StandbyEnd.TheVariants as standbys
+use Rattle.standby_command.specs.Commands.{AsksOnly as AsksStandby, AsksAll as AsksStandbyAll}
+use Rattle.standby_command.specs.Runs.{RunsStandby}
 
 -- What a host knows: what it was asked for and its disks, if it tells that, and its counts of faults.
 pub record HostTold : Type 0 where
@@ -42,12 +46,28 @@ pub record RanStore (p : Hosting) (end : StoreEnd) (old new : HostTold) : Type 0
 
 -- The placement of these words, opened at the moment that the clock showed: the same of its one disk and of its ports. Its
 -- one legal history is that of the node's steps; if the file held the records of a run, whatever a crash leaves at any
--- moment of a step has the records of the run before the step, or with it.
+-- moment of a step has the records of the run before the step, or with it. With a standby that wasn't reached, or didn't get
+-- the bytes of the disk, that was given back as it was.
 pub record RanPlacement (p : Placing) (now : ℕ) (end : PlacementEnd) (old new : HostTold) : Type 0 where
   pub asks : AsksOnly p.server.journal (place_of p.server.listen) p.http old.asked new.asked
   pub given : Handed
   pub hands : Hands old.handed given new.handed
-  pub ran : RunsPlacement p.server.journal p.server.is_new now end given
+  pub ran : RunsPlacement p.standby p.server.journal p.server.is_new now end given
   pub limit : end ≡ places.Done → IsSome p.server.sessions
   pub bound : end ≡ places.Done → AsksAll p.server.journal (place_of p.server.listen) p.http old.asked new.asked
   pub sound : end ≡ places.Done → NoneFailed old new
+
+-- The standby of these words: the same of its one disk, on which its sessions were served, one after the other.
+pub record RanStandby (s : Standing) (end : StandbyEnd) (old new : HostTold) : Type 0 where
+  pub asks : AsksStandby s.journal (place_of s.listen) old.asked new.asked
+  pub given : Handed
+  pub hands : Hands old.handed given new.handed
+  pub ran : RunsStandby s.journal s.sessions end given
+  pub limit : end ≡ standbys.Done → IsSome s.sessions
+  pub bound : end ≡ standbys.Done → AsksStandbyAll s.journal (place_of s.listen) old.asked new.asked
+  pub sound : end ≡ standbys.Done → NoneFailed old new
+
+-- the words are those of a placement with a standby
+abbrev pub is_mirrored : Option Said → Bool
+is_mirrored (Some (Placement p)) = is_some p.standby
+is_mirrored said = false

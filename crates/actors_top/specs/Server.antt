@@ -6,6 +6,8 @@ use Rattle.placement_command.specs.declared.command.PlacementEnd.{PlacementEnd}
 use Rattle.placement_command.specs.declared.command.PlacementEnd.TheVariants as places
 use Rattle.store_command.specs.declared.command.StoreEnd.{StoreEnd}
 use Rattle.store_command.specs.declared.command.StoreEnd.TheVariants as stores
+use Rattle.standby_command.specs.declared.command.StandbyEnd.{StandbyEnd}
+use Rattle.standby_command.specs.declared.command.StandbyEnd.TheVariants as standbys
 use Rattle.actors_top.specs.declared.server.ServerStatus.{ServerStatus}
 use Rattle.actors_top.specs.declared.server.ServerStatus.TheVariants as status
 
@@ -57,6 +59,13 @@ store_damage stores.DiskFault = None
 store_damage stores.PortFault = None
 store_damage stores.OutOfMemory = None
 store_damage (stores.Damaged offset) = Some offset
+
+-- the status of a standby's end
+abbrev pub standby_status : StandbyEnd → ServerStatus
+standby_status standbys.Done = status.Done
+standby_status standbys.DiskFault = status.DiskFault
+standby_status standbys.PortFault = status.PortFault
+standby_status standbys.OutOfMemory = status.OutOfMemory
 
 abbrev pub server_code : ServerStatus → ℕ
 server_code status.Done = 0

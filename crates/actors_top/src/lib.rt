@@ -4,7 +4,7 @@
 // clauses; over every script the headline holds. A server asks its host for nothing but its own paths and addresses,
 // gives back what it was given, and ends for a fault only where the host's count of such faults rose; over a host that
 // tells of its disks it says what came of them (`specs/Ran`). Depends on `plain_commands`, `placement_command`,
-// `store_command`, `sidecar_command`, `command_words`, `server_ports` and `actor_ports`.
+// `store_command`, `sidecar_command`, `standby_command`, `command_words`, `server_ports` and `actor_ports`.
 #![tactic(auto)]
 
 mod server;

@@ -1,10 +1,11 @@
 // How a server ends, and what it prints.
-ghost use Rattle.std.specs.Prelude.{◌≡◌, ◌<◌, ◌++◌, [], OnOk};
-ghost use Rattle.actors_top.specs.Server.{TellsDamage, TellsServer, damaged_line, placement_damage, placement_status, store_damage, store_status};
+ghost use Rattle.std.specs.Prelude.{◌≡◌, ◌≢◌, ◌<◌, ◌++◌, [], OnOk};
+ghost use Rattle.actors_top.specs.Server.{TellsDamage, TellsServer, damaged_line, placement_damage, placement_status, standby_status, store_damage, store_status};
 
 use actor_ports::{PortError, Sink};
 use itoa::Buffer;
 use placement_command::PlacementEnd;
+use standby_command::StandbyEnd;
 use std::alloc::{AllocError, Global};
 use store_command::StoreEnd;
 
@@ -15,9 +16,9 @@ pub enum ServerStatus {
     Done = 0,
     /// The sink failed while the place of a damage was written.
     SinkFault = 5,
-    /// The disk wasn't opened, or it failed.
+    /// The disk wasn't opened, or it failed; or a placement's standby has.
     DiskFault = 6,
-    /// The port wasn't bound, or it failed.
+    /// The port wasn't bound, or it failed; or a placement's standby wasn't reached.
     PortFault = 7,
     /// Out of memory.
     OutOfMemory = 8,
@@ -86,5 +87,20 @@ pub(crate) fn tell_store<W: Sink>(alloc: Global, end: StoreEnd, output: &mut W) 
         StoreEnd::PortFault => ServerStatus::PortFault,
         StoreEnd::OutOfMemory => ServerStatus::OutOfMemory,
         StoreEnd::Damaged { offset } => tell_damage(alloc, offset, output),
+    }
+}
+
+/// The status of a standby's end. Nothing is printed.
+pub(crate) fn standby_status(end: StandbyEnd) -> ServerStatus
+    ensures is { result ≡ standby_status end }
+    ensures sink { result ≢ ServerStatus.SinkFault }
+    ensures disk { result ≡ ServerStatus.DiskFault → end ≡ StandbyEnd.DiskFault }
+    ensures port { result ≡ ServerStatus.PortFault → end ≡ StandbyEnd.PortFault }
+{
+    match end {
+        StandbyEnd::Done => ServerStatus::Done,
+        StandbyEnd::DiskFault => ServerStatus::DiskFault,
+        StandbyEnd::PortFault => ServerStatus::PortFault,
+        StandbyEnd::OutOfMemory => ServerStatus::OutOfMemory,
     }
 }
