@@ -1,12 +1,14 @@
 -- A call that did nothing.
-use Rattle.std.proofs.Common.{◌≡◌, inl, inr, ℕ, List, [], ◌++◌, Option, Some, None, refl, sym, subst}
+use Rattle.std.proofs.Common.{◌≡◌, ◌⊎◌, ◌<◌, inl, inr, ℕ, true, List, [], ◌++◌, Option, Some, None, is_some, IfSome, refl, sym, subst}
 use Rattle.std.proofs.lemmas.List.{append-nil}
 use Rattle.actor_names.specs.declared.address.Address.{Address}
-use Rattle.actor_ports.specs.Traffic.{Place, Dialled}
+use Rattle.actor_ports.specs.Traffic.{Place, Traffic, Dialled}
 use Rattle.server_ports.specs.Hosts.{Asked, nothing_handed, place_of}
 use Rattle.server_ports.proofs.Handed.{hands_nothing}
 use Rattle.command_words.specs.Reading.{Hosting, Placing, Standing}
+use Rattle.placement_command.specs.declared.command.PlacementEnd.{PlacementEnd}
 use Rattle.placement_command.specs.declared.command.PlacementEnd.TheVariants as places
+use Rattle.placement_command.specs.Mirrors.{DialsStandby, DiskCause, MirrorCause, PortCause}
 use Rattle.store_command.specs.declared.command.StoreEnd.TheVariants as stores
 use Rattle.standby_command.specs.declared.command.StandbyEnd.TheVariants as standbys
 use Rattle.standby_command.specs.Commands.{AsksOnly as AsksStandby}
@@ -85,3 +87,20 @@ no_standby s h = record {
   bound = standby_not_done;
   sound = standby_not_done;
 }
+
+-- ---- a placement with a standby, or none
+
+-- the standby wasn't dialled
+pub none_dialled : {L : Type 0} (traffic : L → Option Traffic) (standby : Option Address) (dialled : Option Dialled) (end : PlacementEnd) → IfSome standby (λ at. DialsStandby traffic (place_of at) dialled dialled end)
+none_dialled traffic None dialled end = tt
+none_dialled traffic (Some at) dialled end = inl refl
+
+-- why it may end for a fault of its disk, or of a port
+pub disk_by : {L : Type 0} (traffic : L → Option Traffic) (standby : Option Address) (open0 open1 dial0 dial1 : ℕ) → DiskCause standby traffic open0 open1 dial0 dial1
+    → (open0 < open1) ⊎ ((is_some standby ≡ true) × MirrorCause traffic open0 open1 dial0 dial1)
+disk_by traffic None open0 open1 dial0 dial1 cause = inl cause
+disk_by traffic (Some at) open0 open1 dial0 dial1 cause = inr (refl, cause)
+
+pub port_by : (standby : Option Address) (bind0 bind1 dial0 dial1 : ℕ) → PortCause standby bind0 bind1 dial0 dial1 → (bind0 < bind1) ⊎ (dial0 < dial1)
+port_by None bind0 bind1 dial0 dial1 cause = inl cause
+port_by (Some at) bind0 bind1 dial0 dial1 cause = cause

@@ -1,5 +1,5 @@
 // The top call.
-ghost use Rattle.std.specs.Prelude.{◌≡◌, ◌≢◌, ◌<◌, ◌≤◌, ◌⊎◌, ◌∷◌, [], true, None, Some, IfSome, map, codes, string_bytes};
+ghost use Rattle.std.specs.Prelude.{◌≡◌, ◌≢◌, ◌<◌, ◌≤◌, ◌⊎◌, ◌∷◌, [], true, None, Some, is_some, IfSome, map, codes, string_bytes};
 ghost use Rattle.server_ports.specs.Hosts.{place_of};
 ghost use Rattle.exchanges.specs.Replies.{place_at};
 ghost use Rattle.command_words.specs.Told.{told_placement, told_server, told_sidecar, told_standby};
@@ -10,7 +10,7 @@ ghost use Rattle.plain_commands.specs.ReplayTold.{Replays};
 ghost use Rattle.plain_commands.specs.Schedule.{schedule_of, ScheduleEnds};
 ghost use Rattle.plain_commands.specs.declared.status.Status.{Status};
 ghost use Rattle.placement_command.specs.declared.command.PlacementEnd.{PlacementEnd};
-ghost use Rattle.placement_command.specs.Mirrors.{DialsStandby, DiskCause, MirrorCause, PortCause};
+ghost use Rattle.placement_command.specs.Mirrors.{DialsStandby, MirrorCause};
 ghost use Rattle.standby_command.specs.declared.command.StandbyEnd.{StandbyEnd};
 ghost use Rattle.store_command.specs.declared.command.StoreEnd.{StoreEnd};
 ghost use Rattle.sidecar_command.specs.declared.ends.SidecarEnd.{SidecarEnd};
@@ -81,8 +81,9 @@ fn placement<
     ensures only { out.new ≡ record out.old { output = out.new.output; net = out.new.net; steady = out.new.steady; host = out.new.host } }
     ensures undialled { words.now.standby ≡ None → out.new.net ≡ out.old.net }
     ensures sink { result ≡ ServerStatus.SinkFault → W.write_faults out.old.output < W.write_faults out.new.output }
-    ensures disk { result ≡ ServerStatus.DiskFault → DiskCause words.now.standby N.Link.read_traffic (H.open_faults out.old.host) (H.open_faults out.new.host) (N.dial_faults out.old.net) (N.dial_faults out.new.net) }
-    ensures port { result ≡ ServerStatus.PortFault → PortCause words.now.standby (H.bind_faults out.old.host) (H.bind_faults out.new.host) (N.dial_faults out.old.net) (N.dial_faults out.new.net) }
+    ensures disk { result ≡ ServerStatus.DiskFault → (H.open_faults out.old.host < H.open_faults out.new.host)
+        ⊎ ((is_some words.now.standby ≡ true) × MirrorCause N.Link.read_traffic (H.open_faults out.old.host) (H.open_faults out.new.host) (N.dial_faults out.old.net) (N.dial_faults out.new.net)) }
+    ensures port { result ≡ ServerStatus.PortFault → (H.bind_faults out.old.host < H.bind_faults out.new.host) ⊎ (N.dial_faults out.old.net < N.dial_faults out.new.net) }
     ensures ports_back { H.ports_out out.new.host ≡ H.ports_out out.old.host }
     ensures disks_back { result ≢ ServerStatus.OutOfMemory → H.disks_out out.new.host ≡ H.disks_out out.old.host }
 {

@@ -1,5 +1,5 @@
 // A placement over a disk of the host and its standby.
-ghost use Rattle.std.specs.Prelude.{◌≡◌, ◌≢◌, ◌⊎◌, ◌<◌, ◌≤◌, ◌+◌, [], ◌∷◌, List, Option, IsSome, IsTrue};
+ghost use Rattle.std.specs.Prelude.{◌≡◌, ◌≢◌, ◌⊎◌, ◌<◌, ◌≤◌, ◌+◌, false, None, [], ◌∷◌, List, Option, IsSome, IsTrue};
 ghost use Rattle.actor_ports.specs.Traffic.{TakesBack};
 ghost use Rattle.disk_model.specs.Disk.{DiskState};
 ghost use Rattle.server_ports.specs.Hosts.{Hands, place_of};
@@ -66,6 +66,7 @@ fn serve_mirrored<R: Threads + Wait + Sync, H: Host, N: Dial, K: Clock>(
     requires disk { 0 < H.disks_out host.old }
     requires link { 0 < N.room net.old }
     requires works { node.journal.is_broken ≡ false }
+    requires alone { node.journal.other ≡ None }
     ensures asks { AsksPorts (place_of words.now.server.listen) words.now.http (H.asked host.old) (H.asked host.new) }
     ensures disk_cause { result ≡ PlacementEnd.DiskFault → MirrorCause N.Link.read_traffic (H.open_faults host.old) (H.open_faults host.new) (N.dial_faults net.old) (N.dial_faults net.new) }
     ensures port_cause { result ≡ PlacementEnd.PortFault → H.bind_faults host.old < H.bind_faults host.new }

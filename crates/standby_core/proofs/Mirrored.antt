@@ -12,8 +12,8 @@ use Rattle.frame_wire.specs.Mirrors.{most_piece}
 use Rattle.frame_wire.specs.declared.mirror.MirrorCommand.{MirrorCommand}
 use Rattle.frame_wire.specs.declared.mirror.MirrorCommand.TheVariants.{Write, Cut, Sync}
 use Rattle.standby_core.specs.Replicas.{ArePieces}
-use Rattle.standby_core.specs.Telling.{AreDone, IsLost, MayRise, Asks, AsksAll}
-use Rattle.standby_core.specs.Mirrors.{MirrorState, IsOnly, IsWrite, BeginsWrite, Copies}
+use Rattle.standby_core.specs.Telling.{AreDone, IsLost, HasLost, MayRise, Asks, AsksAll}
+use Rattle.standby_core.specs.Mirrors.{MirrorState, IsOnly, IsWrite, BeginsWrite, IsUntold, Copies}
 use Rattle.standby_core.proofs.Told.{none_done, done_more, lost_more}
 
 abbrev Answered : Type 0
@@ -168,6 +168,25 @@ module _ {D L : Type 0} (told : D → Option DiskState) (traffic : L → Option 
   sync_mirrored tells h =
       subst (λ (x : MirrorState D L). Copies (λ (q : Answered). Tells (Syncs q) (told x.disk) y) (IsOnly Sync) (IsOnly Sync) (traffic x.link) b x.unheard v r) same
       (sync_copied (told m.disk) y (traffic m.link) b m.unheard v r tells h)
+
+-- ---- the answers that were lost
+
+module _ {L : Type 0} (traffic : L → Option Traffic) (l0 l1 : L) (u v : ℕ) where
+  -- one call was sent
+  pub one_lost : (call : MirrorCommand) (r : Answered) → HasLost traffic u → Asks call (traffic l0) (traffic l1) u v r → HasLost traffic v
+  one_lost call (Ok x) has h = subst (λ (n : ℕ). HasLost traffic n) (sym h.1) has
+  one_lost call (Err Failed) has h = inr (l0, l1, [], call, h.0)
+  one_lost call (Err OutOfMemory) has h = absurd h
+
+  -- those of a write were
+  pub write_lost : (Whole Front : List MirrorCommand → Type 0) (r : Answered) → HasLost traffic u → AsksAll Whole Front (traffic l0) (traffic l1) u v r → HasLost traffic v
+  write_lost Whole Front (Ok x) has h = subst (λ (n : ℕ). HasLost traffic n) (sym h.3) has
+  write_lost Whole Front (Err Failed) has h = inr (l0, l1, h.0, h.1, h.3)
+  write_lost Whole Front (Err OutOfMemory) has h = absurd h
+
+-- none was lost yet
+pub none_lost : {L : Type 0} (traffic : L → Option Traffic) (u : ℕ) → u ≡ 0 → HasLost traffic u
+none_lost traffic u is = inl is
 
 -- ---- the counts of a mirror
 

@@ -10,7 +10,8 @@ use Rattle.world_drill.proofs.Honest.{drill_honest}
 use Rattle.placement_command.specs.declared.command.PlacementEnd.TheVariants as places
 use Rattle.store_command.specs.declared.command.StoreEnd.TheVariants as stores
 use Rattle.actors_top.specs.Ran.{told_by}
-use Rattle.actors_top.proofs.Same.{nothing_written, no_placement, no_store, no_ports_asked, nothing_dialled}
+use Rattle.standby_command.specs.declared.command.StandbyEnd.TheVariants as standbys
+use Rattle.actors_top.proofs.Same.{nothing_written, no_placement, no_store, no_standby, no_ports_asked, nothing_dialled, none_dialled}
 use Rattle.actors_top.proofs.top.run.Goals as goal
 
 pub returns-in-Err-OutOfMemory-clause-scheduled : goal.returns-in-Err-OutOfMemory-clause-scheduled
@@ -21,7 +22,7 @@ returns-in-Err-OutOfMemory-clause-drilled g c = λ d is. (status.OutOfMemory, re
 
 pub returns-in-Err-OutOfMemory-clause-placed : goal.returns-in-Err-OutOfMemory-clause-placed
 returns-in-Err-OutOfMemory-clause-placed g c = λ p is.
-    (places.OutOfMemory, server.OutOfMemory, refl, no_placement p (g.T.Clock.shown c.args.out.now.steady) (told_by g.H.Host.asked g.H.Host.handed g.H.Host.open_faults g.H.Host.bind_faults c.args.out.now.host), (refl, nothing_written (g.W.Sink.contents c.args.out.now.output)), refl)
+    (places.OutOfMemory, server.OutOfMemory, refl, no_placement p (g.T.Clock.shown c.args.out.now.steady) (told_by g.H.Host.asked g.H.Host.handed g.H.Host.open_faults g.H.Host.bind_faults c.args.out.now.host), (refl, nothing_written (g.W.Sink.contents c.args.out.now.output)), refl, λ _. refl, none_dialled g.N.Link.Source.read_traffic p.standby (g.N.Dial.dialled c.args.out.now.net) places.OutOfMemory)
 
 pub returns-in-Err-OutOfMemory-clause-stored : goal.returns-in-Err-OutOfMemory-clause-stored
 returns-in-Err-OutOfMemory-clause-stored g c = λ p is.
@@ -32,3 +33,7 @@ returns-in-Err-OutOfMemory-clause-seated g c = λ s is. (ends.OutOfMemory, seat.
 
 pub returns-in-Err-OutOfMemory-clause-dialled : goal.returns-in-Err-OutOfMemory-clause-dialled
 returns-in-Err-OutOfMemory-clause-dialled g c = λ s is. nothing_dialled (place_at s.store) (place_at s.app_at) (g.N.Dial.dialled c.args.out.now.net)
+
+pub returns-in-Err-OutOfMemory-clause-stood_by : goal.returns-in-Err-OutOfMemory-clause-stood_by
+returns-in-Err-OutOfMemory-clause-stood_by g c = λ s is.
+    (standbys.OutOfMemory, server.OutOfMemory, refl, no_standby s (told_by g.H.Host.asked g.H.Host.handed g.H.Host.open_faults g.H.Host.bind_faults c.args.out.now.host), refl, refl)

@@ -1,0 +1,2 @@
+pub mod Sessions
+mod Kept
