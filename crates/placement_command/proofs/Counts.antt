@@ -1,5 +1,7 @@
 -- The counts of faults: of a node that has met one, and of a mirror.
-use Rattle.std.proofs.Common.{◌≡◌, ◌∙◌, ◌⊎◌, inl, inr, ℕ, ◌+◌, ◌<◌, Bool, true, false, List, [], ◌∷◌, Option, Some, None, Ok, Err, refl, sym, ap, subst, arith}
+use Rattle.std.proofs.Common.{◌≡◌, ◌∙◌, ◌⊎◌, inl, inr, ℕ, ◌+◌, ◌<◌, ◌≤◌, Bool, true, false, List, [], ◌∷◌, Option, Some, None, Ok, Err, refl, sym, ap, subst, arith}
+use Rattle.actor_ports.specs.declared.port.PortError.{PortError}
+use Rattle.actor_ports.specs.declared.port.PortError.TheVariants as ports
 use Rattle.actor_ports.specs.Traffic.{Traffic, Counts}
 use Rattle.step_gate.specs.History.{HistoryLeadsTo}
 use Rattle.tx_journal.specs.declared.error.JournalError.{JournalError}
@@ -13,6 +15,7 @@ use Rattle.placement_node.specs.Node.{NodeState, NodeAllows, Appended, Works, pa
 use Rattle.placement_node.specs.Replies.{Outcome, Done, NoMemory, NoRoom, Failed, Shut, outcome_of}
 use Rattle.placement_node.specs.Histories.{NodeHistory}
 use Rattle.standby_core.specs.Telling.{HasLost}
+use Rattle.standby_core.specs.Attaching.{AttachCause}
 use Rattle.placement_command.specs.Mirrors.{MirrorCause}
 
 clash : (b : Bool) → b ≡ true → b ≡ false → ⊥
@@ -94,3 +97,23 @@ mirror_cause traffic open0 open1 dial0 dial1 zero zero u opens dials (inr lost) 
 -- an error of an opening: the count rose, or is at its end
 pub rises_cause : (before after : ℕ) → Rises before after → 0 < after
 rises_cause before after rises = rises_above before after rises
+
+-- one of two has its cause
+pub either : {A B C : Type 0} → A ⊎ B → (A → C) → (B → C) → C
+either (inl a) f g = f a
+either (inr b) f g = g b
+
+module _ {L : Type 0} (traffic : L → Option Traffic) where
+  -- the dialler's count was lower before
+  pub cause_from : (open0 open1 dial dial0 dial1 : ℕ) → dial ≤ dial0 → MirrorCause traffic open0 open1 dial0 dial1 → MirrorCause traffic open0 open1 dial dial1
+  cause_from open0 open1 dial dial0 dial1 less (inl disk) = inl disk
+  cause_from open0 open1 dial dial0 dial1 less (inr (inl link)) = inr (inl (omega (arith, less, link)))
+  cause_from open0 open1 dial dial0 dial1 less (inr (inr lost)) = inr (inr lost)
+
+  -- a standby that got no copy, for this error
+  pub attach_cause : (open0 open1 dial0 dial1 d0 d1 l0 l1 : ℕ) (before after : L) (e : PortError) → e ≡ ports.Failed → Counts open0 open1 d1 → Counts dial0 dial1 l1
+      → AttachCause d0 d1 l0 l1 (traffic before) (traffic after) e → MirrorCause traffic open0 open1 dial0 dial1
+  attach_cause open0 open1 dial0 dial1 d0 d1 l0 l1 before after ports.Failed failed opens dials (inl disk) = inl (opens.rises.1 (omega (arith, disk)))
+  attach_cause open0 open1 dial0 dial1 d0 d1 l0 l1 before after ports.Failed failed opens dials (inr (inl link)) = inr (inl (dials.rises.1 (omega (arith, link))))
+  attach_cause open0 open1 dial0 dial1 d0 d1 l0 l1 before after ports.Failed failed opens dials (inr (inr lost)) = inr (inr (before, after, lost.0, lost.1, lost.2))
+  attach_cause open0 open1 dial0 dial1 d0 d1 l0 l1 before after ports.OutOfMemory failed opens dials cause = let never : ⊥ = cc in absurd never

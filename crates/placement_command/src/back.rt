@@ -3,7 +3,7 @@ ghost use Rattle.std.specs.Prelude.{◌≡◌, ◌≢◌, ◌<◌, ◌≤◌, �
 ghost use Rattle.server_ports.specs.declared.accept.ServerEnd.TheVariants.{Served};
 ghost use Rattle.server_ports.specs.Hosts.{Hands};
 ghost use Rattle.tx_journal.specs.Calls.{first_side};
-ghost use Rattle.placement_command.specs.Runs.{IsPortsEnd, IsServedEnd, given_back};
+ghost use Rattle.placement_command.specs.Runs.{IsPortsEnd, IsServedEnd, IsUncopied, given_back};
 
 use crate::command::PlacementEnd;
 use actor_ports::PortError;
@@ -40,6 +40,7 @@ pub(crate) fn unbound(error: PortError) -> PlacementEnd
     ensures port { result ≡ PlacementEnd.PortFault → error ≡ PortError.Failed }
     ensures others { result ≢ PlacementEnd.Done }
     ensures ports { IsPortsEnd result }
+    ensures either { IsUncopied result }
 {
     match error {
         PortError::Failed => PlacementEnd::PortFault,

@@ -1,11 +1,11 @@
 // A placement over a disk of the host and its standby.
-ghost use Rattle.std.specs.Prelude.{◌≡◌, ◌≢◌, ◌⊎◌, ◌<◌, ◌≤◌, ◌+◌, false, None, [], ◌∷◌, List, Option, IsSome, IsTrue};
+ghost use Rattle.std.specs.Prelude.{◌≡◌, ◌≢◌, ◌⊎◌, ◌<◌, ◌≤◌, ◌+◌, true, false, None, [], ◌∷◌, List, Option, IsSome, IsTrue};
 ghost use Rattle.actor_ports.specs.Traffic.{TakesBack};
 ghost use Rattle.disk_model.specs.Disk.{DiskState};
 ghost use Rattle.server_ports.specs.Hosts.{Hands, place_of};
 ghost use Rattle.placement_command.specs.Commands.{AsksBoth, AsksPorts};
 ghost use Rattle.placement_command.specs.Mirrors.{DialsStandby, GivesLink, MirrorCause};
-ghost use Rattle.placement_command.specs.Runs.{EndsNode, IsUnopened, RunsDisk, RunsMirrored, given_back};
+ghost use Rattle.placement_command.specs.Runs.{EndsNode, IsPortsEnd, IsServedEnd, IsUnopened, RunsDisk, RunsMirrored, given_back};
 
 use crate::back::{NodeBack, disk_end, unbound};
 use crate::command::PlacementEnd;
@@ -53,6 +53,20 @@ fn give_both<H: Host, N: Dial>(host: &mut H, net: &mut N, mirror: Mirror<H::Stor
     failed
 }
 
+// How the command ends by its ports, by whether the node has met a fault, and by whether the disk has failed.
+fn mirror_end(end: PlacementEnd, is_shut: bool, disk_failed: bool) -> PlacementEnd
+    requires { IsPortsEnd end }
+    ensures cause { result ≡ PlacementEnd.DiskFault → (is_shut ≡ true) ⊎ IsTrue disk_failed }
+    ensures port { result ≡ PlacementEnd.PortFault → end ≡ PlacementEnd.PortFault }
+    ensures done { result ≡ PlacementEnd.Done → (disk_failed ≡ false) × (end ≡ PlacementEnd.Done) }
+    ensures opened { IsServedEnd result }
+{
+    if is_shut {
+        return PlacementEnd::DiskFault;
+    }
+    disk_end(end, disk_failed)
+}
+
 // Serves the node, and gives back its disk and its link.
 fn serve_mirrored<R: Threads + Wait + Sync, H: Host, N: Dial, K: Clock>(
     rt: &R,
@@ -87,7 +101,7 @@ fn serve_mirrored<R: Threads + Wait + Sync, H: Host, N: Dial, K: Clock>(
             let is_shut = node.is_shut();
             let (mirror, _) = node.close();
             let failed = give_both(host, net, mirror);
-            disk_end(end, is_shut || failed)
+            mirror_end(end, is_shut, failed)
         }
     }
 }
