@@ -1,18 +1,18 @@
 -- A call that did nothing.
-use Rattle.std.proofs.Common.{◌≡◌, ◌⊎◌, ◌<◌, inl, inr, ℕ, true, List, [], ◌++◌, Option, Some, None, is_some, IfSome, refl, sym, subst}
+use Rattle.std.proofs.Common.{◌≡◌, ◌∙◌, ◌⊎◌, ◌<◌, inl, inr, ap, ℕ, true, List, [], ◌++◌, Option, Some, None, is_some, IfSome, refl, sym, subst}
 use Rattle.std.proofs.lemmas.List.{append-nil}
 use Rattle.actor_names.specs.declared.address.Address.{Address}
 use Rattle.actor_ports.specs.Traffic.{Place, Traffic, Dialled}
 use Rattle.server_ports.specs.Hosts.{Asked, nothing_handed, place_of}
 use Rattle.server_ports.proofs.Handed.{hands_nothing}
-use Rattle.command_words.specs.Reading.{Hosting, Placing, Standing}
+use Rattle.command_words.specs.Reading.{Hosting, Placing, Standing, Said, Placement}
 use Rattle.placement_command.specs.declared.command.PlacementEnd.{PlacementEnd}
 use Rattle.placement_command.specs.declared.command.PlacementEnd.TheVariants as places
 use Rattle.placement_command.specs.Mirrors.{DialsStandby, DiskCause, MirrorCause, PortCause}
 use Rattle.store_command.specs.declared.command.StoreEnd.TheVariants as stores
 use Rattle.standby_command.specs.declared.command.StandbyEnd.TheVariants as standbys
 use Rattle.standby_command.specs.Commands.{AsksOnly as AsksStandby}
-use Rattle.actors_top.specs.Ran.{HostTold, RanPlacement, RanStandby, RanStore}
+use Rattle.actors_top.specs.Ran.{HostTold, RanPlacement, RanStandby, RanStore, is_mirrored}
 use Rattle.placement_command.specs.Commands.{AsksOnly}
 use Rattle.store_command.specs.Commands.{AsksOnly as AsksStore}
 use Rattle.sidecar_command.specs.Commands.{AsksPorts, DialsOnly}
@@ -104,3 +104,10 @@ disk_by traffic (Some at) open0 open1 dial0 dial1 cause = inr (refl, cause)
 pub port_by : (standby : Option Address) (bind0 bind1 dial0 dial1 : ℕ) → PortCause standby bind0 bind1 dial0 dial1 → (bind0 < bind1) ⊎ (dial0 < dial1)
 port_by None bind0 bind1 dial0 dial1 cause = inl cause
 port_by (Some at) bind0 bind1 dial0 dial1 cause = cause
+
+-- a placement with a standby is what the words say
+pub disk_said : {L : Type 0} (traffic : L → Option Traffic) (said : Option Said) (p : Placing) (open0 open1 dial0 dial1 : ℕ) → said ≡ Some (Placement p)
+    → (open0 < open1) ⊎ ((is_some p.standby ≡ true) × MirrorCause traffic open0 open1 dial0 dial1)
+    → (open0 < open1) ⊎ ((is_mirrored said ≡ true) × MirrorCause traffic open0 open1 dial0 dial1)
+disk_said traffic said p open0 open1 dial0 dial1 is (inl disk) = inl disk
+disk_said traffic said p open0 open1 dial0 dial1 is (inr mirror) = inr (ap (λ (s : Option Said). is_mirrored s) is ∙ mirror.0, mirror.1)

@@ -1,5 +1,5 @@
 -- The counts of faults: of a node that has met one, and of a mirror.
-use Rattle.std.proofs.Common.{◌≡◌, ◌∙◌, ◌⊎◌, inl, inr, ℕ, ◌+◌, ◌<◌, ◌≤◌, Bool, true, false, List, [], ◌∷◌, Option, Some, None, Ok, Err, refl, sym, ap, subst, arith}
+use Rattle.std.proofs.Common.{◌≡◌, ◌∙◌, ◌⊎◌, inl, inr, ℕ, zero, suc, ◌+◌, ◌<◌, ◌≤◌, Bool, true, false, List, [], ◌∷◌, Option, Some, None, Ok, Err, refl, sym, ap, subst, arith}
 use Rattle.actor_ports.specs.declared.port.PortError.{PortError}
 use Rattle.actor_ports.specs.declared.port.PortError.TheVariants as ports
 use Rattle.actor_ports.specs.Traffic.{Traffic, Counts}

@@ -1,4 +1,4 @@
-use Rattle.std.proofs.Common.{refl}
+use Rattle.std.proofs.Common.{refl, rules, map, string_bytes}
 use Rattle.plain_commands.specs.declared.status.Status.TheVariants as status
 use Rattle.actors_top.specs.declared.server.ServerStatus.TheVariants as server
 use Rattle.actors_top.specs.declared.sidecar.SidecarStatus.TheVariants as seat
@@ -11,7 +11,9 @@ use Rattle.placement_command.specs.declared.command.PlacementEnd.TheVariants as 
 use Rattle.store_command.specs.declared.command.StoreEnd.TheVariants as stores
 use Rattle.actors_top.specs.Ran.{told_by}
 use Rattle.standby_command.specs.declared.command.StandbyEnd.TheVariants as standbys
-use Rattle.actors_top.proofs.Same.{nothing_written, no_placement, no_store, no_standby, no_ports_asked, nothing_dialled, none_dialled}
+use Rattle.command_words.specs.Reading.{reading}
+use Rattle.command_words.specs.Told.{told_placement}
+use Rattle.actors_top.proofs.Same.{nothing_written, no_placement, no_store, no_standby, no_ports_asked, nothing_dialled, none_dialled, disk_said}
 use Rattle.actors_top.proofs.top.run.Goals as goal
 
 pub returns-in-Err-OutOfMemory-clause-scheduled : goal.returns-in-Err-OutOfMemory-clause-scheduled
@@ -37,3 +39,7 @@ returns-in-Err-OutOfMemory-clause-dialled g c = λ s is. nothing_dialled (place_
 pub returns-in-Err-OutOfMemory-clause-stood_by : goal.returns-in-Err-OutOfMemory-clause-stood_by
 returns-in-Err-OutOfMemory-clause-stood_by g c = λ s is.
     (standbys.OutOfMemory, server.OutOfMemory, refl, no_standby s (told_by g.H.Host.asked g.H.Host.handed g.H.Host.open_faults g.H.Host.bind_faults c.args.out.now.host), refl, refl)
+
+pub returns-in-Ok-Placement-3-clause-disk : goal.returns-in-Ok-Placement-3-clause-disk
+returns-in-Ok-Placement-3-clause-disk g c = λ six.
+    disk_said g.N.Link.Source.read_traffic (reading (map string_bytes c.args.words.now)) (told_placement c.in-Ok-Placement.words) _ _ _ _ (rw c.in-Ok-Placement.field-0-is at c.in-Ok-Placement.ensures.read) (c.placement.ensures.disk (first_of (search rules, cc)))
