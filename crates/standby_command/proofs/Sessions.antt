@@ -1,7 +1,12 @@
 -- Sessions, one after the other.
-use Rattle.std.proofs.Common.{◌≡◌, ◌∙◌, ℕ, ◌+◌, List, [], ◌∷◌, ◌++◌, length, Option, Some, None, refl, sym, ap, subst, length-append}
+use Rattle.std.proofs.Common.{◌≡◌, ◌∙◌, ◌⊎◌, inl, inr, ℕ, ◌+◌, ◌<◌, ◌≤◌, List, [], ◌∷◌, ◌++◌, length, Option, Some, None, refl, sym, ap, subst, arith, length-append}
+use Rattle.actor_ports.specs.declared.port.PortError.{PortError}
+use Rattle.actor_ports.specs.declared.port.PortError.TheVariants as ports
+use Rattle.actor_ports.specs.declared.session.SessionEnd.{SessionEnd}
+use Rattle.actor_ports.specs.declared.session.SessionEnd.TheVariants as sessions
+use Rattle.actor_ports.specs.Traffic.{Traffic}
 use Rattle.disk_model.specs.Disk.{DiskState}
-use Rattle.standby_session.specs.Sessions.{IsStandby}
+use Rattle.standby_session.specs.Sessions.{IsStandby, BrokenCause}
 use Rattle.standby_command.specs.declared.command.StandbyEnd.{StandbyEnd}
 use Rattle.standby_command.specs.declared.command.StandbyEnd.TheVariants as ends
 use Rattle.standby_command.specs.Runs.{Served, next_end, ServesOn, Serves, ServesNext}
@@ -42,3 +47,31 @@ ends_by most n d0 mid d1 ends.DiskFault has next = (has.0, mid, has.2, next)
 -- as many as were asked for
 pub done_all : (most n : ℕ) (d0 d1 : Option DiskState) → n ≡ most → HasServed n d0 d1 → Serves (Some most) d0 d1 ends.Done
 done_all most n d0 d1 all has = (has.0, d1, has.2, (ap (λ (k : ℕ). Some k) (sym all ∙ sym has.1), refl))
+
+-- ---- the next session
+
+-- no further connection was accepted, or there was no memory for one
+pub none_next : (d : Option DiskState) (end : StandbyEnd) (e : PortError) → (((end ≡ ends.PortFault) × (e ≡ ports.Failed)) ⊎ (end ≡ ends.OutOfMemory)) → ServesNext d d (Some end)
+none_next d end e (inl is) = subst (λ (x : StandbyEnd). ServesNext d d (Some x)) (sym is.0) refl
+none_next d end e (inr is) = subst (λ (x : StandbyEnd). ServesNext d d (Some x)) (sym is) refl
+
+-- one was served
+session_next : (d0 d1 : Option DiskState) (t0 t1 : Option Traffic) (end : SessionEnd) → IsStandby d0 d1 t0 t1 end → ServesNext d0 d1 (next_end end)
+session_next d0 d1 t0 t1 (sessions.Broken n) is = (record { before = t0; after = t1; end = sessions.Broken n }, is, refl)
+session_next d0 d1 t0 t1 (sessions.Done n) is = (record { before = t0; after = t1; end = sessions.Done n }, is, refl)
+session_next d0 d1 t0 t1 (sessions.Malformed n) is = (record { before = t0; after = t1; end = sessions.Malformed n }, is, refl)
+session_next d0 d1 t0 t1 (sessions.ConnFault n) is = (record { before = t0; after = t1; end = sessions.ConnFault n }, is, refl)
+session_next d0 d1 t0 t1 (sessions.OutOfMemory n) is = (record { before = t0; after = t1; end = sessions.OutOfMemory n }, is, refl)
+session_next d0 d1 t0 t1 (sessions.Spent n count) is = (record { before = t0; after = t1; end = sessions.Spent n count }, is, refl)
+
+pub one_next : (d0 d1 : Option DiskState) (t0 t1 : Option Traffic) (end : SessionEnd) (o : Option StandbyEnd) → o ≡ next_end end → IsStandby d0 d1 t0 t1 end → ServesNext d0 d1 o
+one_next d0 d1 t0 t1 end o same is = subst (λ (x : Option StandbyEnd). ServesNext d0 d1 x) (sym same) (session_next d0 d1 t0 t1 end is)
+
+-- the disk's count rose if it ended the command
+pub one_cause : (a b : ℕ) (end : SessionEnd) → BrokenCause a b end → (a ≤ b) × (next_end end ≡ Some ends.DiskFault → a < b)
+one_cause a b (sessions.Broken n) cause = (omega (arith, cause), λ is. cause)
+one_cause a b (sessions.Done n) cause = (cause, λ is. let never : ⊥ = cc in absurd never)
+one_cause a b (sessions.Malformed n) cause = (cause, λ is. let never : ⊥ = cc in absurd never)
+one_cause a b (sessions.ConnFault n) cause = (cause, λ is. let never : ⊥ = cc in absurd never)
+one_cause a b (sessions.OutOfMemory n) cause = (cause, λ is. let never : ⊥ = cc in absurd never)
+one_cause a b (sessions.Spent n count) cause = (cause, λ is. let never : ⊥ = cc in absurd never)

@@ -25,7 +25,7 @@ fn next_end(end: SessionEnd) -> Option<StandbyEnd>
 
 // How the command ends if no further connection is accepted.
 fn unaccepted(error: PortError) -> StandbyEnd
-    ensures either { ((result ≡ StandbyEnd.PortFault) × (error ≡ PortError.Failed)) ⊎ (result ≡ StandbyEnd.OutOfMemory) }
+    ensures { ((result ≡ StandbyEnd.PortFault) × (error ≡ PortError.Failed)) ⊎ (result ≡ StandbyEnd.OutOfMemory) }
 {
     match error {
         PortError::Failed => StandbyEnd::PortFault,
