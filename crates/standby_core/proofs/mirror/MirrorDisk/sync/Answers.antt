@@ -1,4 +1,3 @@
-use Rattle.frame_wire.specs.declared.mirror.MirrorCommand.TheVariants.{Sync}
 use Rattle.standby_core.proofs.Mirrored.{sync_mirrored, one_lost}
 use Rattle.standby_core.proofs.mirror.MirrorDisk.sync.Goals as goal
 
@@ -8,4 +7,4 @@ returns-in-Ok-clause-copies g c =
 
 pub invariant_of-self-in-Ok : goal.invariant_of-self-in-Ok
 invariant_of-self-in-Ok g c =
-    one_lost g.L.Source.read_traffic _ c.tell_sync.new.self.link _ c.tell_sync.new.self.unheard Sync c.tell_sync.result c.self.invariant c.tell_sync.ensures.asks
+    one_lost g.L.Source.read_traffic c.self.inside.replica.link c.tell_sync.new.self.link c.self.inside.replica.unheard c.tell_sync.new.self.unheard _ c.tell_sync.result c.self.invariant c.tell_sync.ensures.asks
