@@ -1,10 +1,12 @@
-"""The application of examples/counter, with two more methods and with room for many connections at once.
+"""The application of examples/counter, with three more methods and with room for many connections at once.
 
     python3 application.py PORT SIDECAR_PORT NAME
 
     hold/SECONDS    reads the count, waits so long, and writes a count that is one higher
     busy/SECONDS    asks for the count ten times a second, for so long
+    long/BYTES      adds one to the count, and answers with so many bytes
 """
+import json
 import pathlib
 import sys
 import time
@@ -30,12 +32,20 @@ def busy(actor, seconds):
     return {"at": counter.NAME}
 
 
+def long(actor, length):
+    value = {"count": counter.add_one(actor, "count"), "at": counter.NAME, "rest": ""}
+    value["rest"] = "." * (length - len(json.dumps(value)))
+    return value
+
+
 def called(actor, method):
-    word, _, seconds = method.partition("/")
+    word, _, how_much = method.partition("/")
     if word == "hold":
-        return hold(actor, float(seconds))
+        return hold(actor, float(how_much))
     if word == "busy":
-        return busy(actor, float(seconds))
+        return busy(actor, float(how_much))
+    if word == "long":
+        return long(actor, int(how_much))
     return called_by_default(actor, method)
 
 
