@@ -74,6 +74,16 @@ def run_trial(trial):
     sys.exit(findings.status)
 
 
+def made_library(folder, source):
+    """A library made of a C file of this folder, for a process to load before all others; None without a compiler."""
+    compiler = shutil.which("cc")
+    if not compiler:
+        return None
+    library = (folder / source).with_suffix(".so")
+    subprocess.run([compiler, "-O1", "-shared", "-fPIC", "-o", library, HERE / source], check=True)
+    return library
+
+
 def await_so(holds, seconds):
     """Waits until something holds, for so long at most. Returns the seconds that it took, or None."""
     began = time.monotonic()
