@@ -4,7 +4,7 @@ use std::alloc::AllocError;
 use thiserror::Error;
 
 /// Why a text isn't a name of its form, in the order in which the faults are tested.
-#[derive(Clone, Copy, Debug, PartialEq, Eq, Error)]
+#[derive(Clone, Copy, Debug, Error)]
 pub enum NameError {
     /// The text, or the piece of it, is empty.
     #[error("an empty name")]

@@ -2,7 +2,7 @@
 
 /// How a session over a connection ended. `requests` is the number of messages that were read and whose answers were
 /// written whole.
-#[derive(Clone, Copy, Debug, PartialEq, Eq)]
+#[derive(Clone, Copy, Debug)]
 pub enum SessionEnd {
     /// The other end sent no more, and its last message was whole.
     Done { requests: u64 },

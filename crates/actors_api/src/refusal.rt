@@ -9,7 +9,7 @@ use thiserror::Error;
 use timer_book::TimerError;
 
 /// What is named by a part of a path or by a field of a head.
-#[derive(Clone, Copy, Debug, PartialEq, Eq)]
+#[derive(Clone, Copy, Debug)]
 pub enum ApiName {
     /// The actor's type.
     Type,
@@ -31,7 +31,7 @@ pub enum ApiName {
 
 /// Why a request isn't served, one variant for each row of the table of refusals. Those that `read_api` answers come
 /// first, in the order in which they are tested.
-#[derive(Clone, Copy, Debug, PartialEq, Eq, Error)]
+#[derive(Clone, Copy, Debug, Error)]
 pub enum ApiRefusal {
     /// The path leads nowhere; on the port for peers, any path but that of a call.
     #[error("no such route")]

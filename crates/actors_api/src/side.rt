@@ -1,7 +1,7 @@
 // Who asks.
 
 /// On which port a request came.
-#[derive(Clone, Copy, PartialEq, Eq)]
+#[derive(Clone, Copy)]
 pub enum Side {
     /// From an application, by the port for callers.
     Caller,

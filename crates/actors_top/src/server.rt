@@ -10,7 +10,7 @@ use std::alloc::{AllocError, Global};
 use store_command::StoreEnd;
 
 /// How a server ends, by the status that the program gives to its caller.
-#[derive(Clone, Copy, PartialEq, Eq)]
+#[derive(Clone, Copy)]
 pub enum ServerStatus {
     /// As many connections were served as the words say.
     Done = 0,

@@ -9,7 +9,7 @@ use sidecar_start::StartEnd;
 use std::alloc::Global;
 
 /// How a sidecar ends, by the status that the program gives to its caller.
-#[derive(Clone, Copy, PartialEq, Eq)]
+#[derive(Clone, Copy)]
 pub enum SidecarStatus {
     /// As many connections were served as the words say.
     Done = 0,

@@ -7,7 +7,7 @@ use schedule_text::ScheduleError;
 use thiserror::Error;
 
 /// Why a body isn't read, in the order in which the causes are tested.
-#[derive(Clone, Copy, Debug, PartialEq, Eq, Error)]
+#[derive(Clone, Copy, Debug, Error)]
 pub enum BodyError {
     /// The body isn't JSON of the stated form.
     #[error("malformed body")]

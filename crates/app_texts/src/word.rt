@@ -3,7 +3,7 @@ ghost use Rattle.std.specs.Prelude.{◌≡◌};
 ghost use Rattle.app_texts.specs.Words.{word_text, word_of};
 
 /// The word of a refusal, which is the error code of its body.
-#[derive(Clone, Copy, PartialEq, Eq)]
+#[derive(Clone, Copy)]
 pub enum RefusalWord {
     NoRoute,
     WrongMethod,

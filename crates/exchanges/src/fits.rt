@@ -13,7 +13,7 @@ use frame_wire::{Frame, MOST_DUE, Stamp, StoreCommand};
 use reminder_rows::DueKey;
 
 /// Some field doesn't fit.
-#[derive(Clone, Copy, Debug)]
+#[derive(Clone, Copy)]
 pub(crate) struct Unfit;
 
 // A name that takes no memory.

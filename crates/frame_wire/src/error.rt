@@ -4,7 +4,7 @@ use thiserror::Error;
 
 /// Why a stream gives no further frame, or why a frame isn't written. `at` is a place in the stream, in bytes from 0;
 /// it is exact in the first 2^64 - 1 bytes, and counts no further.
-#[derive(Clone, Copy, Debug, PartialEq, Eq, Error)]
+#[derive(Clone, Copy, Debug, Error)]
 pub enum FrameError {
     /// The byte `kind` at this place isn't a kind of frame.
     #[error("{kind} at byte {at} is no kind of frame")]

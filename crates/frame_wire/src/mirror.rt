@@ -16,7 +16,7 @@ pub enum MirrorCommand {
 }
 
 /// The answer to a call on the disk of a standby.
-#[derive(Clone, Copy, Debug, Drop, PartialEq, Eq)]
+#[derive(Clone, Copy, Debug, Drop)]
 pub enum MirrorAnswer {
     /// The call was done.
     Done,

@@ -1,7 +1,7 @@
 // Why the placement refuses a message.
 
 /// Why the placement refuses a message.
-#[derive(Clone, Copy, Debug, PartialEq, Eq)]
+#[derive(Clone, Copy, Debug)]
 pub enum Refusal {
     /// The boot isn't above `greatest`, the greatest one of its node, which is at most 2^62.
     StaleBoot { greatest: u64 },

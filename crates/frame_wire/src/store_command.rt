@@ -6,7 +6,7 @@ use state_rows::{StateKey, StateOp};
 use std::marker::Model;
 
 /// Tells one command of a part from every other: the member, its part, and the command's number.
-#[derive(Clone, Copy, Debug, PartialEq, Eq)]
+#[derive(Clone, Copy, Debug)]
 pub struct Stamp {
     /// The member.
     pub member: Member,

@@ -5,7 +5,7 @@ ghost use Rattle.frame_wire.specs.StoreParts.{store_refusal_tag};
 use schedule_text::Moment;
 
 /// Why the store refuses a command. The last three are said of epochs, which only a store with a fence knows. `op` is the index of an operation, counted from 0.
-#[derive(Clone, Copy, Debug, PartialEq, Eq)]
+#[derive(Clone, Copy, Debug)]
 pub enum StoreRefusal {
     /// The boot of the stamp isn't `greatest`, the greatest one of its node, which is at most 2^62, and 0 for an
     /// unknown node.

@@ -6,7 +6,7 @@ use actor_ports::PortError;
 use thiserror::Error;
 
 /// Why a connection gave no further message, in the order in which it is tested.
-#[derive(Clone, Copy, Debug, PartialEq, Eq, Error)]
+#[derive(Clone, Copy, Debug, Error)]
 pub enum EdgeError {
     /// What came isn't a head or a trailer part, whatever follows; or a reply's status is below 200.
     #[error("malformed head")]

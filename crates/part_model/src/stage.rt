@@ -15,7 +15,7 @@ pub enum Stage {
 }
 
 /// The stage of a part as a receipt gives it.
-#[derive(Clone, Copy, PartialEq, Eq)]
+#[derive(Clone, Copy)]
 pub enum SeenStage {
     /// No new chain begins.
     Locked,

@@ -15,7 +15,7 @@ use std::sync::Wait;
 use std::thread::Threads;
 
 /// How the command ended.
-#[derive(Clone, Copy, PartialEq, Eq)]
+#[derive(Clone, Copy)]
 pub enum PlacementEnd {
     /// As many connections were served as the words say.
     Done,
@@ -25,7 +25,8 @@ pub enum PlacementEnd {
     PortFault,
     /// The file isn't a placement's journal, or has no room for the record of the restart, at this offset.
     Damaged { offset: u64 },
-    /// There was no memory to start.
+    /// There was no memory; or the server was over though no disk has failed, as it is once its gate takes no further
+    /// step.
     OutOfMemory,
 }
 

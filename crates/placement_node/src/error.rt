@@ -8,7 +8,7 @@ use thiserror::Error;
 use tx_journal::JournalError;
 
 /// Why a node isn't opened.
-#[derive(Clone, Copy, Debug, PartialEq, Eq, Error)]
+#[derive(Clone, Copy, Debug, Error)]
 pub enum PlacementOpenError {
     /// The journal isn't opened; `Damaged` also at a payload that is no record of a placement, and `Full` also if there
     /// is no room for the record of the restart.

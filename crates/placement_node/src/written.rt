@@ -56,7 +56,7 @@ fn put_record(placement: &Placement, out: &mut Vec<u8>) -> Result<bool, OutOfMem
 }
 
 /// What came of a record that was to be written.
-#[derive(Clone, Copy, PartialEq, Eq)]
+#[derive(Clone, Copy)]
 pub(crate) enum Kept {
     /// It is on the disk, or there was nothing to write.
     Done,

@@ -34,7 +34,7 @@ pub enum PlaceEvent {
 }
 
 /// What a placement answers.
-#[derive(Clone, Copy, Debug, PartialEq, Eq)]
+#[derive(Clone, Copy, Debug)]
 pub enum PlaceReply {
     /// The member is to lock for the table of `version`.
     Lock { version: u64 },

@@ -2,7 +2,7 @@
 use place_table::AckStage;
 
 /// Whether a round is running, and in which stage; its version is the last one used.
-#[derive(Clone, Copy, PartialEq, Eq)]
+#[derive(Clone, Copy)]
 pub enum RoundPhase {
     /// No round is running.
     Quiet,

@@ -15,7 +15,7 @@ use std::alloc::Global;
 use thiserror::Error;
 
 /// Why no room is restored from some records.
-#[derive(Clone, Copy, Debug, PartialEq, Eq, Error)]
+#[derive(Clone, Copy, Debug, Error)]
 pub enum RestoreError {
     /// The record at `index`, counted from 0, is the first bad one: it removes somebody who isn't a member, it joins
     /// a node that has a member, a boot that isn't above the node's greatest one, a 257th member or a 65,537th

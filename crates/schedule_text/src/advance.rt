@@ -3,10 +3,10 @@ ghost use Rattle.std.specs.Prelude.{◌≡◌, ◌<◌, ◌-◌, false, option_m
 ghost use Rattle.schedule_text.specs.Firing.{add_period, following, next_firing, next_at, is_zero, is_last, is_before_end};
 
 use crate::calendar::months_on;
-use crate::moment::{END_OF_TIME, Moment};
+use crate::moment::Moment;
 
 /// The time from one firing to the next: calendar months, then nanoseconds.
-#[derive(Clone, Copy, Debug, PartialEq, Eq)]
+#[derive(Clone, Copy, Debug)]
 pub struct Period {
     /// Calendar months; a day that the month lacks becomes its last day.
     pub months: u32,
@@ -15,7 +15,7 @@ pub struct Period {
 }
 
 /// When something fires.
-#[derive(Clone, Copy, Debug, PartialEq, Eq)]
+#[derive(Clone, Copy, Debug)]
 pub struct Schedule {
     /// The first firing; `None` if there is none at all.
     pub first: Option<Moment>,
@@ -28,7 +28,7 @@ pub struct Schedule {
 }
 
 /// What follows a firing.
-#[derive(Clone, Copy, Debug, PartialEq, Eq)]
+#[derive(Clone, Copy, Debug)]
 pub enum Next {
     /// The next firing, and how many firings are allowed from this one on.
     At { moment: Moment, left: Option<u32> },

@@ -4,7 +4,7 @@ use thiserror::Error;
 
 /// Why a text isn't a moment or a schedule, in the order in which the faults of one text are found. Places are in
 /// bytes from 0; a text that ends too early has its fault at its length.
-#[derive(Clone, Copy, Debug, PartialEq, Eq, Error)]
+#[derive(Clone, Copy, Debug, Error)]
 pub enum ScheduleError {
     /// The byte at `at` can't be there in a moment, or the field that begins at `at` is out of its range.
     #[error("a bad moment at {at}")]

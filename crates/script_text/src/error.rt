@@ -1,10 +1,9 @@
 // Why a line of a cluster script is refused.
 use actor_names::OutOfMemory;
-use std::alloc::AllocError;
 use thiserror::Error;
 
 /// Why a line of a cluster script isn't read.
-#[derive(Clone, Copy, Debug, PartialEq, Eq, Error)]
+#[derive(Clone, Copy, Debug, Error)]
 pub enum LineError {
     /// The first word that isn't allowed begins at this column, from 1 and in bytes; or a word is missing there, one
     /// past the line's end.

@@ -14,7 +14,7 @@ use std::thread;
 use std::thread::{SpawnError, Threads};
 
 /// How a loop over the connections of a port ended.
-#[derive(Clone, Copy, PartialEq, Eq)]
+#[derive(Clone, Copy)]
 pub enum ServerEnd {
     /// As many connections were accepted as were asked for.
     Served,

@@ -4,7 +4,7 @@
 pub const SHORT_PAUSE_MS: u64 = 50;
 
 /// What a thread of a server is asked to do with its pass, beside the connections.
-#[derive(Clone, Copy, PartialEq, Eq)]
+#[derive(Clone, Copy)]
 pub enum Duty {
     /// One turn of the work of this number.
     Turn(u32),

@@ -15,7 +15,7 @@ use std::alloc::Global;
 use std::sync::Wait;
 
 /// What follows the sessions of a case.
-#[derive(Clone, Copy, PartialEq, Eq)]
+#[derive(Clone, Copy)]
 pub(crate) enum Then {
     Nothing,
     /// A tick, and a turn with the reminders.

@@ -7,7 +7,7 @@ use crate::clocked::{close_idle, look, run_reminders, run_timers};
 use crate::pass::Pass;
 use crate::service::SidecarService;
 use actor_ports::{Clock, Dial};
-use server_ports::{Duty, SHORT_PAUSE_MS};
+use server_ports::{Duty, pause_for};
 use std::sync::Wait;
 
 // The works: the turns with the placement, the watch, timers and reminders. All that follow deactivate the actors whose time
@@ -27,11 +27,11 @@ const TIMERS_PAUSE_MS: u64 = 100;
 
 const REMINDERS_PAUSE_MS: u64 = 1_000;
 
-// How long a work waits between two turns.
-fn pause_of(work: u32) -> u64 {
-    match work {
-        TIMERS => TIMERS_PAUSE_MS,
-        REMINDERS => REMINDERS_PAUSE_MS,
+// How long a work rests between two turns.
+fn rest_of(duty: Duty) -> u64 {
+    match duty {
+        Duty::Rest(TIMERS) => TIMERS_PAUSE_MS,
+        Duty::Rest(REMINDERS) => REMINDERS_PAUSE_MS,
         _ => USUAL_PAUSE_MS,
     }
 }
@@ -89,14 +89,9 @@ pub(crate) fn do_duty<R: Wait, A: Dial, P: Dial, N: Dial, K: Clock>(
 {
     match duty {
         Duty::Turn(work) => turn(rt, service, work, pass),
-        Duty::Rest(work) => {
+        Duty::Rest(_) | Duty::Pause => {
             let mut pass = pass;
-            pass.clock.pause(pause_of(work));
-            pass
-        }
-        Duty::Pause => {
-            let mut pass = pass;
-            pass.clock.pause(SHORT_PAUSE_MS);
+            pause_for(&mut pass.clock, duty, rest_of(duty));
             pass
         }
         Duty::Finish(work) => {

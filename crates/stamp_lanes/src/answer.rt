@@ -2,7 +2,7 @@
 use schedule_text::Next;
 
 /// The answer that an accepted command was given.
-#[derive(Clone, Copy, Debug, PartialEq, Eq)]
+#[derive(Clone, Copy)]
 pub enum LaneAnswer {
     /// It is done; `existed` says whether there was what it removed.
     Done { existed: bool },
@@ -11,7 +11,7 @@ pub enum LaneAnswer {
 }
 
 /// The number of an accepted command, and its answer.
-#[derive(Clone, Copy, Debug, PartialEq, Eq)]
+#[derive(Clone, Copy)]
 pub struct KeptNumber {
     /// The number, counted by the part of the member.
     pub number: u64,
@@ -20,7 +20,7 @@ pub struct KeptNumber {
 }
 
 /// How a stamp stands in its lane, if it isn't refused.
-#[derive(Clone, Copy, PartialEq, Eq)]
+#[derive(Clone, Copy)]
 pub enum StampLook {
     /// It wasn't accepted yet, and may be.
     Fresh,

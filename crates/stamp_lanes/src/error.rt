@@ -3,7 +3,7 @@ use actor_names::OutOfMemory;
 use thiserror::Error;
 
 /// Why no boot is drawn, in the order in which the causes are tested. Nothing has changed.
-#[derive(Clone, Copy, Debug, PartialEq, Eq, Error)]
+#[derive(Clone, Copy, Debug, Error)]
 pub enum BootError {
     /// There are 65,536 nodes already, `nodes`, and this would be a new one.
     #[error("{nodes} nodes already")]
@@ -17,7 +17,7 @@ pub enum BootError {
 }
 
 /// Why a stamp is refused, in the order in which the causes are tested; a number that is kept comes between the two.
-#[derive(Clone, Copy, Debug, PartialEq, Eq, Error)]
+#[derive(Clone, Copy, Debug, Error)]
 pub enum StampError {
     /// The member's boot isn't the one drawn last for its node, `greatest`; 0 for a node that never drew one.
     #[error("the last boot of the node is {greatest}")]
@@ -28,7 +28,7 @@ pub enum StampError {
 }
 
 /// Why a row isn't read back, in the order in which the causes are tested. Nothing has changed.
-#[derive(Clone, Copy, Debug, PartialEq, Eq, Error)]
+#[derive(Clone, Copy, Debug, Error)]
 pub enum RestoreError {
     /// The node has a boot already.
     #[error("a second boot of one node")]

@@ -2,7 +2,7 @@
 
 /// Which waiting calls a reply may be news for. A gate wakes these calls. A call that isn't woken polls again by itself
 /// when the gate's pause is over.
-#[derive(Clone, Copy, PartialEq, Eq)]
+#[derive(Clone, Copy)]
 pub enum News {
     /// No waiting call is ready now that wasn't ready before.
     Nobody,

@@ -4,7 +4,7 @@ use thiserror::Error;
 
 /// Why a transaction is refused. Its length is tested first, and then each operation, its key before its value; the
 /// first fault counts. `op` is the index of the operation, counted from 0.
-#[derive(Clone, Copy, Debug, PartialEq, Eq, Error)]
+#[derive(Clone, Copy, Debug, Error)]
 pub enum StateError {
     /// There are `n` operations, more than 1,000.
     #[error("{n} operations")]

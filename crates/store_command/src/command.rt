@@ -17,7 +17,7 @@ use std::sync::Wait;
 use std::thread::Threads;
 
 /// How the command ended.
-#[derive(Clone, Copy, Debug, PartialEq, Eq)]
+#[derive(Clone, Copy)]
 pub enum StoreEnd {
     /// As many connections were served as the words say.
     Done,
@@ -28,7 +28,8 @@ pub enum StoreEnd {
     /// The files aren't a store's journal: the one that counts ceases to be one at this offset, or is too long, or is of
     /// the first format and can't be written anew.
     Damaged { offset: u64 },
-    /// There was no memory to start.
+    /// There was no memory; or the server was over though no disk has failed, as it is once its gate takes no further
+    /// step.
     OutOfMemory,
 }
 

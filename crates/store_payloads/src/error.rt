@@ -9,7 +9,7 @@ use thiserror::Error;
 use wire_fields::Fault;
 
 /// Why a payload isn't read.
-#[derive(Clone, Copy, Debug, PartialEq, Eq, Error)]
+#[derive(Clone, Copy, Debug, Error)]
 pub enum PayloadError {
     /// The bytes are the spelling of no payload.
     #[error("no payload of the store")]

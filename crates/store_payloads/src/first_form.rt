@@ -1,7 +1,7 @@
 // Payloads of the first form, in which no space stood.
 ghost use Rattle.std.specs.Prelude.{◌≡◌, ◌++◌, None, Some, if◌then◌else◌, option_map, IfOk, OnOk};
 ghost use Rattle.store_payloads.specs.Fits.{PayloadFits};
-ghost use Rattle.store_payloads.specs.FirstForm.{default_space, is_stamped, stamp_length, spaced_stamp, spaced_fields, spaced, is_short_op, are_short, is_short_command, is_short, first_reading, reading_in, is_first_payload};
+ghost use Rattle.store_payloads.specs.FirstForm.{default_space, is_stamped, stamp_length, spaced_stamp, spaced_fields, spaced, is_short_op, are_short, is_short_command, is_short, first_reading, reading_in};
 ghost use Rattle.store_payloads.specs.Gives.{GivesPart};
 
 use crate::error::PayloadError;
@@ -162,30 +162,4 @@ pub(crate) fn read_in(
         return read_first(alloc, payload);
     }
     read_payload(alloc, payload)
-}
-
-// Lets what was read go, in a call of its own.
-fn end<T: Drop>(_value: T) {}
-
-/// Whether a file that begins with this payload has payloads of the first form, in which no space stood: it has no
-/// reading, but had one then.
-pub fn is_first_payload(alloc: Global, payload: &[u8]) -> Result<bool, OutOfMemory>
-    ensures { IfOk result (λ is. is ≡ is_first_payload payload.now) }
-{
-    match read_payload(alloc, payload) {
-        Ok(read) => {
-            end(read);
-            return Ok(false);
-        }
-        Err(PayloadError::NoReading) => {}
-        Err(PayloadError::OutOfMemory) => return Err(OutOfMemory),
-    }
-    match read_first(alloc, payload) {
-        Ok(read) => {
-            end(read);
-            Ok(true)
-        }
-        Err(PayloadError::NoReading) => Ok(false),
-        Err(PayloadError::OutOfMemory) => Err(OutOfMemory),
-    }
 }

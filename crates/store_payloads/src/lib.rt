@@ -17,7 +17,6 @@ mod rows;
 mod writing;
 
 pub use error::PayloadError;
-pub use first_form::is_first_payload;
 pub use fold::StoreFold;
 pub use law::payload_law;
 pub use payload::{PayloadBody, StorePayload};

@@ -19,7 +19,7 @@ pub(crate) const USUAL_LEAST: u64 = 67_108_864;
 const MOST_BYTES: u64 = 1_073_741_824;
 
 /// What came of a compaction, to the loop that asks for them.
-#[derive(Clone, Copy, PartialEq, Eq)]
+#[derive(Clone, Copy)]
 pub(crate) enum Compaction {
     /// The file was written anew.
     Made,

@@ -3,7 +3,7 @@ use actor_names::OutOfMemory;
 use thiserror::Error;
 
 /// Why a call of a book is refused, in the order in which the causes are tested; the book is as before.
-#[derive(Clone, Copy, Debug, PartialEq, Eq, Error)]
+#[derive(Clone, Copy, Debug, Error)]
 pub enum TimerError {
     /// The actor has 1,024 timers, and none of this name.
     #[error("the actor has 1024 timers")]

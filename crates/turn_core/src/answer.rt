@@ -2,7 +2,7 @@
 use thiserror::Error;
 
 /// What happened to a call that asked for a turn.
-#[derive(Clone, Copy, PartialEq, Eq)]
+#[derive(Clone, Copy)]
 pub enum Asked {
     /// Its turn is open.
     Begun,
@@ -11,7 +11,7 @@ pub enum Asked {
 }
 
 /// Why a call was refused; the cell is as before.
-#[derive(Clone, Copy, Debug, PartialEq, Eq, Error)]
+#[derive(Clone, Copy, Debug, Error)]
 pub enum CellError {
     /// The call's chain already has as many open turns as the depth allows.
     #[error("{turns} turns of the chain are open")]
@@ -25,7 +25,7 @@ pub enum CellError {
 }
 
 /// The outcome of ending a turn.
-#[derive(Clone, Copy, PartialEq, Eq)]
+#[derive(Clone, Copy)]
 pub enum CellEnd {
     /// It has ended. If `next` is a call, the turn of that call has begun.
     Ended { next: Option<u64> },
@@ -36,7 +36,7 @@ pub enum CellEnd {
 }
 
 /// The state of a call.
-#[derive(Clone, Copy, PartialEq, Eq)]
+#[derive(Clone, Copy)]
 pub enum CellPoll {
     /// Its turn is open.
     Begun,
@@ -49,6 +49,6 @@ pub enum CellPoll {
 }
 
 /// There is no hold to release.
-#[derive(Clone, Copy, Debug, PartialEq, Eq, Error)]
+#[derive(Clone, Copy, Debug, Error)]
 #[error("nothing is held")]
 pub struct NotHeld;

@@ -12,7 +12,7 @@ use disk_model::Disk;
 use std::alloc::Global;
 
 // A record's index, and the place of the gate before it.
-#[derive(Clone, Copy, PartialEq, Eq)]
+#[derive(Clone, Copy)]
 pub(crate) struct Cursor {
     pub(crate) index: u64,
     pub(crate) gate: u64,

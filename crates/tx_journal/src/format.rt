@@ -3,7 +3,7 @@ ghost use Rattle.std.specs.Prelude.{◌≡◌, ◌∷◌, [], ◌++◌};
 ghost use Rattle.tx_journal.specs.File.{name};
 
 /// The format of a file: the first, for a file of its own, or the second, for a file that was made in a pair.
-#[derive(Clone, Copy, PartialEq, Eq)]
+#[derive(Clone, Copy)]
 pub enum Format {
     One,
     Two,

@@ -1,7 +1,7 @@
 // What a drill counts.
 
 /// What a drill counts.
-#[derive(Clone, Copy, PartialEq, Eq)]
+#[derive(Clone, Copy)]
 pub struct DrillCounts {
     /// The steps.
     pub steps: u64,

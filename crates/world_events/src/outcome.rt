@@ -6,7 +6,7 @@ use round_core::PlaceReply;
 
 /// What comes of a call, of its end or poll, and of a hold, in both kinds of world. Calls are given by the script's
 /// numbers.
-#[derive(Clone, Copy, PartialEq, Eq)]
+#[derive(Clone, Copy)]
 pub enum TurnOutcome {
     /// The call's turn is open.
     Begun { call: u64 },
