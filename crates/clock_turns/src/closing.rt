@@ -24,7 +24,7 @@ pub struct Closings {
 }
 
 /// Takes every actor that may be deactivated at this moment, part by part in order, and deactivates it: its timers are
-/// dropped, the application at this address is told, and the part hears that this is over, whatever came back. A fault of
+/// dropped, the application at this address is told, and its part is told that this is over, whatever came back. A fault of
 /// the application's connection doesn't end it.
 pub fn close_cells<R: Wait, L: Dial>(
     rt: &R,

@@ -28,7 +28,7 @@ fn fitting(asked: &Frame, answer: StoreAnswer) -> Result<StoreAnswer, StoreEnd>
     }
 }
 
-/// What the frame comes to that was read, or the cause for which none was.
+/// The answer in the frame that was read, or why none was.
 pub(crate) fn answer_in(
     asked: &Frame,
     got: Result<Frame, FrameEnd>,

@@ -46,7 +46,7 @@ fn are_stopped(alloc: Global, host: &HostInfo, stops: &[Result<PartReply, Spent>
     }
 }
 
-// How the turn ends by what was read.
+// How the turn ended, given the frame that was read.
 fn leave_end(space: &Space, got: &Result<Frame, FrameEnd>) -> TurnEnd
     ensures { result ≡ leave_end space.now got.now }
 {

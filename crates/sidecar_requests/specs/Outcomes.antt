@@ -43,7 +43,7 @@ done_answer wanted.DeleteReminder = api.ReminderDeleted
 done_answer wanted.State = refused refusals.StoreReply
 done_answer wanted.Reminder = refused refusals.StoreReply
 
--- what it comes to that there is nothing; it is no answer to the others
+-- the reply where there is no such entry; it is no answer to the others
 abbrev pub missing_answer : Wanted → ApiReply
 missing_answer wanted.State = api.NoState
 missing_answer wanted.Reminder = refused refusals.NoReminder

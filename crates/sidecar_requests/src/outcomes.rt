@@ -29,7 +29,7 @@ pub(crate) fn refusal_of(reply: PartReply) -> ApiRefusal
     }
 }
 
-// What it comes to that something was done.
+// The reply to a command that was carried out.
 fn done_answer(wanted: Wanted) -> ApiReply
     ensures { result ≡ done_answer wanted }
 {
@@ -41,7 +41,7 @@ fn done_answer(wanted: Wanted) -> ApiReply
     }
 }
 
-// What it comes to that there is nothing.
+// The reply where there is no such entry.
 fn missing_answer(wanted: Wanted) -> ApiReply
     ensures { result ≡ missing_answer wanted }
 {

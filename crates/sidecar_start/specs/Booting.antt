@@ -18,7 +18,7 @@ use Rattle.sidecar_start.specs.declared.words.StartWords.{StartWords}
 abbrev pub boot_frame : StartWords → Frame
 boot_frame w = Command (Boot w.space w.node)
 
--- What the frame comes to that was read, or that none was: a boot, a refusal by its code; else nothing, and then the
+-- What the store's frame says, or that none was read: a boot, a refusal by its code; else nothing, and then the
 -- store is asked again.
 abbrev pub boot_in : Result Frame FrameEnd → Result (Option ℕ) StartEnd
 boot_in (Ok (Answer (Booted n))) = Ok (Some n)

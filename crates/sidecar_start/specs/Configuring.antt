@@ -33,7 +33,7 @@ pub record SaysConfig (body : List ℕ) (got : Result (Option AppConfig) StartEn
 abbrev pub ReplyComes : HttpResponse → Result (Option AppConfig) StartEnd → Type 0
 ReplyComes r got = ((r.status ≡ 200) × SaysConfig r.body got) ⊎ ((r.status ≢ 200) × (got ≡ Err (AppStatus r.status)))
 
--- what the reply comes to that was read, or the cause for which there is none: after a fault of the link nothing, and
+-- what the application's reply says, or why there is none: after a fault of the link nothing, and
 -- then the application is asked again
 abbrev pub ConfigComes : Result HttpResponse EdgeError → Result (Option AppConfig) StartEnd → Type 0
 ConfigComes (Ok r) got = ReplyComes r got

@@ -59,7 +59,7 @@ fn answer_in(answer: &StoreAnswer) -> Result<Option<u64>, StartEnd>
     }
 }
 
-/// What the frame comes to that was read, or that none was.
+/// What the store's frame says, or that none was read.
 fn boot_in(read: &Result<Frame, FrameEnd>) -> Result<Option<u64>, StartEnd>
     ensures { result ≡ boot_in read.now }
 {

@@ -58,7 +58,7 @@ fn reply_in(alloc: Global, reply: &HttpResponse) -> Result<Option<AppConfig>, St
     config_in(alloc, reply.body.as_slice())
 }
 
-/// What the reply comes to that was read, or the cause for which there is none.
+/// What the application's reply says, or why there is none.
 fn read_in(
     alloc: Global,
     read: &Result<HttpResponse, EdgeError>,
