@@ -14,7 +14,7 @@ use crate::line_end::{LineEnd, line_end_of};
 use script_text::{Setting, SoloLine, Transcript, read_solo_line};
 use solo_run::SoloWorld;
 use std::alloc::Global;
-use world_events::{SoloEvent, WorldError};
+use world_events::SoloEvent;
 
 /// The world of a solo script, and whether an event line has come.
 #[derive(Drop)]

@@ -3,7 +3,7 @@ ghost use Rattle.std.specs.Prelude.{◌≡◌, ◌<◌, ◌-◌, false, option_m
 ghost use Rattle.schedule_text.specs.Firing.{add_period, following, next_firing, next_at, is_zero, is_last, is_before_end};
 
 use crate::calendar::months_on;
-use crate::moment::{END_OF_TIME, Moment};
+use crate::moment::Moment;
 
 /// The time from one firing to the next: calendar months, then nanoseconds.
 #[derive(Clone, Copy, Debug)]

@@ -1,6 +1,5 @@
 // Why a line of a cluster script is refused.
 use actor_names::OutOfMemory;
-use std::alloc::AllocError;
 use thiserror::Error;
 
 /// Why a line of a cluster script isn't read.

@@ -4,8 +4,8 @@ ghost use Rattle.actor_names.specs.Names.{default_space};
 ghost use Rattle.world_drill.specs.Drill.{counter};
 
 use actor_names::{
-    ActorId, ActorKey, ActorType, ChainId, Node, OutOfMemory, default_space, read_actor_id,
-    read_actor_type, read_chain_id, read_node,
+    ActorKey, ActorType, ChainId, Node, OutOfMemory, default_space, read_actor_id, read_actor_type,
+    read_chain_id, read_node,
 };
 use std::alloc::Global;
 
