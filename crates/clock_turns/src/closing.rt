@@ -1,9 +1,10 @@
 // The actors of all parts whose time is over.
-ghost use Rattle.std.specs.Prelude.{◌≡◌, ◌≤◌, ◌||◌};
+ghost use Rattle.std.specs.Prelude.{◌≡◌, ◌≤◌};
 ghost use Rattle.sidecar_node.specs.Nodes.{IsSeatsOf};
 ghost use Rattle.clock_turns.specs.Closings.{ClosesCells, turn_end, ClosingTurn, TickCause};
 
 use crate::closing_stand::Stand;
+use crate::counting::either;
 use crate::ends::TickEnd;
 use crate::taking::{Taken, take_one};
 use actor_names::Address;
@@ -20,13 +21,6 @@ pub struct Closings {
     pub faulted: bool,
     /// What ended them before the last part was through, if something did.
     pub end: Option<TickEnd>,
-}
-
-// Whether one of the two is.
-fn either(a: bool, b: bool) -> bool
-    ensures { result ≡ (a || b) }
-{
-    a || b
 }
 
 /// Takes every actor that may be deactivated at this moment, part by part in order, and deactivates it: its timers are
