@@ -1,5 +1,5 @@
 -- How far the takings of a turn have come.
-use Rattle.std.proofs.Common.{◌≡◌, ◌⊎◌, ◌∙◌, ℕ, ◌<◌, ◌≤◌, Bool, true, false, List, [], ◌∷◌, ◌++◌, length, Option, Some, None, Ok, Err, refl, sym, ap, ap₂, subst, arith, inl, inr, append_assoc}
+use Rattle.std.proofs.Common.{◌≡◌, ◌∙◌, ℕ, ◌<◌, ◌≤◌, Bool, true, false, List, [], ◌∷◌, ◌++◌, length, Option, Some, None, Ok, Err, refl, sym, ap, ap₂, subst, append_assoc}
 use Rattle.std.proofs.lemmas.Bool.{true≢false}
 use Rattle.std.proofs.lemmas.List.{append-nil}
 use Rattle.std.specs.Prelude.{◌||◌}
@@ -20,6 +20,7 @@ use Rattle.clock_turns.specs.declared.ends.TickEnd.{TickEnd}
 use Rattle.clock_turns.specs.declared.closing_stand.Stand.{Stand}
 use Rattle.clock_turns.specs.declared.closing_stand.Stand.TheVariants.{On, Over}
 use Rattle.clock_turns.specs.Closings.{Closing, Taking, IsTold, IsTaking, stand, take_entries, asked_of, fault_in, entries_of, exchanges_of, any_fault, GoesOn, ClosesCells}
+use Rattle.clock_turns.proofs.Counts.{either_rises}
 use Rattle.clock_turns.proofs.Faults.{fault_counts, never_falls}
 
 -- ---- one taking more
@@ -87,16 +88,6 @@ Takes app now part before after t0 t1 f0 f1 fault place =
     × Dialling (asked_of closing) t0 t1 f0 f1
     × (fault ≡ fault_in closing) × (place ≡ stand part said closing)
 
-or_either : (a b : Bool) → (a || b) ≡ true → (a ≡ true) ⊎ (b ≡ true)
-or_either true b e = inl refl
-or_either false b e = inr e
-
-rises_then : (faulted fault : Bool) (f0 f1 f2 : ℕ) → (faulted ≡ true → f0 < f1) → (fault ≡ true → f1 < f2) → f0 ≤ f1 → f1 ≤ f2 → (faulted || fault) ≡ true → f0 < f2
-rises_then faulted fault f0 f1 f2 old new up more e = elim (or_either faulted fault e) [
-  | inl a ↦ let l : f0 < f1 = old a in omega arith
-  | inr b ↦ let l : f1 < f2 = new b in omega arith
-]
-
 took :
     (app : Address) (now parts part : ℕ) (s0 s1 s2 : Seats) (t0 t1 t2 : Option Dialled) (f0 f1 f2 : ℕ) (faulted fault : Bool) (place : Stand)
     → part < parts → Progress app now parts s0 s1 t0 t1 f0 f1 (On part) faulted → Takes app now part s1 s2 t1 t2 f1 f2 fault place
@@ -118,7 +109,7 @@ took app now parts part s0 s1 s2 t0 t1 t2 f0 f1 f2 faulted fault place less p x 
       acts = subst (λ (es : List NodeEntry). Acts es s0 s2) (sym (entries_of-push now p.front t)) (acts_then (entries_of now p.front) (take_entries now part said closing) s0 s1 s2 p.acts acts);
       asks = subst (λ (xs : List Exchange). Dialling xs t0 t2 f0 f2) (sym (exchanges_of-push p.front t)) (dialling_then (exchanges_of p.front) (asked_of closing) t0 t1 t2 f0 f1 f2 p.asks asks);
       faults = ap₂ (λ (a b : Bool). a || b) p.faults new ∙ sym (any_fault-push p.front t);
-      rises = rises_then faulted fault f0 f1 f2 p.rises
+      rises = either_rises faulted fault f0 f1 f2 p.rises
           (λ e. closing_counts app part said closing s2 t1 t2 f1 f2 taking asks (sym new ∙ e))
           (never_falls (exchanges_of p.front) t0 t1 f0 f1 p.asks) (never_falls (asked_of closing) t1 t2 f1 f2 asks);
     }

@@ -22,7 +22,7 @@ pub struct DueKey {
 }
 
 /// A reminder under a name of an actor.
-#[derive(Debug, Drop)]
+#[derive(Drop)]
 pub struct ReminderRow {
     /// When it is due, and under which name.
     pub key: DueKey,

@@ -3,7 +3,7 @@ use crate::text::{StateKey, StateValue};
 use actor_names::ActorKey;
 
 /// A value under a key of an actor.
-#[derive(Debug, Drop)]
+#[derive(Drop)]
 pub struct StateEntry {
     /// The actor.
     pub actor: ActorKey,
