@@ -1,28 +1,18 @@
 // A session over HTTP: the state of rooms.
-ghost use Rattle.std.specs.Prelude.{◌≡◌, None};
 ghost use Rattle.step_gate.specs.Gates.{IsSeatOf};
-ghost use Rattle.frame_session.specs.Sessions.{SessionCause, cut_end};
+ghost use Rattle.frame_session.specs.Sessions.{SessionCause};
 ghost use Rattle.placement_node.specs.Node.{NodeAllows};
 ghost use Rattle.placement_sessions.specs.StateSessions.{IsStateSession};
 
 use crate::state_turn::{StateTurn, answer_request, refuse};
-use actor_ports::{Clock, Conn, PortError, SessionEnd};
+use actor_ports::{Clock, Conn, SessionEnd};
 use disk_model::Disk;
+use frame_session::cut_end;
 use http_edge::{EdgeError, RequestReader};
 use placement_node::PlacementNode;
 use std::alloc::Global;
 use std::sync::Wait;
 use step_gate::{Gate, Seat};
-
-// The end of a session whose connection or memory failed.
-fn cut_end(error: PortError, requests: u64) -> SessionEnd
-    ensures { result ≡ cut_end error requests }
-{
-    match error {
-        PortError::Failed => SessionEnd::ConnFault { requests },
-        PortError::OutOfMemory => SessionEnd::OutOfMemory { requests },
-    }
-}
 
 /// Answers the requests of a connection until it ends. `GET /placement/state`, also with the query `space=S`, is one
 /// Look at the gate and is answered with the state of the room; anything else is no route. The session ends after a
