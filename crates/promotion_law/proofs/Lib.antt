@@ -1,1 +1,6 @@
+mod Examples
+mod Moments
+mod Failing
 mod Promoting
+mod UnderWay
+mod Openings

@@ -1,1 +1,3 @@
 pub mod Promotions
+pub mod UnderWay
+pub mod Openings
