@@ -1,5 +1,5 @@
 -- The most bytes that a placement's frame can have.
-use Rattle.std.proofs.Common.{◌≡◌, ℕ, ◌+◌, ◌≤◌, length, arith}
+use Rattle.std.proofs.Common.{◌≤◌, length, arith}
 use Rattle.wire_fields.specs.Fields.{both}
 use Rattle.wire_fields.specs.Parts.{counter, hosts, member, stage}
 use Rattle.frame_wire.specs.declared.frame.Frame.{Frame}

@@ -1,5 +1,5 @@
 -- The most bytes that each field of a placement's frames can have.
-use Rattle.std.proofs.Common.{◌≡◌, ℕ, ◌+◌, ◌*◌, ◌≤◌, Bool, true, false, if◌then◌else◌, List, [], ◌∷◌, ◌++◌, length, Option, Some, None, refl, sym, subst, arith, length-append}
+use Rattle.std.proofs.Common.{◌≡◌, ℕ, ◌+◌, ◌*◌, ◌≤◌, Bool, true, false, if◌then◌else◌, List, [], ◌∷◌, length, Option, Some, None, refl, sym, subst, arith, length-append}
 use Rattle.std.specs.Prelude.{nat_le, nat_lt, ◌==◌, is_none, option_map}
 use Rattle.std.proofs.Math.Nat.{suc-mul}
 use Rattle.std.proofs.lemmas.Bool.Decides.{nat_tests}
@@ -9,7 +9,7 @@ use Rattle.actor_names.specs.declared.error.NameError.TheVariants.{TooLong, Empt
 use Rattle.actor_names.specs.Names.{text_fault, first_bad, is_node_byte, is_type_byte, space_fault, node_fault, app_id_fault, actor_type_fault}
 use Rattle.place_table.specs.declared.host.HostInfo.{HostInfo}
 use Rattle.wire_fields.specs.Fields.{Field, byte, number16, number32, number64, spell_all, AllFit, both, counted, in_any_order}
-use Rattle.wire_fields.specs.Parts.{named, at_most, space_name, node_name, app_name, type_name, counter, boot, fixed, small, stage, node_place, member_parts, member, types, host_app, host_parts, host, host_member, host_behind, hosts}
+use Rattle.wire_fields.specs.Parts.{named, at_most, space_name, node_name, app_name, type_name, counter, boot, small, stage, node_place, member_parts, member, types, host_app, host_parts, host, host_member, host_behind, hosts}
 use Rattle.wire_fields.proofs.PartLaws.{host_after-spell, host_from_after}
 use Rattle.frame_wire.specs.declared.refusal.Refusal.TheVariants as refusals
 use Rattle.frame_wire.specs.Refusals.{refusal}
