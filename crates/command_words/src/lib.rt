@@ -8,6 +8,7 @@
 mod count;
 mod error;
 mod form;
+mod law;
 mod matches;
 mod meaning;
 mod options;
@@ -16,6 +17,7 @@ mod server;
 mod sidecar;
 
 pub use error::WordsError;
+pub use law::seating_law;
 pub use reading::{CommandWords, DrillWords, ScheduleWords, read_words};
 pub use server::{PlacementWords, ServerWords, StandbyWords};
 pub use sidecar::SidecarWords;
