@@ -37,6 +37,7 @@ impl Cells {
         self.calls.add(call, slot)?;
         match self.places.insert(key, slot) {
             Ok(_) => {
+                self.guesses.note(&cell.key, slot, &self.places);
                 let _slot = self.slots.insert_reserved(HashedCell { cell, hash });
                 self.count += 1;
                 Ok(())

@@ -5,6 +5,7 @@ ghost use Rattle.part_model.specs.Cells.{cell_at, cell_of_call, total_calls};
 ghost use Rattle.part_cells.specs.Slots.{IsFoundAt};
 
 use crate::call_slots::CallSlots;
+use crate::guesses::Guesses;
 use crate::hashed_cell::HashedCell;
 use actor_names::ActorKey;
 use part_model::ActorCell;
@@ -21,6 +22,7 @@ pub struct Cells {
     pub(crate) places: BTreeMap<ActorKey, usize>,
     pub(crate) calls: CallSlots,
     pub(crate) count: usize,
+    pub(crate) guesses: Guesses,
 }
 
 impl Model for Cells {
@@ -44,6 +46,7 @@ impl Cells {
             places: BTreeMap::new(alloc),
             calls: CallSlots::new(alloc),
             count: 0,
+            guesses: Guesses::new(alloc),
         }
     }
 
@@ -61,8 +64,8 @@ impl Cells {
         self.places.len()
     }
 
-    /// The actor's cell, with its slot and the `key_hash` of the actor's id.
-    pub fn find(&self, key: &ActorKey) -> Option<(usize, &ActorCell, u64)>
+    /// The same as `find`, without a guess.
+    fn find_placed(&self, key: &ActorKey) -> Option<(usize, &ActorCell, u64)>
         ensures { MatchOption result (cell_at self.now.cells key.now ≡ None) (λ f. (cell_at self.now.cells key.now ≡ Some f.1.now) × IsFoundAt self.now f.0 f.1.now × (f.2 ≡ key_place f.1.now.key.id)) }
     {
         let Some(slot) = self.places.get(key) else {
@@ -72,6 +75,19 @@ impl Cells {
             return None;
         };
         Some((*slot, &hashed.cell, hashed.hash))
+    }
+
+    /// The actor's cell, with its slot and the `key_hash` of the actor's id.
+    pub fn find(&self, key: &ActorKey) -> Option<(usize, &ActorCell, u64)>
+        ensures { MatchOption result (cell_at self.now.cells key.now ≡ None) (λ f. (cell_at self.now.cells key.now ≡ Some f.1.now) × IsFoundAt self.now f.0 f.1.now × (f.2 ≡ key_place f.1.now.key.id)) }
+    {
+        let guess = self.guesses.slot(key);
+        if let Some(hashed) = self.slots.get(guess)
+            && hashed.cell.key == *key
+        {
+            return Some((guess, &hashed.cell, hashed.hash));
+        }
+        self.find_placed(key)
     }
 
     /// The cell that has this call, open or in its queue, with its slot and the `key_hash` of its actor's id.

@@ -13,6 +13,7 @@ mod closing;
 mod draining;
 mod dropping;
 mod ending;
+mod guesses;
 mod hashed_cell;
 mod holding;
 mod opening;

@@ -17,31 +17,74 @@ use std::{hint, thread};
 /// The word after 2^62 entries.
 pub(crate) const LAST: u64 = 1 << 63;
 
-/// How often a call that waits for the turn looks at the word before it sleeps.
+/// How often a call that waits looks at the word before it sleeps, if it sees other turns come and go.
 const LOOKS: u32 = 32;
+
+/// How many looks in a row find the same turn before it sleeps: that one takes long, as if it waits for a disk.
+const LOOKS_AT_ONE: u32 = 4;
 
 /// How many hints it spins between its first two looks. Each look takes the cache line from the holder.
 const HINTS: u32 = 16;
 
-/// How often the number of hints doubles, so that the holder makes many steps between two looks.
+/// How often the number of hints doubles, so that the holder makes many steps between two looks. Then it also lets other
+/// threads run: sooner it would be away for long where threads are many.
 const HINT_DOUBLINGS: u32 = 4;
 
 /// How often the longest sleep doubles, from one millisecond.
 const DOUBLINGS: u32 = 4;
 
-// Leaves the word alone for a time that grows with each try, and lets other threads run.
+// Leaves the word alone for a time that grows with each try, and then lets other threads run.
 fn spin(tries: u32) {
     let hints = HINTS << tries.min(HINT_DOUBLINGS);
     for _ in 0..hints {
         hint::spin_loop();
     }
-    thread::yield_now();
+    if tries >= HINT_DOUBLINGS {
+        thread::yield_now();
+    }
+}
+
+// What a call that waits for the turn has done so far.
+#[derive(Drop)]
+struct Waited {
+    /// How often it has spun or slept; from `LOOKS` on it sleeps.
+    tries: u32,
+    /// The word at its last look.
+    word: u64,
+    /// How many looks before that one found this word.
+    same: u32,
+}
+
+impl Waited {
+    fn new() -> Waited {
+        Waited {
+            tries: 0,
+            word: 0,
+            same: 0,
+        }
+    }
+
+    // The word was looked at in vain.
+    fn look(&mut self, word: u64) {
+        if word != self.word {
+            self.word = word;
+            self.same = 0;
+            return;
+        }
+        self.same = self.same.saturating_add(1);
+        if self.same >= LOOKS_AT_ONE {
+            self.tries = self.tries.max(LOOKS);
+        }
+    }
 }
 
 impl<M: Machine> Gate<M> {
-    // Lets other threads run. After some tries it sleeps, if the word is still this one, until the turn is free or a
-    // time has passed that grows to at most 16 milliseconds.
-    fn pause<R: Wait>(&self, rt: &R, tries: u32, word: u64) {
+    // Spins. After some looks it sleeps, if the word is still this one, until the turn is free or a time has passed that
+    // grows to at most 16 milliseconds.
+    fn pause<R: Wait>(&self, rt: &R, waited: &mut Waited, word: u64) {
+        waited.look(word);
+        let tries = waited.tries;
+        waited.tries = tries.saturating_add(1);
         if tries < LOOKS {
             spin(tries);
             return;
@@ -65,7 +108,7 @@ impl<M: Machine> Gate<M> {
         requires { IsSeatOf M.moves self.now seat.old }
         ensures { Takes (gate_id self.now) result seat.old.me.0 seat.new }
     {
-        let mut tries = 0u32;
+        let mut waited = Waited::new();
         for _ in rt.forever() {
             let word = self.table.shared.peek(0);
             if word % 2 == 0 && word <= LAST {
@@ -77,8 +120,7 @@ impl<M: Machine> Gate<M> {
                     return word + 1;
                 }
             }
-            self.pause(rt, tries, word);
-            tries = tries.saturating_add(1);
+            self.pause(rt, &mut waited, word);
         }
         unreachable!()
     }

@@ -8,6 +8,7 @@ ghost use Rattle.world_run.specs.Looks.{member_in};
 ghost use Rattle.world_run.specs.Worlds.{Happens, IsFit, view_of};
 
 use crate::calls::Calls;
+use crate::known_ids::KnownIds;
 use crate::parts::Parts;
 use crate::post::Post;
 use actor_names::{Member, Space};
@@ -22,6 +23,7 @@ pub(crate) struct Cluster {
     pub(crate) post: Post,
     pub(crate) parts: Parts,
     pub(crate) calls: Calls,
+    pub(crate) ids: KnownIds,
     pub(crate) moment: u64,
     pub(crate) events: u64,
 }
@@ -52,6 +54,7 @@ impl Cluster {
             post: Post::new(alloc),
             parts,
             calls: Calls::new(alloc),
+            ids: KnownIds::new(alloc),
             moment: 0,
             events: 0,
         }

@@ -117,7 +117,7 @@ impl Cluster {
         if call != next {
             return Err(WorldError::WrongNumber { next });
         }
-        let Some(at) = self.parts.key_place_of(&member, &key) else {
+        let Some(at) = self.parts.key_place_of(&mut self.ids, &member, &key) else {
             return Ok(nothing());
         };
         self.calls.reserve()?;
@@ -183,7 +183,7 @@ impl Cluster {
     pub(crate) fn hold(&mut self, member: Member, key: ActorKey) -> Result<Outcome, WorldError>
         ensures { Happens result self.old self.new (lines.Hold member key) }
     {
-        let Some(at) = self.parts.key_place_of(&member, &key) else {
+        let Some(at) = self.parts.key_place_of(&mut self.ids, &member, &key) else {
             return Ok(nothing());
         };
         Ok(hold_outcome(self.parts.step_at(at, PartEvent::Hold { key })))
@@ -193,7 +193,7 @@ impl Cluster {
     pub(crate) fn release(&mut self, member: Member, key: ActorKey) -> Result<Outcome, WorldError>
         ensures { Happens result self.old self.new (lines.Release member key) }
     {
-        let Some(at) = self.parts.key_place_of(&member, &key) else {
+        let Some(at) = self.parts.key_place_of(&mut self.ids, &member, &key) else {
             return Ok(nothing());
         };
         let now = self.moment;
@@ -252,7 +252,7 @@ impl Cluster {
     ) -> Result<Outcome, WorldError>
         ensures { Happens result self.old self.new (lines.Closed member key) }
     {
-        let Some(at) = self.parts.key_place_of(&member, &key) else {
+        let Some(at) = self.parts.key_place_of(&mut self.ids, &member, &key) else {
             return Ok(nothing());
         };
         let shown = key.copy(alloc)?;
