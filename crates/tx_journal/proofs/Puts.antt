@@ -1,5 +1,5 @@
 -- The four calls of an append or a batch, one after the other.
-use Rattle.std.proofs.Common.{◌≡◌, inl, ℕ, ◌+◌, ◌-◌, ◌≤◌, List, [], ◌∷◌, ◌++◌, length, Result, Ok, sym, ◌∙◌, ap, subst, arith, length-append}
+use Rattle.std.proofs.Common.{◌≡◌, inl, ℕ, ◌+◌, ◌-◌, ◌≤◌, List, [], ◌∷◌, ◌++◌, length, Result, Ok, ◌∙◌, ap, subst, arith, length-append}
 use Rattle.actor_ports.specs.declared.port.PortError.{PortError}
 use Rattle.disk_model.specs.Disk.{DiskState, Torn, overwritten, Writes, Syncs}
 use Rattle.disk_model.specs.Crash.{IsDurable, Since}

@@ -1,6 +1,6 @@
 -- What a file at rest stands for.
 use Rattle.std.proofs.lemmas.List.{take-append-le}
-use Rattle.std.proofs.Common.{◌≡◌, ℕ, ◌+◌, List, [], ◌∷◌, ◌++◌, length, take, drop, Result, Ok, Err, refl, sym, ◌∙◌, ap, arith, length-append}
+use Rattle.std.proofs.Common.{◌≡◌, ℕ, ◌+◌, List, ◌++◌, length, take, drop, Result, Ok, Err, refl, sym, ◌∙◌, ap, arith, length-append}
 use Rattle.tx_journal.specs.declared.format.Format.{Format}
 use Rattle.tx_journal.specs.declared.format.Format.TheVariants.{One, Two}
 use Rattle.tx_journal.specs.File.{Image, image, name, records, file_payloads, format_of, in_format, file_image}

@@ -6,7 +6,7 @@ use Rattle.disk_model.proofs.Stages.{tells_map_at, tells_same}
 use Rattle.tx_journal.specs.declared.error.JournalError.{JournalError}
 use Rattle.tx_journal.specs.declared.error.JournalError.TheVariants.{DiskFault, Damaged, TooLong, Full, Reopen, NotStarted, OneDisk, Spent, OutOfMemory}
 use Rattle.tx_journal.specs.declared.format.Format.TheVariants.{Two}
-use Rattle.tx_journal.specs.File.{longest, most_bytes, Image, image, with_payload}
+use Rattle.tx_journal.specs.File.{longest, most_bytes, image, with_payload}
 use Rattle.tx_journal.specs.Pair.{Files, Claim, generation_row, number, LeavesOpened, SinceOpened, Holds, IsJust, IsEither}
 use Rattle.tx_journal.specs.Journal.{is_fault}
 use Rattle.tx_journal.specs.Calls.{Side, JournalState, first_of, second_of, tell_sides, told, append_refusal, Appends, Commits, Committed, is_alone, is_last, is_none, next_number, start_refusal, Starts, Keeps, Kept, HasBegun, row_refusal, add_refusal, given_up, Adds, HasRow, end_refusal, Turns, Replaces, Replaced, staged_payloads}
@@ -14,7 +14,7 @@ use Rattle.tx_journal.proofs.Claims.{since_opened_weaker, opened_now, opened_her
 use Rattle.tx_journal.proofs.Standing.{held_leaves, stands_settled, stands_broken, no_rows, from_before, broken_first, stands_refused, same_after}
 use Rattle.tx_journal.proofs.Batched.{append_all_stands}
 use Rattle.tx_journal.specs.Batches.{with_payloads, CommitsAll}
-use Rattle.tx_journal.specs.Runs.{JournalCall, Append, AppendAll, Begin, Add, Turn, Look, Answer, AppendMoves, BeginMoves, AddMoves, TurnMoves, LookMoves, Moves, Ledger, settled, GivenUp, outcome_of, with_row, rows_or, ledger_after, Stands, Runs, RisksOne, RisksEach}
+use Rattle.tx_journal.specs.Runs.{JournalCall, Append, AppendAll, Begin, Add, Turn, Look, Answer, AppendMoves, BeginMoves, AddMoves, TurnMoves, LookMoves, Moves, Ledger, settled, outcome_of, with_row, rows_or, ledger_after, Stands, Runs, RisksOne, RisksEach}
 
 no_append_fault : (a b c : Bool) (n len : ℕ) → cond a (Some Reopen) (cond b (Some (TooLong n)) (cond c (Some (Full len)) None)) ≡ Some DiskFault → ⊥
 no_append_fault true b c n len is = let e : Some Reopen ≡ Some DiskFault = is in cc

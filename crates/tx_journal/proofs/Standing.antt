@@ -1,5 +1,5 @@
 -- What stands after a call on a journal, whatever the call was.
-use Rattle.std.proofs.Common.{◌≡◌, inl, ℕ, Bool, true, false, cond, List, Option, Some, None, Err, refl, sym, ◌∙◌, subst}
+use Rattle.std.proofs.Common.{◌≡◌, inl, ℕ, Bool, true, false, cond, List, Option, Some, None, Ok, Err, refl, sym, ◌∙◌, subst}
 use Rattle.disk_model.specs.Disk.{Tells}
 use Rattle.disk_model.proofs.Stages.{told_before}
 use Rattle.tx_journal.specs.declared.error.JournalError.{JournalError}

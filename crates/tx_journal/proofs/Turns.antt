@@ -1,11 +1,10 @@
 -- A batch and the appends of its payloads in turn.
-use Rattle.std.proofs.Common.{◌≡◌, ◌≤◌, ℕ, suc, ◌+◌, Bool, true, false, cond, List, [], ◌∷◌, ◌++◌, length, Option, Some, None, Ok, Err, refl, sym, ◌∙◌, ap, subst, arith, length-append}
-use Rattle.std.specs.Prelude.{nat_lt, ◌==◌, OnOk}
+use Rattle.std.proofs.Common.{◌≡◌, ◌≤◌, ℕ, ◌+◌, Bool, true, false, cond, List, [], ◌∷◌, length, Option, Some, None, Ok, Err, refl, sym, ◌∙◌, ap, arith, length-append}
+use Rattle.std.specs.Prelude.{nat_lt, ◌==◌}
 use Rattle.std.proofs.lemmas.Bool.{le-ltb}
-use Rattle.tx_journal.specs.declared.error.JournalError.{JournalError}
 use Rattle.tx_journal.specs.declared.error.JournalError.TheVariants.{DiskFault, Damaged, TooLong, Full, Reopen, NotStarted, OneDisk, Spent, OutOfMemory}
 use Rattle.tx_journal.specs.File.{longest, most_bytes, framed, records, IsShort}
-use Rattle.tx_journal.specs.Pair.{first_generation, generation_in}
+use Rattle.tx_journal.specs.Pair.{first_generation}
 use Rattle.tx_journal.specs.Calls.{JournalState, append_refusal, generation_with, Appends}
 use Rattle.tx_journal.specs.Batches.{batch_refusal, generation_with_all, behind, behind_each, AppendsAll}
 use Rattle.tx_journal.specs.Runs.{Answer, AppendMoves, AppendAllMoves}
