@@ -11,7 +11,7 @@ use Rattle.disk_model.proofs.Stages.{Both, told_before}
 use Rattle.tx_journal.specs.declared.format.Format.{Format}
 use Rattle.tx_journal.specs.declared.format.Format.TheVariants.{Two}
 use Rattle.tx_journal.specs.declared.find.Cursor.{Cursor}
-use Rattle.tx_journal.specs.File.{most_bytes, file_payloads, Image, image, framed, opened, IsShort}
+use Rattle.tx_journal.specs.File.{most_bytes, file_payloads, image, framed, opened, IsShort}
 use Rattle.tx_journal.specs.Pair.{Files, generation_row, first_generation, file_generation, generation_in, number, ReadsAs, SinceOpened, Holds, IsJust, IsEither}
 use Rattle.tx_journal.specs.Journal.{IsAtRest, IsSpelled}
 use Rattle.tx_journal.specs.Compaction.{IsShutFront, IsUnmade, StaysUnmade, IsMadeOrNot, Finishes, IsFinished, MayStart, Begins, HasFirstRow, HasBegunFile, AddsRow}

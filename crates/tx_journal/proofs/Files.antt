@@ -51,7 +51,7 @@ abbrev pub up : List (List ℕ) → ℕ → ℕ
 up [] more = more
 up (payload ∷ payloads) more = suc (up payloads more)
 
-up_is : (payloads : List (List ℕ)) (more : ℕ) → up payloads more ≡ length payloads + more
+pub up_is : (payloads : List (List ℕ)) (more : ℕ) → up payloads more ≡ length payloads + more
 up_is [] more = omega arith
 up_is (payload ∷ payloads) more = omega (arith, up_is payloads more)
 

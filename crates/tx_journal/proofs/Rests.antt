@@ -1,6 +1,6 @@
 -- What a file at rest stands for.
 use Rattle.std.proofs.lemmas.List.{take-append-le}
-use Rattle.std.proofs.Common.{◌≡◌, ℕ, ◌+◌, List, [], ◌∷◌, ◌++◌, length, take, drop, Result, Ok, Err, refl, sym, ◌∙◌, ap, arith, length-append}
+use Rattle.std.proofs.Common.{◌≡◌, ℕ, ◌+◌, List, ◌++◌, length, take, drop, Result, Ok, Err, refl, sym, ◌∙◌, ap, arith, length-append}
 use Rattle.tx_journal.specs.declared.format.Format.{Format}
 use Rattle.tx_journal.specs.declared.format.Format.TheVariants.{One, Two}
 use Rattle.tx_journal.specs.File.{Image, image, name, records, file_payloads, format_of, in_format, file_image}
@@ -45,9 +45,9 @@ same_image x y same = cc
 pub spelled_stands : {newest format : Format} (payloads : List (List ℕ)) (file : List ℕ) → IsSpelled newest format payloads file → file_image newest file ≡ Ok (image format payloads)
 spelled_stands payloads file spells = rest_stands payloads spells.0 file spells.1
 
--- the gate of an index stays its gate when a payload is appended
-pub gate_push : (payloads : List (List ℕ)) (payload : List ℕ) (index gate : ℕ) → IsGateOf payloads index gate → IsGateOf (payloads ++ payload ∷ []) index gate
-gate_push payloads payload index gate is = record {
-  within = omega (arith, is.within, length-append payloads (payload ∷ []));
-  place = is.place ∙ ap (λ (l : List (List ℕ)). 8 + length (records l)) (sym (take-append-le index payloads (payload ∷ []) is.within));
+-- the gate of an index stays its gate when payloads are appended
+pub gate_append : (payloads batch : List (List ℕ)) (index gate : ℕ) → IsGateOf payloads index gate → IsGateOf (payloads ++ batch) index gate
+gate_append payloads batch index gate is = record {
+  within = omega (arith, is.within, length-append payloads batch);
+  place = is.place ∙ ap (λ (l : List (List ℕ)). 8 + length (records l)) (sym (take-append-le index payloads batch is.within));
 }

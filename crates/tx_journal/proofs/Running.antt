@@ -2,73 +2,25 @@
 use Rattle.std.proofs.Common.{◌≡◌, inl, ℕ, ◌+◌, Bool, true, false, cond, List, [], ◌∷◌, ◌++◌, length, Option, Some, None, Ok, Err, refl, sym, ◌∙◌, ap, subst}
 use Rattle.std.specs.Prelude.{OnOk, nat_lt, ◌||◌}
 use Rattle.disk_model.specs.Disk.{Tells}
-use Rattle.disk_model.proofs.Stages.{told_before, tells_map_at, tells_same}
+use Rattle.disk_model.proofs.Stages.{tells_map_at, tells_same}
 use Rattle.tx_journal.specs.declared.error.JournalError.{JournalError}
 use Rattle.tx_journal.specs.declared.error.JournalError.TheVariants.{DiskFault, Damaged, TooLong, Full, Reopen, NotStarted, OneDisk, Spent, OutOfMemory}
 use Rattle.tx_journal.specs.declared.format.Format.TheVariants.{Two}
-use Rattle.tx_journal.specs.File.{longest, most_bytes, Image, image, with_payload}
+use Rattle.tx_journal.specs.File.{longest, most_bytes, image, with_payload}
 use Rattle.tx_journal.specs.Pair.{Files, Claim, generation_row, number, LeavesOpened, SinceOpened, Holds, IsJust, IsEither}
 use Rattle.tx_journal.specs.Journal.{is_fault}
 use Rattle.tx_journal.specs.Calls.{Side, JournalState, first_of, second_of, tell_sides, told, append_refusal, Appends, Commits, Committed, is_alone, is_last, is_none, next_number, start_refusal, Starts, Keeps, Kept, HasBegun, row_refusal, add_refusal, given_up, Adds, HasRow, end_refusal, Turns, Replaces, Replaced, staged_payloads}
-use Rattle.tx_journal.proofs.Claims.{leaves_weaker, since_opened_weaker, opened_now, opened_here}
-use Rattle.tx_journal.specs.Runs.{JournalCall, Append, Begin, Add, Turn, Look, Answer, AppendMoves, BeginMoves, AddMoves, TurnMoves, LookMoves, Moves, Ledger, settled, GivenUp, outcome_of, with_row, rows_or, ledger_after, Stands, Runs, RisksOne, RisksEach}
-
-held_leaves : (held maybe : Image) (files : Files) → Holds held files → LeavesOpened (IsEither held maybe) files
-held_leaves held maybe files holds = leaves_weaker (IsJust held) (IsEither held maybe) files.first files.second (λ r is. inl is) holds.leaves
-
--- a journal that holds what is acknowledged, and has nothing under way but these rows
-stands_settled : (held : Image) (rows : Option (List (List ℕ))) (j : JournalState) → j.is_broken ≡ false → ((files : Files) → told j ≡ Some files → Holds held files)
-    → ((more : List (List ℕ)) → rows ≡ Some more → (files : Files) → told j ≡ Some files → staged_payloads j.is_second_live files ≡ Ok more)
-    → ((at : ℕ) → j.staged ≡ Some at → (more : List (List ℕ)) × (rows ≡ Some more)) → Stands (settled held rows) j
-stands_settled held rows j works holds staged begun = record {
-  leaves = λ files tells. held_leaves held held files (holds files tells);
-  holds = λ same files tells. holds files tells;
-  rows = λ same more is files tells. staged more is files tells;
-  begun = λ same at is. begun at is;
-}
-
--- a journal that met a fault
-stands_broken : (held maybe : Image) (j : JournalState) → j.is_broken ≡ true → ((files : Files) → told j ≡ Some files → LeavesOpened (IsEither held maybe) files) → Stands (record { held = held; maybe = maybe; rows = None }) j
-stands_broken held maybe j broken leaves = record {
-  leaves = leaves;
-  holds = λ works. absurd (let e : true ≡ false = sym broken ∙ works in cc);
-  rows = λ works. absurd (let e : true ≡ false = sym broken ∙ works in cc);
-  begun = λ works. absurd (let e : true ≡ false = sym broken ∙ works in cc);
-}
-
-no_rows : (j : JournalState) (staged : j.staged ≡ None) (at : ℕ) → j.staged ≡ Some at → (more : List (List ℕ)) × (None ≡ Some more)
-no_rows j staged at is = absurd (let e : None ≡ Some at = sym staged ∙ is in cc)
-
--- a claim about what is reported after, from what was reported before
-from_before : (step : Files → Files → Type 0) (Q : Files → Type 0) (old new : JournalState) → Tells step (told old) (told new) → ((f g : Files) → told old ≡ Some f → step f g → Q g) → (files : Files) → told new ≡ Some files → Q files
-from_before step Q old new tells f files is = let before = told_before step (told old) (told new) files tells is in f before.0 files before.1 before.2
-
--- the first test of every refusal
-broken_first : (b : Bool) (rest : Option JournalError) → b ≡ true → cond b (Some Reopen) rest ≡ Some Reopen
-broken_first true rest is = refl
-broken_first false rest is = absurd (let e : false ≡ true = is in cc)
-
--- a call on a journal that met a fault is refused
-stands_refused : (l : Ledger) (number : ℕ) (call : JournalCall) (answer : Answer) (old new : JournalState) → Stands l old → (answer ≡ Err Reopen) × (new ≡ old) → Stands (ledger_after number call (outcome_of answer) l) new
-stands_refused l number call answer old new stands is =
-    subst (λ (a : Answer). Stands (ledger_after number call (outcome_of a) l) new) (sym is.0) (subst (Stands l) (sym is.1) stands)
+use Rattle.tx_journal.proofs.Claims.{since_opened_weaker, opened_now, opened_here}
+use Rattle.tx_journal.proofs.Standing.{held_leaves, stands_settled, stands_broken, no_rows, from_before, broken_first, stands_refused, same_after}
+use Rattle.tx_journal.proofs.Batched.{append_all_stands}
+use Rattle.tx_journal.specs.Batches.{with_payloads, CommitsAll}
+use Rattle.tx_journal.specs.Runs.{JournalCall, Append, AppendAll, Begin, Add, Turn, Look, Answer, AppendMoves, BeginMoves, AddMoves, TurnMoves, LookMoves, Moves, Ledger, settled, outcome_of, with_row, rows_or, ledger_after, Stands, Runs, RisksOne, RisksEach}
 
 no_append_fault : (a b c : Bool) (n len : ℕ) → cond a (Some Reopen) (cond b (Some (TooLong n)) (cond c (Some (Full len)) None)) ≡ Some DiskFault → ⊥
 no_append_fault true b c n len is = let e : Some Reopen ≡ Some DiskFault = is in cc
 no_append_fault false true c n len is = let e : Some (TooLong n) ≡ Some DiskFault = is in cc
 no_append_fault false false true n len is = let e : Some (Full len) ≡ Some DiskFault = is in cc
 no_append_fault false false false n len is = let e : None ≡ Some DiskFault = is in cc
-
-same_after : (l : Ledger) (number : ℕ) (call : JournalCall) (e : JournalError) → ledger_after number call GivenUp l ≡ l → (e ≡ DiskFault → ⊥) → ledger_after number call (outcome_of (Err e)) l ≡ l
-same_after l number call DiskFault given other = absurd (other refl)
-same_after l number call (Damaged offset) given other = refl
-same_after l number call (TooLong n) given other = given
-same_after l number call (Full len) given other = given
-same_after l number call Reopen given other = refl
-same_after l number call NotStarted given other = refl
-same_after l number call OneDisk given other = refl
-same_after l number call (Spent count) given other = refl
-same_after l number call OutOfMemory given other = refl
 
 module _ (l : Ledger) (n : ℕ) (old new : JournalState) (stands : Stands l old) (works : old.is_broken ≡ false) where
   append_taken : (payload : List ℕ) (answer : Answer) → Appends payload answer old new → Tells (Commits payload) (told old) (told new) → OnOk answer (Tells (Committed payload) (told old) (told new)) → Stands (ledger_after n (Append payload) (outcome_of answer) l) new
@@ -309,6 +261,7 @@ look_stands l n old new stands works (Err OutOfMemory) moves = look_kept l n old
 -- one call
 step_broken : (l : Ledger) (n : ℕ) (call : JournalCall) (answer : Answer) (old new : JournalState) → Stands l old → old.is_broken ≡ true → Moves call answer old new → Stands (ledger_after n call (outcome_of answer) l) new
 step_broken l n (Append payload) answer old new stands broken moves = stands_refused l n (Append payload) answer old new stands (moves.refused Reopen (broken_first old.is_broken _ broken))
+step_broken l n (AppendAll payloads) answer old new stands broken moves = stands_refused l n (AppendAll payloads) answer old new stands (moves.refused Reopen (broken_first old.is_broken _ broken))
 step_broken l n Begin answer old new stands broken moves = stands_refused l n Begin answer old new stands (moves.refused Reopen (broken_first old.is_broken _ broken))
 step_broken l n (Add payload) answer old new stands broken moves = stands_refused l n (Add payload) answer old new stands (moves.refused Reopen (broken_first old.is_broken _ broken))
 step_broken l n Turn answer old new stands broken moves = stands_refused l n Turn answer old new stands (moves.refused Reopen (broken_first old.is_broken _ broken))
@@ -316,6 +269,7 @@ step_broken l n Look answer old new stands broken moves = stands_refused l n Loo
 
 step_works : (l : Ledger) (call : JournalCall) (answer : Answer) (old new : JournalState) → Stands l old → old.is_broken ≡ false → Moves call answer old new → Stands (ledger_after (next_number old.generation) call (outcome_of answer) l) new
 step_works l (Append payload) answer old new stands works moves = append_stands l (next_number old.generation) old new stands works payload answer moves
+step_works l (AppendAll payloads) answer old new stands works moves = append_all_stands l (next_number old.generation) old new stands works payloads answer moves
 step_works l Begin answer old new stands works moves = begin_stands l (next_number old.generation) old new stands works refl answer moves
 step_works l (Add payload) answer old new stands works moves = add_stands l (next_number old.generation) old new stands works payload answer moves
 step_works l Turn answer old new stands works moves = turn_stands l (next_number old.generation) old new stands works answer moves
@@ -342,6 +296,8 @@ still P old new same leaves = tells_map_at (λ f g. g ≡ f) (SinceOpened P) (to
 risks_one : (l : Ledger) (call : JournalCall) (answer : Answer) (old new : JournalState) → Stands l old → Moves call answer old new → RisksOne l call old new
 risks_one l (Append payload) answer old new stands moves works =
     tells_map_at (Commits payload) (SinceOpened (IsEither l.held (with_payload payload l.held))) (told old) (told new) (λ f g is commits. commits l.held (stands.holds works f is)) moves.crash
+risks_one l (AppendAll payloads) answer old new stands moves works =
+    tells_map_at (CommitsAll payloads) (SinceOpened (IsEither l.held (with_payloads payloads l.held))) (told old) (told new) (λ f g is commits. commits l.held (stands.holds works f is)) moves.crash
 risks_one l Begin answer old new stands moves works =
     tells_map_at Keeps (SinceOpened (IsEither l.held l.held)) (told old) (told new) (λ f g is keeps. keeps_either l 0 old new stands works f g keeps is) moves.crash
 risks_one l (Add payload) answer old new stands moves works =

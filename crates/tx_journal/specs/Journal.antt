@@ -40,21 +40,25 @@ pub record IsSettled (newest format : Format) (payloads : List (List ℕ)) (end 
 abbrev pub IsSpelled : Format → Format → List (List ℕ) → List ℕ → Type 0
 IsSpelled newest format payloads file = (end : ℕ) × IsAtRest newest format payloads end file
 
--- a file of the payloads, with one more or without it
-abbrev pub RestsBeforeOrAfter : Format → Format → List (List ℕ) → List ℕ → List ℕ → Type 0
-RestsBeforeOrAfter newest format payloads payload file = IsSpelled newest format payloads file ⊎ IsSpelled newest format (payloads ++ payload ∷ []) file
+-- a file of the payloads, with all of a batch behind them or with none of it
+abbrev pub RestsBeforeOrAfter : Format → Format → List (List ℕ) → List (List ℕ) → List ℕ → Type 0
+RestsBeforeOrAfter newest format payloads batch file = IsSpelled newest format payloads file ⊎ IsSpelled newest format (payloads ++ batch) file
 
 -- the count of faults rose, or is at its maximum
 abbrev pub Rises : ℕ → ℕ → Type 0
 Rises before after = (before < after) ⊎ IsSpent after
 
+-- the bytes behind a gate that is to be opened: the records of a batch that isn't empty, and a closed gate
+abbrev pub IsText : List (List ℕ) → List ℕ → Type 0
+IsText batch bytes = 1 ∷ bytes ≡ records batch ++ 0 ∷ []
+
 -- What a crash may leave in the four calls of an append, on a durable disk at rest: the payloads before or after it.
-abbrev pub PutsRecord : ℕ → List ℕ → DiskState → DiskState → Type 0
-PutsRecord end bytes d e = (newest format : Format) (payloads : List (List ℕ)) (payload : List ℕ) → IsAtRest newest format payloads end d.bytes → IsDurable d → IsShort payload → bytes ≡ framed payload ++ 0 ∷ [] → end + length bytes ≤ most_bytes → Since (RestsBeforeOrAfter newest format payloads payload) d e
+abbrev pub PutsRecords : ℕ → List ℕ → DiskState → DiskState → Type 0
+PutsRecords end bytes d e = (newest format : Format) (payloads batch : List (List ℕ)) → IsAtRest newest format payloads end d.bytes → IsDurable d → AllByRecursion IsShort batch → IsText batch bytes → end + length bytes ≤ most_bytes → Since (RestsBeforeOrAfter newest format payloads batch) d e
 
 -- what they leave if each is done
-abbrev pub HasRecord : ℕ → List ℕ → DiskState → DiskState → Type 0
-HasRecord end bytes d e = (newest format : Format) (payloads : List (List ℕ)) (payload : List ℕ) → IsAtRest newest format payloads end d.bytes → IsDurable d → IsShort payload → bytes ≡ framed payload ++ 0 ∷ [] → end + length bytes ≤ most_bytes → IsAtRest newest format (payloads ++ payload ∷ []) (end + length bytes) e.bytes × IsDurable e
+abbrev pub HasRecords : ℕ → List ℕ → DiskState → DiskState → Type 0
+HasRecords end bytes d e = (newest format : Format) (payloads batch : List (List ℕ)) → IsAtRest newest format payloads end d.bytes → IsDurable d → AllByRecursion IsShort batch → IsText batch bytes → end + length bytes ≤ most_bytes → IsAtRest newest format (payloads ++ batch) (end + length bytes) e.bytes × IsDurable e
 
 -- how a journal answers an error of its disk
 abbrev pub as_journal : PortError → JournalError

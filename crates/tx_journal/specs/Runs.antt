@@ -7,11 +7,13 @@ use Rattle.tx_journal.specs.declared.format.Format.TheVariants.{Two}
 use Rattle.tx_journal.specs.File.{Image, image, with_payload}
 use Rattle.tx_journal.specs.Journal.{is_fault}
 use Rattle.tx_journal.specs.Pair.{Files, generation_row, LeavesOpened, SinceOpened, Holds, IsEither}
+use Rattle.tx_journal.specs.Batches.{batch_refusal, AppendsAll, with_payloads, CommitsAll, CommittedAll}
 use Rattle.tx_journal.specs.Calls.{JournalState, told, append_refusal, Appends, Commits, Committed, next_number, start_refusal, Starts, Keeps, Kept, HasBegun, add_refusal, given_up, Adds, HasRow, end_refusal, Turns, Replaces, Replaced, staged_payloads}
 
 -- a call with what it was given; a replay writes nothing
 pub data JournalCall : Type 0 where
   Append : (payload : List ℕ) → JournalCall
+  AppendAll : (payloads : List (List ℕ)) → JournalCall
   Begin : JournalCall
   Add : (payload : List ℕ) → JournalCall
   Turn : JournalCall
@@ -27,6 +29,13 @@ pub record AppendMoves (payload : List ℕ) (answer : Answer) (old new : Journal
   pub taken : append_refusal old payload ≡ None → Appends payload answer old new
   pub crash : Tells (Commits payload) (told old) (told new)
   pub done : OnOk answer (Tells (Committed payload) (told old) (told new))
+
+-- what an append of a batch ensures
+pub record AppendAllMoves (payloads : List (List ℕ)) (answer : Answer) (old new : JournalState) : Type 0 where
+  pub refused : (e : JournalError) → batch_refusal old payloads ≡ Some e → (answer ≡ Err e) × (new ≡ old)
+  pub taken : batch_refusal old payloads ≡ None → AppendsAll payloads answer old new
+  pub crash : Tells (CommitsAll payloads) (told old) (told new)
+  pub done : OnOk answer (Tells (CommittedAll payloads) (told old) (told new))
 
 -- what the start of a compaction ensures
 pub record BeginMoves (answer : Answer) (old new : JournalState) : Type 0 where
@@ -60,6 +69,7 @@ pub record LookMoves (answer : Answer) (old new : JournalState) : Type 0 where
 -- a call with its answer, from one state to the next: what its contract says
 abbrev pub Moves : JournalCall → Answer → JournalState → JournalState → Type 0
 Moves (Append payload) answer old new = AppendMoves payload answer old new
+Moves (AppendAll payloads) answer old new = AppendAllMoves payloads answer old new
 Moves Begin answer old new = BeginMoves answer old new
 Moves (Add payload) answer old new = AddMoves payload answer old new
 Moves Turn answer old new = TurnMoves answer old new
@@ -108,6 +118,7 @@ rows_or (Some rows) held = image Two rows
 -- what a crash within this call may leave in place of what was acknowledged
 abbrev pub under_way : JournalCall → Ledger → Image
 under_way (Append payload) l = with_payload payload l.held
+under_way (AppendAll payloads) l = with_payloads payloads l.held
 under_way Begin l = l.held
 under_way (Add payload) l = l.held
 under_way Turn l = rows_or l.rows l.held
@@ -119,6 +130,9 @@ ledger_after number call Refused l = l
 ledger_after number call Failed l = record { held = l.held; maybe = under_way call l; rows = None }
 ledger_after number (Append payload) Done l = settled (with_payload payload l.held) None
 ledger_after number (Append payload) GivenUp l = l
+ledger_after number (AppendAll []) Done l = l
+ledger_after number (AppendAll (first ∷ rest)) Done l = settled (with_payloads (first ∷ rest) l.held) None
+ledger_after number (AppendAll payloads) GivenUp l = l
 ledger_after number Begin Done l = settled l.held (Some (generation_row number ∷ []))
 ledger_after number Begin GivenUp l = l
 ledger_after number (Add payload) Done l = settled l.held (with_row payload l.rows)

@@ -6,22 +6,22 @@ ghost use Rattle.tx_journal.specs.Pair.{Files, Holds, first_generation};
 ghost use Rattle.tx_journal.specs.Journal.{IsOpenError, Rises, Replays, Costs, is_fault};
 ghost use Rattle.tx_journal.specs.Calls.{Side, JournalState, told, tell_one, first_side, second_side, append_refusal, Appends, Commits, Committed, rows_in, is_alone, HoldsFormat, IsMeasured, IsOpened, OpensFiles, RefusesFiles, KeepsFiles};
 
+use crate::batch::ROOM;
 use crate::error::JournalError;
 use crate::find::{Cursor, FIRST, find, place_of, start_at};
 use crate::format::Format;
 use crate::open::settle;
-use crate::record::{behind_gate, fill, put_record};
+use crate::record::{behind_gate, fill, put_records, zeros};
 use crate::survey::generation_with;
 use disk_model::Disk;
-use std::alloc::{AllocError, Global};
+use std::alloc::Global;
 use std::marker::Model;
 
+mod batches;
 mod compact;
 mod pair;
 
 const LONGEST: usize = 5_242_880;
-
-const ROOM: usize = 5_242_886;
 
 const MOST_BYTES: u64 = 1_073_741_824;
 
@@ -238,7 +238,7 @@ impl<D: Disk> Journal<D> {
         fill(&mut self.buffer, payload);
         self.staged = None;
         let record = behind_gate(&self.buffer, size);
-        if put_record(&mut self.live, self.end, record).is_err() {
+        if put_records(&mut self.live, self.end, record).is_err() {
             self.is_broken = true;
             return Err(JournalError::DiskFault);
         }
@@ -246,11 +246,4 @@ impl<D: Disk> Journal<D> {
         self.end += size as u64;
         Ok(())
     }
-}
-
-// `n` bytes, all 0.
-fn zeros(alloc: Global, n: usize) -> Result<Vec<u8>, AllocError>
-    ensures { IfOk result (λ v. length v.items ≡ n) }
-{
-    Ok(vec![in alloc; 0; n]?)
 }

@@ -1,6 +1,7 @@
 // A journal: payloads in a file, each on the disk before its append is answered.
 #![tactic(auto)]
 
+mod batch;
 mod compaction;
 mod error;
 mod find;
@@ -13,10 +14,13 @@ mod open;
 mod pair;
 mod record;
 mod scan;
+mod staged;
 mod survey;
 mod window;
 
+pub use batch::Batch;
 pub use error::JournalError;
 pub use format::Format;
 pub use journal::Journal;
 pub use law::run_law;
+pub use staged::Staged;

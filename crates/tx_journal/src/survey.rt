@@ -1,10 +1,11 @@
 // What an opening of two files sees of each, and which of them it takes as the live one.
-ghost use Rattle.std.specs.Prelude.{◌≡◌, ◌<◌, ◌≤◌, ◌^◌, ℕ, length, take, IfOk, IfErr, IfSome, Some};
+ghost use Rattle.std.specs.Prelude.{◌≡◌, ◌<◌, ◌≤◌, ◌^◌, ℕ, List, length, take, IfOk, IfErr, IfSome, Some};
 ghost use Rattle.disk_model.specs.Disk.{DiskState};
 ghost use Rattle.tx_journal.specs.declared.format.Format.TheVariants.{Two};
-ghost use Rattle.tx_journal.specs.Pair.{generation_at, generation_in};
+ghost use Rattle.tx_journal.specs.Pair.{generation_at, generation_in, first_generation};
 ghost use Rattle.tx_journal.specs.Journal.{Costs, IsPortFault};
 ghost use Rattle.tx_journal.specs.Calls.{generation_with};
+ghost use Rattle.tx_journal.specs.Batches.{generation_with_all};
 ghost use Rattle.tx_journal.specs.Seen.{Sees, is_second_seen};
 
 use crate::error::JournalError;
@@ -62,6 +63,21 @@ pub(crate) fn generation_with(end: u64, generation: Option<u64>, payload: &[u8])
     match generation {
         Some(number) => Some(number),
         None if end == 9 => number_in(payload),
+        None => None,
+    }
+}
+
+// The same after a batch, from the number of its first payload.
+pub(crate) fn generation_with_first(
+    end: u64,
+    generation: Option<u64>,
+    first: Option<u64>,
+) -> Option<u64>
+    ensures { (payloads : List (List ℕ)) → first ≡ first_generation payloads → result ≡ generation_with_all end generation payloads }
+{
+    match generation {
+        Some(number) => Some(number),
+        None if end == 9 => first,
         None => None,
     }
 }

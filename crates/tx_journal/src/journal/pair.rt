@@ -6,10 +6,12 @@ ghost use Rattle.tx_journal.specs.Journal.{IsOpenError, Rises};
 ghost use Rattle.tx_journal.specs.declared.format.Format.TheVariants.{Two};
 ghost use Rattle.tx_journal.specs.Calls.{told, tell_both, first_side, second_side, is_alone, KeepsCount, IsOpened, IsNumbered, MakesFormat, OpensFiles, RefusesFiles, KeepsFiles};
 
-use super::{Journal, ROOM, zeros};
+use super::Journal;
+use crate::batch::ROOM;
 use crate::error::JournalError;
 use crate::find::FIRST;
 use crate::pair::settle_pair;
+use crate::record::zeros;
 use disk_model::Disk;
 use std::alloc::Global;
 
