@@ -1,19 +1,16 @@
-// Requests of the actors API and for a room, and what is answered to them.
+// Requests of the actors API, and what is answered to them.
 use crate::parts::{bytes, fields, one_field, shown};
-use actor_names::{
-    Address, ChainId, default_space, read_actor_type, read_address, read_app_id, read_member,
-};
+use actor_names::{ChainId, default_space, read_address, read_app_id, read_member};
 use actors_api::{ApiCommand, ApiName, ApiRefusal, ApiReply, Side, read_api, write_api};
 use call_names::{CallName, add_call};
 use case_texts::{cut, escaped_bytes};
 use http_edge::{Bytes, HttpField, HttpRequest};
 use place_table::{ActorTypes, HostInfo};
-use placement_sessions::{space_asked, state_text};
 use schedule_text::ScheduleError;
 use std::alloc::Global;
 
-// `METHOD|TARGET|NAME|VALUE|BYTES`; what is missing at the end is empty.
-fn request(alloc: Global, text: &str) -> Option<HttpRequest> {
+/// `METHOD|TARGET|NAME|VALUE|BYTES`; what is missing at the end is empty.
+pub(crate) fn request(alloc: Global, text: &str) -> Option<HttpRequest> {
     let (method, rest) = cut(text, '|');
     let (target, rest) = cut(rest, '|');
     let (name, rest) = cut(rest, '|');
@@ -31,7 +28,8 @@ fn request(alloc: Global, text: &str) -> Option<HttpRequest> {
     })
 }
 
-fn joined(alloc: Global, word: &[u8], more: &[u8]) -> Option<Vec<u8>> {
+/// Two pieces, one behind the other.
+pub(crate) fn joined(alloc: Global, word: &[u8], more: &[u8]) -> Option<Vec<u8>> {
     let mut text = Vec::from_slice(alloc, word).ok()?;
     text.extend_from_slice(more).ok()?;
     Some(text)
@@ -298,55 +296,4 @@ pub(crate) fn elsewhere(alloc: Global, text: &str) -> Option<String> {
     let count = response.fields.as_slice().len();
     let value = shown(alloc, response.fields.as_slice().last()?.value.as_slice())?;
     format!(in alloc; "{status} {count} {value}").ok()
-}
-
-/// `METHOD|TARGET`
-pub(crate) fn asked(alloc: Global, text: &str) -> Option<String> {
-    let request = request(alloc, text)?;
-    match &space_asked(&request) {
-        Some(space) => shown(alloc, space.as_slice()),
-        None => String::from_str(alloc, "none").ok(),
-    }
-}
-
-// `TYPE,TYPE ..`
-fn types_of(alloc: Global, text: &str) -> Option<ActorTypes> {
-    let mut kinds = Vec::new(alloc);
-    if !text.is_empty() {
-        for kind in text.split(',') {
-            let kind = read_actor_type(alloc, kind.as_bytes()).ok()?;
-            kinds.push(kind).ok()?;
-        }
-    }
-    Some(ActorTypes::from_vec(kinds))
-}
-
-// `MEMBER|APP|TYPES`
-fn host(alloc: Global, text: &str) -> Option<HostInfo> {
-    let (member, rest) = cut(text, '|');
-    let (app, types) = cut(rest, '|');
-    let member = read_member(member.as_bytes()).ok()?;
-    let app = read_app_id(alloc, app.as_bytes()).ok()?;
-    let kinds = types_of(alloc, types)?;
-    let address = Address { ip: 0, port: 80 };
-    Some(HostInfo {
-        member,
-        app,
-        address,
-        kinds,
-    })
-}
-
-/// `VERSION HOST ..`
-pub(crate) fn state(alloc: Global, text: &str) -> Option<String> {
-    let (version, rest) = cut(text, ' ');
-    let version = version.parse::<u64>().ok()?;
-    let mut hosts = Vec::new(alloc);
-    if !rest.is_empty() {
-        for part in rest.split(' ') {
-            hosts.push(host(alloc, part)?).ok()?;
-        }
-    }
-    let told = state_text(alloc, hosts.as_slice(), version).ok()?;
-    shown(alloc, told.as_slice())
 }

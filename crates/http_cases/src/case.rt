@@ -1,6 +1,6 @@
 // One case and its answer.
 use crate::messages::Reading;
-use crate::{api, applications, bodies, messages, values};
+use crate::{api, applications, bodies, messages, rooms, values};
 use actors_api::Side;
 use std::alloc::Global;
 
@@ -53,8 +53,9 @@ fn of_api(alloc: Global, word: &str, rest: &str) -> Option<String> {
         "refusal" => api::told(alloc, rest),
         "refused" => api::told_peer(alloc, rest),
         "elsewhere" => api::elsewhere(alloc, rest),
-        "room" => api::asked(alloc, rest),
-        "state" => api::state(alloc, rest),
+        "room" => rooms::asked(alloc, rest),
+        "state" => rooms::state(alloc, rest),
+        "rounds" => rooms::rounds(alloc, rest),
         _ => None,
     }
 }

@@ -56,11 +56,14 @@
 //     refusal NAME NUMBER ..                   the status and the body of a refusal; `Moved` is at the versions 1 to 8
 //     refused NAME NUMBER ..                   how many fields another sidecar is told of it, and the last one
 //     elsewhere VERSION MEMBER APP ADDRESS     status and number of fields of a reply with an owner, and the owner
-//     room METHOD|TARGET                       the space whose room a request asks for
+//     room METHOD|TARGET                       the space whose state a request asks for; behind `rounds`, the one whose round
 //     state VERSION MEMBER|APP|TYPES ..        the body for a room with these hosts
+//     rounds VERSION none                      the body for a room without a round
+//     rounds VERSION STAGE MEMBER|ADDRESS ..   the body for a room whose round waits for these members
 //
-// It has no contracts of its own. Depends on actors_api, placement_sessions, api_bodies, app_texts, http_edge, json_text,
-// place_table, timer_book, reminder_rows, state_rows, schedule_text, actor_names, actor_ports and case_texts.
+// It has no contracts of its own. Depends on actors_api, placement_sessions, placement_node, api_bodies, app_texts,
+// http_edge, json_text, place_table, timer_book, reminder_rows, state_rows, schedule_text, actor_names, actor_ports and
+// case_texts.
 #![tactic(auto)]
 
 mod api;
@@ -69,6 +72,7 @@ mod bodies;
 mod case;
 mod messages;
 mod parts;
+mod rooms;
 mod values;
 
 use std::io;

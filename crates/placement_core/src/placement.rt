@@ -18,7 +18,7 @@ use crate::rooms::Rooms;
 use crate::sweep::KeptRoom;
 use actor_names::{Member, OutOfMemory, Space, default_space};
 use place_table::HostInfo;
-use round_core::{PlaceEvent, PlaceReply, Room};
+use round_core::{PlaceEvent, PlaceReply, Room, RoundPhase};
 use std::alloc::Global;
 use std::marker::Model;
 
@@ -205,6 +205,28 @@ impl Placement {
             return 0;
         }
         self.rooms.room_at(at).last_version()
+    }
+
+    /// Whether a round is running in the room at this index, and in which stage. Its version is the last one used there.
+    pub fn phase_at(&self, at: usize) -> RoundPhase
+        requires { at < length self.now.state.rooms }
+        ensures { (r : SpaceRoom) → slice_get self.now.state.rooms at ≡ Some r → result ≡ r.room.phase }
+    {
+        if self.rooms.len() == 0 {
+            return RoundPhase::Quiet;
+        }
+        self.rooms.room_at(at).phase()
+    }
+
+    /// Whether the running round waits for the member at this index of `members_at`: it hasn't acknowledged the stage.
+    pub fn is_pending(&self, at: usize, member: usize) -> bool
+        requires { IsMemberPlace self.now.state.rooms at member }
+        ensures { (r : SpaceRoom) (j : Joined) → slice_get self.now.state.rooms at ≡ Some r → slice_get r.room.members member ≡ Some j → result ≡ j.pending }
+    {
+        if self.rooms.len() == 0 {
+            return false;
+        }
+        self.rooms.room_at(at).is_pending(member)
     }
 
     /// Whether the member at this index of `members_at` was not heard for 10,000 milliseconds or more at the moment

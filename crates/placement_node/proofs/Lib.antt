@@ -1,4 +1,5 @@
 pub mod Above
+pub mod Awaiting
 pub mod Fits
 pub mod Histories
 pub mod Laws

@@ -1,20 +1,25 @@
 -- What a node answers. Own.
-use Rattle.std.specs.Prelude.{◌≡◌, ◌⊎◌, ℕ, List, map}
+use Rattle.std.specs.Prelude.{◌≡◌, ◌⊎◌, ℕ, List, [], ◌∷◌, map, if◌then◌else◌, Option, None, Some}
 use Rattle.actor_names.specs.Names.{default_space}
 use Rattle.frame_wire.specs.declared.frame.Frame.{Frame}
 use Rattle.frame_wire.specs.declared.frame.Frame.TheVariants as frames
 use Rattle.frame_wire.specs.declared.refusal.Refusal.{Refusal}
 use Rattle.frame_wire.specs.declared.refusal.Refusal.TheVariants as refusals
-use Rattle.member_roster.specs.Members.{hosts_of}
+use Rattle.member_roster.specs.Members.{Joined, hosts_of}
+use Rattle.place_table.specs.declared.host.HostInfo.{HostInfo}
 use Rattle.round_core.specs.declared.event.PlaceEvent.{PlaceEvent}
 use Rattle.round_core.specs.declared.event.PlaceEvent.TheVariants as events
 use Rattle.round_core.specs.declared.event.PlaceReply.{PlaceReply}
 use Rattle.round_core.specs.declared.event.PlaceReply.TheVariants as replies
-use Rattle.round_core.specs.Room.{last_version}
+use Rattle.round_core.specs.declared.phase.RoundPhase.{RoundPhase}
+use Rattle.round_core.specs.declared.phase.RoundPhase.TheVariants.{Quiet, Running}
+use Rattle.round_core.specs.Room.{RoomState, last_version}
 use Rattle.placement_core.specs.Placement.{SpaceRoom, PlacementState, room_of}
 use Rattle.placement_node.specs.declared.reply.NodeReply.{NodeReply}
 use Rattle.placement_node.specs.declared.reply.NodeReply.TheVariants.{Message, Seen, Ticked}
+use Rattle.placement_node.specs.declared.reply.Awaited.{Awaited}
 use Rattle.placement_node.specs.declared.reply.RoomSeen.{RoomSeen}
+use Rattle.placement_node.specs.declared.reply.RoundSeen.{RoundSeen}
 
 -- the space whose room an event is about; `default` for a Tick and a Look, which are about all rooms
 abbrev pub event_space : PlaceEvent → List ℕ
@@ -29,9 +34,23 @@ event_space events.Look = default_space
 abbrev pub refused : Refusal → NodeReply
 refused refusal = Message (frames.Refused refusal)
 
--- what is seen of a room: its members' hosts and the last version that it used
+-- how a member that a round waits for is told, by its host
+abbrev pub awaited : HostInfo → Awaited
+awaited h = record { node = h.member.node; boot = h.member.boot; address = h.address }
+
+-- the members that haven't acknowledged the stage of the round
+abbrev pub awaited_of : List Joined → List Awaited
+awaited_of [] = []
+awaited_of (j ∷ js) = if j.pending then awaited j.host ∷ awaited_of js else awaited_of js
+
+-- what is seen of the round of a room in this phase
+abbrev pub seen_round : RoomState → RoundPhase → Option RoundSeen
+seen_round s Quiet = None
+seen_round s (Running stage) = Some (record { version = last_version s; stage = stage; awaited = awaited_of s.members })
+
+-- what is seen of a room: its members' hosts, the last version that it used, and the round that runs
 abbrev pub seen_room : SpaceRoom → RoomSeen
-seen_room r = record { space = r.space; members = hosts_of r.room.members; version = last_version r.room }
+seen_room r = record { space = r.space; members = hosts_of r.room.members; version = last_version r.room; round = seen_round r.room r.room.phase }
 
 -- a reply of the placement, as the node gives it: an Update has the hosts of the table that was fixed last
 abbrev pub reply_of : PlacementState → List ℕ → PlaceReply → NodeReply

@@ -7,6 +7,7 @@ ghost use Rattle.placement_node.specs.Ranges.{NumbersFit, ReplyFits, StateFits};
 ghost use Rattle.placement_node.specs.Replies.{event_space, refused, reply_of, seen_room};
 
 use crate::reply::{NodeReply, RoomSeen, SeenRooms};
+use crate::round::round_at;
 use actor_names::{OutOfMemory, Space, default_space};
 use frame_wire::{Frame, Hosts, Refusal};
 use place_table::HostInfo;
@@ -63,6 +64,7 @@ fn seen_at(alloc: Global, placement: &Placement, at: usize) -> Result<RoomSeen, 
         space: placement.space_at(at),
         members,
         version: placement.last_version_at(at),
+        round: round_at(alloc, placement, at)?,
     })
 }
 

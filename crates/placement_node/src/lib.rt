@@ -12,10 +12,11 @@ mod law;
 mod machine;
 mod node;
 mod reply;
+mod round;
 mod trial;
 mod written;
 
 pub use error::PlacementOpenError;
 pub use law::node_law;
 pub use node::PlacementNode;
-pub use reply::{NodeEvent, NodeReply, RoomSeen, SeenRooms};
+pub use reply::{Awaited, AwaitedMembers, NodeEvent, NodeReply, RoomSeen, RoundSeen, SeenRooms};

@@ -1,4 +1,5 @@
 mod Asking
+mod Examples
 mod Framed
 mod Looked
 mod StateTurning

@@ -19,7 +19,8 @@ use Rattle.actors_api.specs.Refusals.{edge_refusal}
 use Rattle.round_core.specs.declared.event.PlaceEvent.TheVariants.{Look}
 use Rattle.placement_node.specs.declared.reply.NodeEvent.{NodeEvent}
 use Rattle.placement_node.specs.declared.reply.NodeReply.{NodeReply}
-use Rattle.placement_sessions.specs.Routes.{space_asked}
+use Rattle.placement_sessions.specs.declared.route.Asked.{Asked}
+use Rattle.placement_sessions.specs.Routes.{room_asked}
 use Rattle.placement_sessions.specs.StateTexts.{closing, refused_with, look_response}
 use Rattle.placement_sessions.specs.StateTurns.{NodeEntry, NodeSeat, Moments, Passes, IsAnswer, AnswersTo, Responds, Looks, RefusedBy}
 use Rattle.placement_sessions.specs.declared.state_turn.StateTurn.{StateTurn}
@@ -99,19 +100,19 @@ module _ (q : HttpRequest) (looks : List NodeEntry) (r : HttpResponse) (s0 s1 : 
   answered Broken w = absurd w
   answered (Spent count) w = absurd w
 
-module _ (q : HttpRequest) (space : List ℕ) (s0 s1 : NodeSeat) (m0 m1 : ℕ) (t0 t1 : Option Traffic) (asked : space_asked q ≡ Some space) where
+module _ (q : HttpRequest) (asked : Asked) (s0 s1 : NodeSeat) (m0 m1 : ℕ) (t0 t1 : Option Traffic) (asks : room_asked q ≡ Some asked) where
   -- the entry of a Look, and that it was at its moment
   look_moments : (m : NodeEntry) → m.entry.event.now ≡ m1 → m0 ≤ m1 → Moments m0 (m ∷ []) m1
   look_moments m at later = (omega arith, omega arith)
 
-  pub look_answered : (reply : NodeReply) (turn : StateTurn) (made : HttpResponse) → Looks s0 s1 m0 m1 (Ok reply) → look_response reply space ≡ Some made → Responds q.close (response_text (closing q.close made)) t0 t1 turn → AnswersTo q s0 s1 m0 m1 t0 t1 turn
+  pub look_answered : (reply : NodeReply) (turn : StateTurn) (made : HttpResponse) → Looks s0 s1 m0 m1 (Ok reply) → look_response reply asked ≡ Some made → Responds q.close (response_text (closing q.close made)) t0 t1 turn → AnswersTo q s0 s1 m0 m1 t0 t1 turn
   look_answered reply turn made l is w =
-      let told : look_response l.0.entry.reply space ≡ Some made = ap (λ (x : NodeReply). look_response x space) l.2 ∙ is in
-      answered q (l.0 ∷ []) (closing q.close made) s0 s1 m0 m1 t0 t1 (space, made, record { asked = asked; look = l.1 }, told, refl) l.5 (look_moments l.0 l.3 l.4) turn w
+      let told : look_response l.0.entry.reply asked ≡ Some made = ap (λ (x : NodeReply). look_response x asked) l.2 ∙ is in
+      answered q (l.0 ∷ []) (closing q.close made) s0 s1 m0 m1 t0 t1 (asked, made, record { asks = asks; look = l.1 }, told, refl) l.5 (look_moments l.0 l.3 l.4) turn w
 
-  pub look_broken : (reply : NodeReply) → Looks s0 s1 m0 m1 (Ok reply) → look_response reply space ≡ None → Over t0 t1 nothing → AnswersTo q s0 s1 m0 m1 t0 t1 Broken
+  pub look_broken : (reply : NodeReply) → Looks s0 s1 m0 m1 (Ok reply) → look_response reply asked ≡ None → Over t0 t1 nothing → AnswersTo q s0 s1 m0 m1 t0 t1 Broken
   look_broken reply l is over =
-      (space, l.0, record { asked = asked; look = l.1 }, ap (λ (x : NodeReply). look_response x space) l.2 ∙ is, record { made = l.5; moments = look_moments l.0 l.3 l.4; over = over })
+      (asked, l.0, record { asks = asks; look = l.1 }, ap (λ (x : NodeReply). look_response x asked) l.2 ∙ is, record { made = l.5; moments = look_moments l.0 l.3 l.4; over = over })
 
   pub look_spent : (spent : GateSpent) → Looks s0 s1 m0 m1 (Err spent) → Over t0 t1 nothing → AnswersTo q s0 s1 m0 m1 t0 t1 (Spent spent.count)
-  look_spent spent l over = (space, asked, l.0, l.1, record { made = l.3; moments = l.2; over = over })
+  look_spent spent l over = (asked, asks, l.0, l.1, record { made = l.3; moments = l.2; over = over })

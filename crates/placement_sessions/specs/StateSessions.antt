@@ -12,7 +12,8 @@ use Rattle.http_edge.specs.declared.message.HttpResponse.{HttpResponse}
 use Rattle.http_edge.specs.Carry.{AtEnd}
 use Rattle.http_edge.specs.Requests.{IsRequestText, Refuses}
 use Rattle.http_edge.specs.Texts.{response_text}
-use Rattle.placement_sessions.specs.Routes.{space_asked}
+use Rattle.placement_sessions.specs.declared.route.Asked.{Asked}
+use Rattle.placement_sessions.specs.Routes.{room_asked}
 use Rattle.placement_sessions.specs.StateTexts.{look_response}
 use Rattle.placement_sessions.specs.StateTurns.{NodeEntry, NodeSeat, Passes, LooksFor, IsAnswer, IsCutAt, RefusedBy}
 
@@ -79,13 +80,13 @@ EndsState (Malformed n) rounds looks rest written s1 t0 t1 =
     (n ≡ length rounds) × StaysOpen rounds × (looks ≡ []) × ((e : EdgeError) × Refuses rest t0 t1 e × RefusedBy e written)
 EndsState (Broken n) rounds looks rest written s1 t0 t1 =
     (n ≡ length rounds) × StaysOpen rounds × (written ≡ [])
-    × ((q : HttpRequest) × (space : List ℕ) × (m : NodeEntry) × BeginsWith rest q × (looks ≡ m ∷ []) × LooksFor q space m × (look_response m.entry.reply space ≡ None))
+    × ((q : HttpRequest) × (asked : Asked) × (m : NodeEntry) × BeginsWith rest q × (looks ≡ m ∷ []) × LooksFor q asked m × (look_response m.entry.reply asked ≡ None))
 EndsState (ConnFault n) rounds looks rest written s1 t0 t1 = (n ≡ length rounds) × StaysOpen rounds × CutsOff ports.Failed looks rest written
 EndsState (OutOfMemory n) rounds looks rest written s1 t0 t1 = (n ≡ length rounds) × StaysOpen rounds × CutsOff ports.OutOfMemory looks rest written
 EndsState (Spent n count) rounds looks rest written s1 t0 t1 =
     (n ≡ length rounds) × StaysOpen rounds × (looks ≡ []) × (written ≡ [])
     × (((n ≡ most_requests) × (count ≡ most_requests))
-    ⊎ ((q : HttpRequest) × (space : List ℕ) × BeginsWith rest q × (space_asked q ≡ Some space) × (length (seen_of s1) ≡ 2 ^ 62) × (count ≡ 2 ^ 62)))
+    ⊎ ((q : HttpRequest) × (asked : Asked) × BeginsWith rest q × (room_asked q ≡ Some asked) × (length (seen_of s1) ≡ 2 ^ 62) × (count ≡ 2 ^ 62)))
 
 abbrev pub IsStateSession : NodeSeat → NodeSeat → ℕ → ℕ → Option Traffic → Option Traffic → SessionEnd → Type 0
 IsStateSession s0 s1 m0 m1 t0 t1 end =

@@ -1,4 +1,4 @@
--- One request for the state of a room, and what came of it. Own.
+-- One request for a room, and what came of it. Own.
 use Rattle.std.specs.Prelude.{◌≡◌, ◌<◌, ◌≤◌, ◌^◌, ℕ, Bool, true, List, [], ◌∷◌, length, Option, Some, None, Result, Ok, Err}
 use Rattle.actor_ports.specs.declared.port.PortError.{PortError}
 use Rattle.actor_ports.specs.declared.port.PortError.TheVariants as ports
@@ -19,7 +19,8 @@ use Rattle.round_core.specs.declared.event.PlaceEvent.TheVariants.{Look}
 use Rattle.placement_node.specs.declared.reply.NodeEvent.{NodeEvent}
 use Rattle.placement_node.specs.declared.reply.NodeReply.{NodeReply}
 use Rattle.placement_node.specs.Node.{NodeState}
-use Rattle.placement_sessions.specs.Routes.{space_asked}
+use Rattle.placement_sessions.specs.declared.route.Asked.{Asked}
+use Rattle.placement_sessions.specs.Routes.{room_asked}
 use Rattle.placement_sessions.specs.StateTexts.{closing, refused_with, look_response}
 use Rattle.placement_sessions.specs.declared.state_turn.StateTurn.{StateTurn}
 use Rattle.placement_sessions.specs.declared.state_turn.StateTurn.TheVariants.{Answered, Cut, Broken, Spent}
@@ -46,16 +47,16 @@ pub record Passes (looks : List NodeEntry) (s0 s1 : NodeSeat) (m0 m1 : ℕ) (t0 
 
 -- ---- the answer to a request
 
--- the request asks for the room of this space, and the entry is a Look
-pub record LooksFor (q : HttpRequest) (space : List ℕ) (m : NodeEntry) : Type 0 where
-  pub asked : space_asked q ≡ Some space
+-- the request asks for this, and the entry is a Look
+pub record LooksFor (q : HttpRequest) (asked : Asked) (m : NodeEntry) : Type 0 where
+  pub asks : room_asked q ≡ Some asked
   pub look : m.entry.event.event ≡ Look
 
 -- A request that asks for no room is answered so without a step; one that asks for a room is one Look, and is answered
 -- by its reply. After a request that closes its connection the session ends.
 abbrev pub IsAnswer : HttpRequest → List NodeEntry → HttpResponse → Type 0
-IsAnswer q [] r = (space_asked q ≡ None) × (r ≡ closing q.close (refused_with api.NoRoute))
-IsAnswer q (m ∷ []) r = (space : List ℕ) × (made : HttpResponse) × LooksFor q space m × (look_response m.entry.reply space ≡ Some made) × (r ≡ closing q.close made)
+IsAnswer q [] r = (room_asked q ≡ None) × (r ≡ closing q.close (refused_with api.NoRoute))
+IsAnswer q (m ∷ []) r = (asked : Asked) × (made : HttpResponse) × LooksFor q asked m × (look_response m.entry.reply asked ≡ Some made) × (r ≡ closing q.close made)
 IsAnswer q (m ∷ n ∷ looks) r = ⊥
 
 -- all of the answer was written; after Failed a prefix of it, and after OutOfMemory none
@@ -70,9 +71,9 @@ AnswersTo q s0 s1 m0 m1 t0 t1 (Answered closes) =
 AnswersTo q s0 s1 m0 m1 t0 t1 (Cut e) =
     (looks : List NodeEntry) × (r : HttpResponse) × (front : List ℕ) × IsAnswer q looks r × IsCutAt e front (response_text r) × Passes looks s0 s1 m0 m1 t0 t1 [] front
 AnswersTo q s0 s1 m0 m1 t0 t1 Broken =
-    (space : List ℕ) × (m : NodeEntry) × LooksFor q space m × (look_response m.entry.reply space ≡ None) × Passes (m ∷ []) s0 s1 m0 m1 t0 t1 [] []
+    (asked : Asked) × (m : NodeEntry) × LooksFor q asked m × (look_response m.entry.reply asked ≡ None) × Passes (m ∷ []) s0 s1 m0 m1 t0 t1 [] []
 AnswersTo q s0 s1 m0 m1 t0 t1 (Spent count) =
-    (space : List ℕ) × (space_asked q ≡ Some space) × (length (seen_of s1) ≡ 2 ^ 62) × (count ≡ 2 ^ 62) × Passes [] s0 s1 m0 m1 t0 t1 [] []
+    (asked : Asked) × (room_asked q ≡ Some asked) × (length (seen_of s1) ≡ 2 ^ 62) × (count ≡ 2 ^ 62) × Passes [] s0 s1 m0 m1 t0 t1 [] []
 
 -- what came of a response with this text
 abbrev pub Responds : Bool → List ℕ → Option Traffic → Option Traffic → StateTurn → Type 0

@@ -1,9 +1,12 @@
-// The responses to requests for the state of a room.
+// The responses to requests for a room.
 ghost use Rattle.std.specs.Prelude.{◌≡◌, None, Some, IfOk, MatchOption};
+ghost use Rattle.std.specs.Option.{option_copied};
 ghost use Rattle.http_edge.specs.declared.message.HttpResponse.{HttpResponse};
 ghost use Rattle.actors_api.specs.Responses.{field, json_response};
-ghost use Rattle.placement_sessions.specs.StateTexts.{room_text, closing, refused_with, refusal_response, frame_response, look_response};
+ghost use Rattle.placement_sessions.specs.StateTexts.{room_in, state_of, rounds_of, asked_text, closing, refused_with, refusal_response, frame_response, look_response};
 
+use crate::round_text::rounds_text;
+use crate::route::Asked;
 use crate::text::state_text;
 use actor_names::Space;
 use actors_api::{ApiRefusal, ApiReply, Side, write_api};
@@ -13,16 +16,46 @@ use lists_and_limits::OutOfMemory;
 use placement_node::{NodeReply, RoomSeen};
 use std::alloc::Global;
 
-// The text of a space's room.
-fn room_text(alloc: Global, rooms: &[RoomSeen], space: &Space) -> Result<Vec<u8>, OutOfMemory>
-    ensures { IfOk result (λ text. text.items ≡ room_text rooms.now space.now) }
+// The room of a space, if there is one.
+fn room_in<'a>(rooms: &'a [RoomSeen], space: &Space) -> Option<&'a RoomSeen>
+    ensures { option_copied result ≡ room_in rooms.now space.now }
 {
     for room in rooms {
         if room.space.as_slice() == space.as_slice() {
-            return state_text(alloc, room.members.as_slice(), room.version);
+            return Some(room);
         }
     }
-    state_text(alloc, &[], 0)
+    None
+}
+
+// The text of a space's members and version.
+fn state_of(alloc: Global, room: Option<&RoomSeen>) -> Result<Vec<u8>, OutOfMemory>
+    ensures { IfOk result (λ text. text.items ≡ state_of (option_copied room.entry)) }
+{
+    match room {
+        Some(room) => state_text(alloc, room.members.as_slice(), room.version),
+        None => state_text(alloc, &[], 0),
+    }
+}
+
+// The text of a space's round.
+fn rounds_of(alloc: Global, room: Option<&RoomSeen>) -> Result<Vec<u8>, OutOfMemory>
+    ensures { IfOk result (λ text. text.items ≡ rounds_of (option_copied room.entry)) }
+{
+    match room {
+        Some(room) => rounds_text(alloc, &room.round, room.version),
+        None => rounds_text(alloc, &None, 0),
+    }
+}
+
+// The text that is asked for.
+fn asked_text(alloc: Global, asked: &Asked, rooms: &[RoomSeen]) -> Result<Vec<u8>, OutOfMemory>
+    ensures { IfOk result (λ text. text.items ≡ asked_text asked.now rooms.now) }
+{
+    match asked {
+        Asked::State { space } => state_of(alloc, room_in(rooms, space)),
+        Asked::Rounds { space } => rounds_of(alloc, room_in(rooms, space)),
+    }
 }
 
 // A field with this name and value.
@@ -81,16 +114,16 @@ pub(crate) fn refused_with(
     closing(alloc, closes, response)
 }
 
-// The response with the text of a space's room.
+// The response with the text that is asked for.
 fn room_response(
     alloc: Global,
     closes: bool,
     rooms: &[RoomSeen],
-    space: &Space,
+    asked: &Asked,
 ) -> Result<HttpResponse, OutOfMemory>
-    ensures { IfOk result (λ made. made ≡ closing closes (json_response 200 (room_text rooms.now space.now))) }
+    ensures { IfOk result (λ made. made ≡ closing closes (json_response 200 (asked_text asked.now rooms.now))) }
 {
-    let body = room_text(alloc, rooms, space)?;
+    let body = asked_text(alloc, asked, rooms)?;
     let response = json_response(alloc, body)?;
     closing(alloc, closes, response)
 }
@@ -123,17 +156,17 @@ fn frame_response(
     }
 }
 
-/// The response to a request for a space's room, by the reply to its Look; none if the node must be opened again.
+/// The response to a request for a room, by the reply to its Look; none if the node must be opened again.
 pub(crate) fn look_response(
     alloc: Global,
     closes: bool,
     reply: &NodeReply,
-    space: &Space,
+    asked: &Asked,
 ) -> Option<Result<HttpResponse, OutOfMemory>>
-    ensures { MatchOption result (look_response reply.now space.now ≡ None) (λ made. (r : HttpResponse) × (look_response reply.now space.now ≡ Some r) × IfOk made (λ m. m ≡ closing closes r)) }
+    ensures { MatchOption result (look_response reply.now asked.now ≡ None) (λ made. (r : HttpResponse) × (look_response reply.now asked.now ≡ Some r) × IfOk made (λ m. m ≡ closing closes r)) }
 {
     match reply {
-        NodeReply::Seen { rooms } => Some(room_response(alloc, closes, rooms.as_slice(), space)),
+        NodeReply::Seen { rooms } => Some(room_response(alloc, closes, rooms.as_slice(), asked)),
         NodeReply::Message { frame } => frame_response(alloc, closes, frame),
         NodeReply::Ticked { dropped: _ } => None,
     }

@@ -1,4 +1,4 @@
-// A session over HTTP: the state of rooms.
+// A session over HTTP: the state and the rounds of rooms.
 ghost use Rattle.step_gate.specs.Gates.{IsSeatOf};
 ghost use Rattle.frame_session.specs.Sessions.{SessionCause};
 ghost use Rattle.placement_node.specs.Node.{NodeAllows};
@@ -14,10 +14,10 @@ use std::alloc::Global;
 use std::sync::Wait;
 use step_gate::{Gate, Seat};
 
-/// Answers the requests of a connection until it ends. `GET /placement/state`, also with the query `space=S`, is one
-/// Look at the gate and is answered with the state of the room; anything else is no route. The session ends after a
-/// request that closes its connection. Bytes that are no request are refused, and the session ends. `requests` is the
-/// number of requests whose responses were written whole.
+/// Answers the requests of a connection until it ends. `GET /placement/state` and `GET /placement/rounds`, also with the
+/// query `space=S`, are one Look at the gate each, and are answered with the members of the room and with its round;
+/// anything else is no route. The session ends after a request that closes its connection. Bytes that are no request are
+/// refused, and the session ends. `requests` is the number of requests whose responses were written whole.
 pub fn placement_state_session<R: Wait, D: Disk, C: Conn, K: Clock>(
     rt: &R,
     alloc: Global,

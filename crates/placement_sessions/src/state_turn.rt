@@ -1,4 +1,4 @@
-// One request for the state of a room.
+// One request for a room.
 ghost use Rattle.std.specs.Prelude.{◌≡◌, ◌≤◌, ◌≢◌, List, ℕ, [], true, Some, IfOk};
 ghost use Rattle.actor_ports.specs.Port.{HasCause};
 ghost use Rattle.step_gate.specs.Gates.{IsSeatOf};
@@ -6,13 +6,12 @@ ghost use Rattle.http_edge.specs.declared.message.HttpResponse.{HttpResponse};
 ghost use Rattle.http_edge.specs.Carry.{Over, Writes, IsFront};
 ghost use Rattle.http_edge.specs.Texts.{response_text};
 ghost use Rattle.placement_node.specs.Node.{NodeAllows};
-ghost use Rattle.placement_sessions.specs.Routes.{space_asked};
+ghost use Rattle.placement_sessions.specs.Routes.{room_asked};
 ghost use Rattle.placement_sessions.specs.StateTexts.{closing, refused_with};
 ghost use Rattle.placement_sessions.specs.StateTurns.{AnswersTo, Responds, TurnCause, Looks, RefusedBy};
 
-use crate::route::space_asked;
+use crate::route::{Asked, room_asked};
 use crate::state_response::{look_response, refused_with};
-use actor_names::Space;
 use actor_ports::{Clock, Conn, PortError};
 use actors_api::{ApiRefusal, edge_refusal};
 use disk_model::Disk;
@@ -120,19 +119,19 @@ fn answer_with<C: Conn>(
     }
 }
 
-// Answers a request for the room of a space.
+// Answers a request that asks for this.
 fn answer_look<R: Wait, D: Disk, C: Conn, K: Clock>(
     rt: &R,
     alloc: Global,
     gate: &Gate<PlacementNode<D>>,
     seat: &mut Seat<PlacementNode<D>>,
     request: &HttpRequest,
-    space: &Space,
+    asked: &Asked,
     conn: &mut C,
     clock: &mut K,
 ) -> StateTurn
     requires seat { IsSeatOf NodeAllows gate.now seat.old }
-    requires asked { space_asked request.now ≡ Some space.now }
+    requires asks { room_asked request.now ≡ Some asked.now }
     ensures seat { IsSeatOf NodeAllows gate.now seat.new }
     ensures answers { AnswersTo request.now seat.old seat.new (K.shown clock.old) (K.shown clock.new) (C.read_traffic conn.old) (C.read_traffic conn.new) result }
     ensures cause { TurnCause (C.read_faults conn.old) (C.read_faults conn.new) result }
@@ -141,7 +140,7 @@ fn answer_look<R: Wait, D: Disk, C: Conn, K: Clock>(
         Err(spent) => return StateTurn::Spent { count: spent.count },
         Ok(reply) => reply,
     };
-    let made = look_response(alloc, request.close, &reply, space);
+    let made = look_response(alloc, request.close, &reply, asked);
     drop(reply);
     match made {
         None => StateTurn::Broken,
@@ -164,11 +163,11 @@ pub(crate) fn answer_request<R: Wait, D: Disk, C: Conn, K: Clock>(
     ensures answers { AnswersTo request.now seat.old seat.new (K.shown clock.old) (K.shown clock.new) (C.read_traffic conn.old) (C.read_traffic conn.new) result }
     ensures cause { TurnCause (C.read_faults conn.old) (C.read_faults conn.new) result }
 {
-    match space_asked(request) {
+    match room_asked(request) {
         None => {
             let made = refused_with(alloc, request.close, ApiRefusal::NoRoute);
             answer_with(alloc, request.close, made, conn)
         }
-        Some(space) => answer_look(rt, alloc, gate, seat, request, &space, conn, clock),
+        Some(asked) => answer_look(rt, alloc, gate, seat, request, &asked, conn, clock),
     }
 }

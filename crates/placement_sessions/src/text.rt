@@ -19,8 +19,8 @@ fn add_name(out: &mut Vec<u8>, name: &[u8]) -> Result<(), OutOfMemory>
     Ok(())
 }
 
-// A name in quotes.
-fn quoted(alloc: Global, name: &[u8]) -> Result<Vec<u8>, OutOfMemory>
+/// A name in quotes.
+pub(crate) fn quoted(alloc: Global, name: &[u8]) -> Result<Vec<u8>, OutOfMemory>
     ensures { IfOk result (λ text. text.items ≡ in_quotes name.now) }
 {
     let mut text = Vec::new(alloc);

@@ -6,6 +6,7 @@ pub mod Hosts
 pub mod Memory
 pub mod Openings
 pub mod Parts
+mod Pending
 pub mod Reached
 pub mod Replays
 mod Rows

@@ -15,6 +15,7 @@ ghost use Rattle.round_core.specs.Views.{with_state, Gives, GivesInMemory, Gives
 
 use crate::admission::admit;
 use crate::event::{PlaceEvent, PlaceReply};
+use crate::phase::RoundPhase;
 use crate::record::RoomRecord;
 use crate::replay::RoomReplay;
 use crate::restore::{RestoreError, apply_records};
@@ -213,6 +214,21 @@ impl Room {
         ensures { (j : Joined) → slice_get self.now.state.members at ≡ Some j → result ≡ is_late now j }
     {
         self.rounds.is_late(at, now)
+    }
+
+    /// Whether a round is running, and in which stage. Its version is the last one used.
+    pub fn phase(&self) -> RoundPhase
+        ensures { result ≡ self.now.state.phase }
+    {
+        self.rounds.phase()
+    }
+
+    /// Whether the running round waits for the member at this index of `members`: it hasn't acknowledged the stage.
+    pub fn is_pending(&self, at: usize) -> bool
+        requires { at < length self.now.state.members }
+        ensures { (j : Joined) → slice_get self.now.state.members at ≡ Some j → result ≡ j.pending }
+    {
+        self.rounds.is_pending(&self.rounds.members()[at].member)
     }
 
     /// The last version used, 0 before the first round.

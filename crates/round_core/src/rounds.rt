@@ -79,6 +79,13 @@ impl Rounds {
         self.next_version
     }
 
+    /// Whether a round is running, and in which stage.
+    pub(crate) fn phase(&self) -> RoundPhase
+        ensures { result ≡ self.now.state.phase }
+    {
+        self.phase
+    }
+
     /// The greatest boot of the node, 0 if the node is unknown.
     pub(crate) fn greatest(&self, node: &Node) -> u64
         ensures { result ≡ greatest_boot self.now.state.boots node.now }
@@ -179,6 +186,13 @@ impl Rounds {
         self.advance_fully();
         self.start();
         self.advance_fully();
+    }
+
+    /// Whether the member of this member's node is pending.
+    pub(crate) fn is_pending(&self, member: &Member) -> bool
+        ensures { result ≡ is_pending self.now.state.members member.now }
+    {
+        self.roster.is_pending(member)
     }
 
     /// What a member is told.

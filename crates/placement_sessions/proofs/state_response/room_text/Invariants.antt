@@ -1,7 +1,0 @@
-use Rattle.std.proofs.Common.{◌≡◌, drop}
-use Rattle.placement_sessions.specs.StateTexts.{room_text}
-use Rattle.placement_sessions.proofs.state_response.room_text.Given as goal
-
--- no room so far is that of the space
-abbrev pub invariant-loop-room : goal.invariant-loop-room
-invariant-loop-room l = room_text (drop l.room-index l.rooms) l.space ≡ room_text l.rooms l.space
