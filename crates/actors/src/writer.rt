@@ -78,12 +78,14 @@ fn write_lost<R: Eprint>(rt: &R, alloc: Global, at_ms: u64, lost: u64) {
 
 // Writes what was said since the last look.
 fn write_news<R: Eprint>(rt: &R, alloc: Global, log: &EventLog, batch: &mut Batch) {
+    // Read first: no line that is said behind these bears an earlier moment.
+    let now = log.now_ms();
     let lost = log.take(batch);
     for line in batch.as_slice() {
         write_line(rt, alloc, line);
     }
     if lost > 0 {
-        write_lost(rt, alloc, log.now_ms(), lost);
+        write_lost(rt, alloc, now, lost);
     }
 }
 

@@ -3,10 +3,7 @@ use Rattle.std.proofs.Common.{◌≡◌, refl, codes}
 use Rattle.std.specs.Fmt.{digits}
 use Rattle.schedule_text.specs.Calendar.{date_of}
 use Rattle.schedule_text.specs.Moments.{moment_text}
-use Rattle.actor_names.specs.declared.member.Member.{Member}
-use Rattle.event_log.specs.declared.batch.Line.{Line}
 use Rattle.event_log.specs.declared.notice.Dismissal.TheVariants.{StaleBoot}
-use Rattle.event_log.specs.declared.notice.Notice.{Notice}
 use Rattle.event_log.specs.declared.notice.Notice.TheVariants.{Listening, Joined, RoundEnded, Compacted, Dismissed, Away}
 use Rattle.event_log.specs.declared.notice.Peer.TheVariants.{Store}
 use Rattle.event_log.specs.Lines.{line_text, notice_text, stamp_text, lost_text}

@@ -60,14 +60,14 @@ impl Batch {
     }
 
     // Adds a line, and answers whether there was room for it. It takes no memory.
-    pub(crate) fn add(&mut self, line: Line) -> bool
-        ensures kept { length self.old < MOST_LINES → (result ≡ true) × (self.new ≡ self.old ++ line ∷ []) }
+    pub(crate) fn add(&mut self, at_ms: u64, notice: Notice) -> bool
+        ensures kept { length self.old < MOST_LINES → (result ≡ true) × (self.new ≡ self.old ++ (record { at_ms = at_ms; notice = notice }) ∷ []) }
         ensures full { MOST_LINES ≤ length self.old → (result ≡ false) × (self.new ≡ self.old) }
     {
         if self.lines.len() >= MOST_LINES {
             return false;
         }
-        self.lines.push(line).unwrap();
+        self.lines.push(Line { at_ms, notice }).unwrap();
         true
     }
 

@@ -1,7 +1,7 @@
 // The log.
 ghost use Rattle.std.specs.Prelude.{◌≡◌, ◌-◌, ◌≤◌, ◌⊎◌, ◌↔◌, IsTrue};
 
-use crate::batch::{Batch, Line};
+use crate::batch::Batch;
 use crate::notice::{Notice, Peer};
 use actor_names::{Address, OutOfMemory};
 use std::alloc::Global;
@@ -65,13 +65,10 @@ impl EventLog {
 
     /// Says that something has happened. A line for which there is no room is counted as lost.
     pub fn say(&self, notice: Notice) {
-        let line = Line {
-            at_ms: self.now_ms(),
-            notice,
-        };
+        let at_ms = self.now_ms();
         for _ in 0..TRIES {
             if let Some(mut pending) = self.pending.try_lock() {
-                if pending.add(line) {
+                if pending.add(at_ms, notice) {
                     return;
                 }
                 break;
