@@ -119,16 +119,17 @@ def at(port):
 
 
 class Process:
-    """A process of the cluster, which can be started again. `before` is shell that runs first in it."""
+    """A process of the cluster, which can be started again. `before` is shell that runs first in it. What it prints goes to
+    its output, and a server's log to the file of that name with `.log`."""
 
     def __init__(self, name, words, output, before=":"):
         self.name, self.words, self.output, self.before = name, [str(word) for word in words], output, before
         self.child = None
 
     def start(self, *more):
-        with open(self.output, "ab") as output:
+        with open(self.output, "ab") as output, open(self.output.with_suffix(".log"), "ab") as log:
             words = ["sh", "-c", f'{self.before}; exec "$@"', "sh", *self.words, *more]
-            self.child = subprocess.Popen(words, stdin=subprocess.DEVNULL, stdout=output, start_new_session=True)
+            self.child = subprocess.Popen(words, stdin=subprocess.DEVNULL, stdout=output, stderr=log, start_new_session=True)
 
     def send(self, number):
         if self.child and self.child.poll() is None:

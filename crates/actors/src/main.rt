@@ -1,12 +1,16 @@
-// The program: the real outside, the words of the command line, and the status.
+// The program: the real outside, the words of the command line, the status, and the log of a server on standard error.
 //
-// It promises nothing of its own: all that it does is `actors_top::run`. Depends on actors_top,
+// It promises nothing of its own: all else that it does is `actors_top::run`. Depends on actors_top, event_log,
 // server_ports and actor_ports.
 #![tactic(auto)]
 
+mod writer;
+
 use actor_ports::{ReaderSource, SystemClock, TcpDial, WITHOUT_END, Waits, WriterSink};
 use actors_top::{Outside, Status, run};
+use event_log::EventLog;
 use server_ports::SystemHost;
+use std::alloc::Global;
 use std::fs::{File, Files};
 use std::net::{Net, TcpListener, TcpStream};
 use std::process::ExitCode;
@@ -16,6 +20,7 @@ use std::sync::{Arc, Wait};
 use std::thread::Threads;
 use std::time::Clock;
 use std::{env, io};
+use writer::{Writing, end_writing, start_writing};
 
 /// How long a dial waits for its answer, in milliseconds.
 const CONNECT_MS: u64 = 5_000;
@@ -48,13 +53,14 @@ fn main(rt: HostRuntime) -> ExitCode {
     ExitCode::from(status(rt))
 }
 
-/// Runs the program over the standard streams, the system's files, TCP and its clock. A word that isn't text is a usage
+/// Runs the program over the standard streams, the system's files, TCP and its clock; a server with a log. A word that isn't text is a usage
 /// error.
 fn status<
     R: Env
         + AllocGlobal
         + Input
         + Print
+        + Eprint
         + Files<File = File>
         + Net<Listener = TcpListener, Stream = TcpStream>
         + Clock
@@ -63,7 +69,8 @@ fn status<
         + Sync
         + Send
         + Copy
-        + Drop,
+        + Drop
+        + 'static,
 >(rt: R) -> u8 {
     let words = match read_words(&rt) {
         Ok(words) => words,
@@ -106,7 +113,38 @@ fn status<
         steady: SystemClock::steady(rt),
         host: SystemHost::new(rt.alloc(), rt, host_ended, waits_of(words.as_slice())),
     };
-    run(&rt, rt.alloc(), words.as_slice(), &mut outside)
+    let Some(writing) = new_writing(rt.alloc()) else {
+        return Status::OutOfMemory as u8;
+    };
+    let is_writing = is_server(words.as_slice()) && start_writing(rt, &writing);
+    let status = run(
+        &rt,
+        rt.alloc(),
+        words.as_slice(),
+        &mut outside,
+        &writing.log,
+    );
+    if is_writing {
+        end_writing(&rt, &writing);
+    }
+    status
+}
+
+/// A log in which nothing was said.
+fn new_writing(alloc: Global) -> Option<Arc<Writing, Global>> {
+    let log = EventLog::new(alloc).ok()?;
+    Arc::new(alloc, Writing::new(log)).ok()
+}
+
+/// Whether these words begin a server: the other commands say nothing in a log.
+fn is_server(words: &[String]) -> bool {
+    match words {
+        [command, ..] => matches!(
+            command.as_str(),
+            "placement" | "store" | "sidecar" | "standby"
+        ),
+        [] => false,
+    }
 }
 
 /// How long the connections to the server of these words wait.

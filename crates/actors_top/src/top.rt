@@ -27,6 +27,7 @@ use actor_ports::{Clock, Dial, Sink, Source};
 use command_words::{
     CommandWords, PlacementWords, ServerWords, SidecarWords, StandbyWords, WordsError, read_words,
 };
+use event_log::EventLog;
 use placement_command::run_placement;
 use plain_commands::{Status, run_plain};
 use server_ports::Host;
@@ -74,6 +75,7 @@ fn placement<
     alloc: Global,
     words: &PlacementWords<'_>,
     out: &mut Outside<I, W, N, A, P, T, H>,
+    log: &EventLog,
 ) -> ServerStatus
     ensures ran { (end : PlacementEnd) × RanPlacement (told_placement words.now) (T.shown out.new.steady) end (told_by H.asked H.handed H.open_faults H.bind_faults out.old.host) (told_by H.asked H.handed H.open_faults H.bind_faults out.new.host)
         × IfSome words.now.standby (λ at. DialsStandby N.Link.read_traffic (place_of at) (N.dialled out.old.net) (N.dialled out.new.net) end)
@@ -94,6 +96,7 @@ fn placement<
         &mut out.host,
         &mut out.net,
         &mut out.steady,
+        log,
     );
     tell_placement(alloc, end, &mut out.output)
 }
@@ -113,6 +116,7 @@ fn store<
     alloc: Global,
     words: &ServerWords<'_>,
     out: &mut Outside<I, W, N, A, P, T, H>,
+    log: &EventLog,
 ) -> ServerStatus
     ensures ran { (end : StoreEnd) × RanStore (told_server words.now) end (told_by H.asked H.handed H.open_faults H.bind_faults out.old.host) (told_by H.asked H.handed H.open_faults H.bind_faults out.new.host)
         × TellsServer (store_damage end) (store_status end) result (W.contents out.old.output) (W.contents out.new.output) }
@@ -123,7 +127,7 @@ fn store<
     ensures ports_back { H.ports_out out.new.host ≡ H.ports_out out.old.host }
     ensures disks_back { result ≢ ServerStatus.OutOfMemory → H.disks_out out.new.host ≡ H.disks_out out.old.host }
 {
-    let end = run_store(rt, alloc, words, &mut out.host, &out.net, &out.time);
+    let end = run_store(rt, alloc, words, &mut out.host, &out.net, &out.time, log);
     tell_store(alloc, end, &mut out.output)
 }
 
@@ -142,6 +146,7 @@ fn standby<
     alloc: Global,
     words: &StandbyWords<'_>,
     out: &mut Outside<I, W, N, A, P, T, H>,
+    log: &EventLog,
 ) -> ServerStatus
     ensures ran { (end : StandbyEnd) × RanStandby (told_standby words.now) end (told_by H.asked H.handed H.open_faults H.bind_faults out.old.host) (told_by H.asked H.handed H.open_faults H.bind_faults out.new.host)
         × (result ≡ standby_status end) }
@@ -152,7 +157,7 @@ fn standby<
     ensures ports_back { H.ports_out out.new.host ≡ H.ports_out out.old.host }
     ensures disks_back { H.disks_out out.new.host ≡ H.disks_out out.old.host }
 {
-    standby_status(run_standby(rt, alloc, words, &mut out.host))
+    standby_status(run_standby(rt, alloc, words, &mut out.host, log))
 }
 
 // Runs a sidecar.
@@ -170,6 +175,7 @@ fn sidecar<
     alloc: Global,
     words: &SidecarWords<'_>,
     out: &mut Outside<I, W, N, A, P, T, H>,
+    log: &EventLog,
 ) -> SidecarStatus
     ensures asks { AsksPorts (place_of words.now.listen) (place_of words.now.peer) (H.asked out.old.host) (H.asked out.new.host) }
     ensures tells { (end : SidecarEnd)
@@ -195,6 +201,7 @@ fn sidecar<
         &callees,
         &mut out.time,
         &out.steady,
+        log,
     );
     tell_sidecar(alloc, &end, &mut out.output)
 }
@@ -213,7 +220,8 @@ fn sidecar<
 /// `sidecar`: a sidecar of an application, which serves callers and other sidecars at two addresses, with a placement and a
 /// store at two others; with `--placement2 ADDR` the placement is looked for there too, in turn. `standby`, with
 /// `--journal PATH`, `--listen ADDR` and perhaps `--sessions N`: the file at the path, which is made if there is none, is kept
-/// as a copy of a placement's journal, by one session after the other. Own.
+/// as a copy of a placement's journal, by one session after the other. What happens to a server meanwhile is said in the log,
+/// of which no clause speaks. Own.
 pub fn run<
     R: Threads + Wait + Sync,
     I: Source,
@@ -223,7 +231,13 @@ pub fn run<
     P: Dial<Link = N::Link>,
     T: Clock,
     H: Host,
->(rt: &R, alloc: Global, words: &[String], out: &mut Outside<I, W, N, A, P, T, H>) -> u8
+>(
+    rt: &R,
+    alloc: Global,
+    words: &[String],
+    out: &mut Outside<I, W, N, A, P, T, H>,
+    log: &EventLog,
+) -> u8
     // Words end as usage only if they have no reading; without a reading, words with options may also run out of memory.
     // Nothing is read or written then.
     ensures usage { result ≡ 2 → reading (map string_bytes words.now) ≡ None }
@@ -303,10 +317,10 @@ pub fn run<
     ensures disks_back { result ≢ 8 → H.disks_out out.new.host ≡ H.disks_out out.old.host }
 {
     match read_words(alloc, words) {
-        Ok(CommandWords::Placement(words)) => placement(rt, alloc, &words, out) as u8,
-        Ok(CommandWords::Store(words)) => store(rt, alloc, &words, out) as u8,
-        Ok(CommandWords::Sidecar(words)) => sidecar(rt, alloc, &words, out) as u8,
-        Ok(CommandWords::Standby(words)) => standby(rt, alloc, &words, out) as u8,
+        Ok(CommandWords::Placement(words)) => placement(rt, alloc, &words, out, log) as u8,
+        Ok(CommandWords::Store(words)) => store(rt, alloc, &words, out, log) as u8,
+        Ok(CommandWords::Sidecar(words)) => sidecar(rt, alloc, &words, out, log) as u8,
+        Ok(CommandWords::Standby(words)) => standby(rt, alloc, &words, out, log) as u8,
         Err(WordsError::OutOfMemory) => Status::OutOfMemory as u8,
         _ => run_plain(alloc, words, &mut out.input, &mut out.output),
     }

@@ -11,6 +11,7 @@ use crate::ends::end_of;
 use crate::serving::serve_node;
 use actor_ports::{Clock, Dial};
 use command_words::PlacementWords;
+use event_log::EventLog;
 use placement_node::{PlacementNode, node_law};
 use server_ports::Host;
 use std::alloc::Global;
@@ -26,6 +27,7 @@ fn serve_alone<R: Threads + Wait + Sync, H: Host, N: Dial, K: Clock>(
     host: &mut H,
     net: &N,
     clock: &K,
+    log: &EventLog,
 ) -> PlacementEnd
     requires { 0 < H.disks_out host.old }
     ensures asks { AsksPorts (place_of words.now.server.listen) words.now.http (H.asked host.old) (H.asked host.new) }
@@ -39,7 +41,7 @@ fn serve_alone<R: Threads + Wait + Sync, H: Host, N: Dial, K: Clock>(
     ensures ran { (back : List (Option DiskState)) × Hands (H.handed host.old) (given_back back) (H.handed host.new) × EndsNode node result back }
 {
     node_law();
-    match serve_node(rt, alloc, node, words, host, net, clock) {
+    match serve_node(rt, alloc, node, words, host, net, clock, log) {
         Err(_) => PlacementEnd::OutOfMemory,
         Ok(left) => {
             let NodeBack { node, end } = left;
@@ -58,6 +60,7 @@ pub(crate) fn run_alone<R: Threads + Wait + Sync, H: Host, N: Dial, K: Clock>(
     host: &mut H,
     net: &N,
     clock: &mut K,
+    log: &EventLog,
 ) -> PlacementEnd
     requires { 0 < H.disks_out host.old }
     ensures asks { AsksPorts (place_of words.now.server.listen) words.now.http (H.asked host.old) (H.asked host.new) }
@@ -72,7 +75,7 @@ pub(crate) fn run_alone<R: Threads + Wait + Sync, H: Host, N: Dial, K: Clock>(
 {
     node_law();
     match PlacementNode::open(alloc, disk, words.server.is_new, clock.now_ms()) {
-        Ok(node) => serve_alone(rt, alloc, node, words, host, net, clock),
+        Ok(node) => serve_alone(rt, alloc, node, words, host, net, clock, log),
         Err((error, disk)) => {
             host.done_disk(disk);
             end_of(error)

@@ -9,6 +9,7 @@ use crate::alone::run_alone;
 use crate::mirrored::run_mirrored;
 use actor_ports::{Clock, Dial, PortError};
 use command_words::PlacementWords;
+use event_log::EventLog;
 use server_ports::Host;
 use std::alloc::Global;
 use std::sync::Wait;
@@ -44,7 +45,7 @@ fn unopened(error: PortError) -> PlacementEnd
 /// Opens the placement's journal, binds its ports and serves it, until as many connections were served as the words say,
 /// or without an end. It ends earlier if the disk or a port fails. If the words name a standby, this is dialled by `net` and
 /// gets the bytes of the journal first; from then on each change is done on both before it is answered, and a standby that
-/// fails is a disk that fails.
+/// fails is a disk that fails. What happens meanwhile is said in the log, of which no clause speaks.
 pub fn run_placement<R: Threads + Wait + Sync, H: Host, N: Dial, K: Clock>(
     rt: &R,
     alloc: Global,
@@ -52,6 +53,7 @@ pub fn run_placement<R: Threads + Wait + Sync, H: Host, N: Dial, K: Clock>(
     host: &mut H,
     net: &mut N,
     clock: &mut K,
+    log: &EventLog,
 ) -> PlacementEnd
     ensures asks { AsksOnly words.now.server.journal.now (place_of words.now.server.listen) words.now.http (H.asked host.old) (H.asked host.new) }
     // A fault is answered only if the host's count of such faults rose; with a standby, also if the dialler's did, or, of a
@@ -79,7 +81,7 @@ pub fn run_placement<R: Threads + Wait + Sync, H: Host, N: Dial, K: Clock>(
         Err(error) => return unopened(error),
     };
     match words.standby {
-        None => run_alone(rt, alloc, disk, words, host, net, clock),
-        Some(at) => run_mirrored(rt, alloc, disk, at, words, host, net, clock),
+        None => run_alone(rt, alloc, disk, words, host, net, clock, log),
+        Some(at) => run_mirrored(rt, alloc, disk, at, words, host, net, clock, log),
     }
 }

@@ -14,6 +14,7 @@ use crate::serving::serve_node;
 use actor_names::Address;
 use actor_ports::{Clock, Dial, PortError};
 use command_words::PlacementWords;
+use event_log::EventLog;
 use placement_node::{PlacementNode, node_law};
 use server_ports::Host;
 use standby_core::Mirror;
@@ -76,6 +77,7 @@ fn serve_mirrored<R: Threads + Wait + Sync, H: Host, N: Dial, K: Clock>(
     host: &mut H,
     net: &mut N,
     clock: &K,
+    log: &EventLog,
 ) -> PlacementEnd
     requires disk { 0 < H.disks_out host.old }
     requires link { 0 < N.room net.old }
@@ -94,7 +96,7 @@ fn serve_mirrored<R: Threads + Wait + Sync, H: Host, N: Dial, K: Clock>(
     ensures ran { (back : List (Option DiskState)) × Hands (H.handed host.old) (given_back back) (H.handed host.new) × EndsNode node result back }
 {
     node_law();
-    match serve_node(rt, alloc, node, words, host, net, clock) {
+    match serve_node(rt, alloc, node, words, host, net, clock, log) {
         Err(_) => PlacementEnd::OutOfMemory,
         Ok(left) => {
             let NodeBack { node, end } = left;
@@ -115,6 +117,7 @@ fn open_mirrored<R: Threads + Wait + Sync, H: Host, N: Dial, K: Clock>(
     host: &mut H,
     net: &mut N,
     clock: &mut K,
+    log: &EventLog,
 ) -> PlacementEnd
     requires disk { 0 < H.disks_out host.old }
     requires link { 0 < N.room net.old }
@@ -132,7 +135,7 @@ fn open_mirrored<R: Threads + Wait + Sync, H: Host, N: Dial, K: Clock>(
 {
     node_law();
     match PlacementNode::open(alloc, mirror, words.server.is_new, clock.now_ms()) {
-        Ok(node) => serve_mirrored(rt, alloc, node, words, host, net, clock),
+        Ok(node) => serve_mirrored(rt, alloc, node, words, host, net, clock, log),
         Err((error, mirror)) => {
             give_both(host, net, mirror);
             end_of(error)
@@ -151,6 +154,7 @@ pub(crate) fn run_mirrored<R: Threads + Wait + Sync, H: Host, N: Dial, K: Clock>
     host: &mut H,
     net: &mut N,
     clock: &mut K,
+    log: &EventLog,
 ) -> PlacementEnd
     requires { 0 < H.disks_out host.old }
     ensures asks { AsksPorts (place_of words.now.server.listen) words.now.http (H.asked host.old) (H.asked host.new) }
@@ -173,7 +177,7 @@ pub(crate) fn run_mirrored<R: Threads + Wait + Sync, H: Host, N: Dial, K: Clock>
         }
     };
     match Mirror::attach(alloc, disk, link) {
-        Ok(mirror) => open_mirrored(rt, alloc, mirror, words, host, net, clock),
+        Ok(mirror) => open_mirrored(rt, alloc, mirror, words, host, net, clock, log),
         Err((error, disk, link)) => {
             host.done_disk(disk);
             net.done(link);

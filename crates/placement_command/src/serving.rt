@@ -13,6 +13,7 @@ use actor_names::{Address, OutOfMemory};
 use actor_ports::{Clock, Dial};
 use command_words::{PlacementWords, ServerWords};
 use disk_model::Disk;
+use event_log::EventLog;
 use placement_node::PlacementNode;
 use placement_server::{PlacementServed, serve_placement, serve_placement_and_state};
 use server_ports::Host;
@@ -30,6 +31,7 @@ fn serve_frames<R: Threads + Wait + Sync, D: Disk + Drop + Send, H: Host, N: Dia
     host: &mut H,
     net: N,
     clock: K,
+    log: &EventLog,
 ) -> Result<NodeBack<D>, OutOfMemory>
     requires port { 0 < H.ports_out host.old }
     requires sound { H.Port.listen_faults port ≡ 0 }
@@ -52,6 +54,7 @@ fn serve_frames<R: Threads + Wait + Sync, D: Disk + Drop + Send, H: Host, N: Dia
         words.listen,
         words.sessions,
         words.connections,
+        log,
     );
     let port_failed = H::port_failed(&port);
     host.done_port(port);
@@ -79,6 +82,7 @@ fn serve_both<R: Threads + Wait + Sync, D: Disk + Drop + Send, H: Host, N: Dial,
     host: &mut H,
     net: N,
     clock: K,
+    log: &EventLog,
 ) -> Result<NodeBack<D>, OutOfMemory>
     requires ports { 1 < H.ports_out host.old }
     requires sound { H.Port.listen_faults port ≡ 0 }
@@ -104,6 +108,7 @@ fn serve_both<R: Threads + Wait + Sync, D: Disk + Drop + Send, H: Host, N: Dial,
         net,
         words.sessions,
         words.connections,
+        log,
     );
     let port_failed = H::port_failed(&port);
     let state_failed = H::port_failed(&state);
@@ -137,6 +142,7 @@ pub(crate) fn serve_node<
     host: &mut H,
     net: &N,
     clock: &K,
+    log: &EventLog,
 ) -> Result<NodeBack<D>, OutOfMemory>
     ensures asks { AsksPorts (place_of words.now.server.listen) words.now.http (H.asked host.old) (H.asked host.new) }
     ensures disks { (H.disks_out host.new ≡ H.disks_out host.old) × (H.open_faults host.new ≡ H.open_faults host.old) × (H.handed host.new ≡ H.handed host.old) }
@@ -164,7 +170,7 @@ pub(crate) fn serve_node<
         }
     };
     let Some(state_at) = words.http else {
-        return serve_frames(rt, alloc, node, port, &words.server, host, net, clock);
+        return serve_frames(rt, alloc, node, port, &words.server, host, net, clock, log);
     };
     match host.bind(&state_at) {
         Ok(state) => serve_both(
@@ -178,6 +184,7 @@ pub(crate) fn serve_node<
             host,
             net,
             clock,
+            log,
         ),
         Err(error) => {
             host.done_port(port);

@@ -11,9 +11,11 @@ ghost use Rattle.placement_node.specs.Node.{NodeAllows};
 use crate::pass::Pass;
 use crate::service::{PlacementService, do_duty};
 use crate::session::{serve_one, serve_state};
+use crate::sight::Sight;
 use actor_names::{Address, OutOfMemory};
 use actor_ports::{Clock, Conn, Dial, Listen};
 use disk_model::Disk;
+use event_log::{EventLog, Notice};
 use placement_node::PlacementNode;
 use server_ports::{Duty, Ending, ServerEnd, serve_port, serve_ports};
 use std::alloc::Global;
@@ -45,16 +47,19 @@ fn serve_at<
     at: Address,
     most: Option<u64>,
     at_once: u64,
+    log: &EventLog,
 ) -> (L, ServerEnd)
     requires { IsSeatOf NodeAllows gate.now pass.seat }
     ensures never_falls { L.listen_faults port ≤ L.listen_faults result.0 }
     ensures cause { result.1 ≡ PortFault → L.listen_faults port < L.listen_faults result.0 }
     ensures limit { result.1 ≡ Served → IsSome most }
 {
+    log.say(Notice::Listening { at });
     let service = PlacementService {
         gate,
         ending: Ending::new(at, None),
         at_once,
+        log,
     };
     let shared = &service;
     let serve = |pass: Pass<D, K, N>, conn: C|
@@ -86,6 +91,7 @@ fn serve_both_at<
     state_at: Address,
     most: Option<u64>,
     at_once: u64,
+    log: &EventLog,
 ) -> (L, L, ServerEnd)
     requires { IsSeatOf NodeAllows gate.now pass.seat }
     ensures never_falls { L.listen_faults port ≤ L.listen_faults result.0 }
@@ -93,10 +99,13 @@ fn serve_both_at<
     ensures limit { result.2 ≡ Served → IsSome most }
     ensures cause { result.2 ≡ PortFault → (L.listen_faults port < L.listen_faults result.0) ⊎ (L.listen_faults state < L.listen_faults result.1) }
 {
+    log.say(Notice::Listening { at });
+    log.say(Notice::Listening { at: state_at });
     let service = PlacementService {
         gate,
         ending: Ending::new(at, Some(state_at)),
         at_once,
+        log,
     };
     let shared = &service;
     let serve = |pass: Pass<D, K, N>, conn: C|
@@ -114,7 +123,8 @@ fn serve_both_at<
 
 /// Serves the placement at a port until `most` connections were served (without a limit if it is `None`), the node has
 /// lost its disk, or the port fails. Each connection has a thread of its own; at most `at_once` of a port are served at
-/// once. The node is given a Tick every 1,000 milliseconds. If memory runs out before the first connection, the node is dropped.
+/// once. The node is given a Tick every 1,000 milliseconds,
+/// and a Look behind it: the log says which members came and went, and which versions were used. If memory runs out before the first connection, the node is dropped.
 pub fn serve_placement<
     R: Threads + Wait + Sync,
     D: Disk + Drop + Send,
@@ -132,6 +142,7 @@ pub fn serve_placement<
     at: Address,
     most: Option<u64>,
     at_once: u64,
+    log: &EventLog,
 ) -> (L, Result<PlacementServed<D>, OutOfMemory>)
     ensures never_falls { L.listen_faults port ≤ L.listen_faults result.0 }
     ensures cause { IfOk result.1 (λ s. s.end ≡ PortFault → L.listen_faults port < L.listen_faults result.0) }
@@ -148,8 +159,10 @@ pub fn serve_placement<
         seat: own,
         clock,
         net,
+        sight: Sight::none(),
     };
-    let (port, end) = serve_at(rt, alloc, &gate, pass, port, at, most, at_once);
+    let (port, end) = serve_at(rt, alloc, &gate, pass, port, at, most, at_once, log);
+    log.say_stop(Notice::Ended);
     let node = gate.close(rt, seat);
     (port, Ok(PlacementServed { node, end }))
 }
@@ -176,6 +189,7 @@ pub fn serve_placement_and_state<
     net: N,
     most: Option<u64>,
     at_once: u64,
+    log: &EventLog,
 ) -> (L, L, Result<PlacementServed<D>, OutOfMemory>)
     ensures never_falls { L.listen_faults port ≤ L.listen_faults result.0 }
     ensures state_never_falls { L.listen_faults state ≤ L.listen_faults result.1 }
@@ -193,10 +207,12 @@ pub fn serve_placement_and_state<
         seat: own,
         clock,
         net,
+        sight: Sight::none(),
     };
     let (port, state, end) = serve_both_at(
-        rt, alloc, &gate, pass, port, at, state, state_at, most, at_once,
+        rt, alloc, &gate, pass, port, at, state, state_at, most, at_once, log,
     );
+    log.say_stop(Notice::Ended);
     let node = gate.close(rt, seat);
     (port, state, Ok(PlacementServed { node, end }))
 }

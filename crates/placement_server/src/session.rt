@@ -20,13 +20,18 @@ pub(crate) fn serve_one<R: Wait, D: Disk + Drop + Send, C: Conn, K: Clock, N: Di
 )
     requires { IsSeatOf NodeAllows service.now.gate.now pass.seat }
 {
-    let Pass { seat, clock, net } = pass;
+    let Pass {
+        seat,
+        clock,
+        net,
+        sight: _,
+    } = pass;
     let mut conn = conn;
     let mut clock = clock;
     let mut net = net;
     let (_, end) = placement_session(rt, alloc, service.gate, seat, &mut conn, &mut clock);
     if let SessionEnd::Broken { requests: _ } = end {
-        service.ending.stop(&mut net);
+        service.lose_disk(&mut net);
     }
 }
 
@@ -40,12 +45,17 @@ pub(crate) fn serve_state<R: Wait, D: Disk + Drop + Send, C: Conn, K: Clock, N: 
 )
     requires { IsSeatOf NodeAllows service.now.gate.now pass.seat }
 {
-    let Pass { seat, clock, net } = pass;
+    let Pass {
+        seat,
+        clock,
+        net,
+        sight: _,
+    } = pass;
     let mut conn = conn;
     let mut clock = clock;
     let mut net = net;
     let (_, end) = placement_state_session(rt, alloc, service.gate, seat, &mut conn, &mut clock);
     if let SessionEnd::Broken { requests: _ } = end {
-        service.ending.stop(&mut net);
+        service.lose_disk(&mut net);
     }
 }

@@ -17,6 +17,7 @@ use crate::serving::serve_started;
 use actor_names::{OutOfMemory, read_app_id, read_node, read_space};
 use actor_ports::{Clock, Dial};
 use command_words::SidecarWords;
+use event_log::{EventLog, Notice};
 use server_ports::Host;
 use sidecar_node::SidecarNode;
 use sidecar_start::{StartEnd, StartWords, Started, start};
@@ -95,6 +96,7 @@ fn serve_new<
     callees: &Callees<'_, A, P>,
     clock: &K,
     steady: &K,
+    log: &EventLog,
 ) -> SidecarEnd
     requires fits { payload.Fits (frames.Register started.host) }
     requires shallow { AreShallow started.kinds }
@@ -110,17 +112,32 @@ fn serve_new<
         Ok(made) => {
             let (node, seats) = made;
             serve_started(
-                rt, alloc, &node, seats, words, host, net, callees, clock, steady,
+                rt, alloc, &node, seats, words, host, net, callees, clock, steady, log,
             )
         }
         Err(_) => SidecarEnd::OutOfMemory,
     }
 }
 
+// Says which of the store and the application a sidecar doesn't start for.
+fn tell_unstarted(log: &EventLog, words: &SidecarWords<'_>, end: &StartEnd) {
+    match end {
+        StartEnd::StoreRefused { code } => log.say_stop(Notice::StoreRefused {
+            at: words.store,
+            code: *code,
+        }),
+        StartEnd::AppStatus { .. } | StartEnd::AppUnreadable | StartEnd::AppConfig { .. } => {
+            log.say_stop(Notice::NotConfigured { at: words.app_at });
+        }
+        StartEnd::DialFault | StartEnd::OutOfMemory => {}
+    }
+}
+
 /// Runs a sidecar. The store draws its boot, and its application says what it hosts; then it binds its two ports and serves
 /// them, until as many connections of callers were served as the words say, or without an end. It ends earlier if it
 /// doesn't start, has to stop, or a port fails. It starts by `net`, which gives it the connections to the placement and the
-/// store too; those of turns come from `callees`. Silence is measured by `steady`, all else by `clock`.
+/// store too; those of turns come from `callees`. Silence is measured by `steady`, all else by `clock`. What
+/// happens meanwhile is said in the log, of which no clause speaks.
 pub fn run_sidecar<
     R: Threads + Wait + Sync,
     H: Host,
@@ -137,6 +154,7 @@ pub fn run_sidecar<
     callees: &Callees<'_, A, P>,
     clock: &mut K,
     steady: &K,
+    log: &EventLog,
 ) -> SidecarEnd
     ensures asks { AsksPorts (place_of words.now.listen) (place_of words.now.peer) (H.asked host.old) (H.asked host.new) }
     // By the dialler that it holds itself it dials nothing but the addresses of its words.
@@ -151,7 +169,12 @@ pub fn run_sidecar<
     ensures disks { (H.disks_out host.new ≡ H.disks_out host.old) × (H.open_faults host.new ≡ H.open_faults host.old) }
 {
     match start_by(rt, alloc, words, net, clock) {
-        Ok(started) => serve_new(rt, alloc, started, words, host, net, callees, clock, steady),
-        Err(end) => unstarted(end),
+        Ok(started) => serve_new(
+            rt, alloc, started, words, host, net, callees, clock, steady, log,
+        ),
+        Err(end) => {
+            tell_unstarted(log, words, &end);
+            unstarted(end)
+        }
     }
 }

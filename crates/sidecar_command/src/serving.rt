@@ -11,6 +11,7 @@ use crate::callees::Callees;
 use crate::ends::{SidecarEnd, ended, unbound};
 use actor_ports::{Clock, Dial};
 use command_words::SidecarWords;
+use event_log::EventLog;
 use exchanges::Links;
 use server_ports::Host;
 use sidecar_node::{Seats, SidecarNode};
@@ -54,6 +55,7 @@ fn serve_bound<
     net: N,
     clock: K,
     steady: K,
+    log: &EventLog,
 ) -> SidecarEnd
     requires seats { IsSeatsOf node.now seats }
     requires new { IsNewNode (host_of node.now) (kinds_of node.now) (parts_in words.now.parts) node.now seats }
@@ -89,6 +91,7 @@ fn serve_bound<
         steady,
         words.sessions,
         words.connections,
+        log,
     );
     let callers_failed = H::port_failed(&callers);
     let peers_failed = H::port_failed(&peers);
@@ -119,6 +122,7 @@ pub(crate) fn serve_started<
     callees: &Callees<'_, A, P>,
     clock: &K,
     steady: &K,
+    log: &EventLog,
 ) -> SidecarEnd
     requires seats { IsSeatsOf node.now seats }
     requires new { IsNewNode (host_of node.now) (kinds_of node.now) (parts_in words.now.parts) node.now seats }
@@ -142,7 +146,7 @@ pub(crate) fn serve_started<
     };
     match host.bind(&words.peer) {
         Ok(peers) => serve_bound(
-            rt, alloc, node, seats, callers, peers, words, host, links, net, clock, steady,
+            rt, alloc, node, seats, callers, peers, words, host, links, net, clock, steady, log,
         ),
         Err(error) => {
             host.done_port(callers);

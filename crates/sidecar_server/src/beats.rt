@@ -10,6 +10,7 @@ use crate::link::PlacementLink;
 use crate::pass::Pass;
 use crate::placements::{is_one_of, next_address};
 use crate::service::SidecarService;
+use crate::telling::{tell_stop, tell_turn, tell_undialled};
 use crate::watch::{Parties, WatchEvent, turn_event};
 use actor_ports::{Clock, Dial, Waits};
 use placement_beats::{TurnEnd, leave_turn, placement_turn};
@@ -49,7 +50,10 @@ pub(crate) fn tell_watch<R: Wait, A: Dial, P: Dial, N: Dial, K: Clock>(
     let mut pass = pass;
     match service.watch.call_in(rt, &mut pass.watch, event) {
         Ok(None) => pass,
-        Ok(Some(_)) => stop(rt, service, pass),
+        Ok(Some(cause)) => {
+            tell_stop(service.log, cause);
+            stop(rt, service, pass)
+        }
         Err(_) => stop(rt, service, pass),
     }
 }
@@ -147,6 +151,7 @@ fn beat_over<R: Wait, A: Dial, P: Dial, N: Dial, K: Clock>(
         &mut pass.steady,
     );
     pass.seats = seats;
+    tell_turn(service.log, at, end);
     let used = PlacementLink { link, at };
     pass.link = kept_link(end, used);
     pass.is_second ^= has_failed(end);
@@ -191,6 +196,7 @@ pub(crate) fn beat<R: Wait, A: Dial, P: Dial, N: Dial, K: Clock>(
     let left = pass.link.take();
     match linked(service, &mut pass.net, left, pass.is_second) {
         None => {
+            tell_undialled(service, pass.is_second);
             pass.is_second = !pass.is_second;
             pass
         }

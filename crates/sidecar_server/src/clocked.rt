@@ -5,6 +5,7 @@ ghost use Rattle.sidecar_server.specs.Works.{LeavesTables};
 use crate::beats::tell_watch;
 use crate::pass::Pass;
 use crate::service::SidecarService;
+use crate::telling::{tell_reminders, tell_timers};
 use crate::watch::WatchEvent;
 use actor_ports::{Clock, Dial};
 use clock_turns::{closing_turn, tick_turn};
@@ -49,7 +50,7 @@ pub(crate) fn close_idle<R: Wait, A: Dial, P: Dial, N: Dial, K: Clock>(
     pass
 }
 
-/// Runs the timers that are due.
+/// Runs the timers that are due. The log says whether the application is away.
 pub(crate) fn run_timers<R: Wait, A: Dial, P: Dial, N: Dial, K: Clock>(
     rt: &R,
     service: &SidecarService<'_, N, K>,
@@ -60,7 +61,7 @@ pub(crate) fn run_timers<R: Wait, A: Dial, P: Dial, N: Dial, K: Clock>(
     ensures leaves { LeavesTables pass.seats result.seats }
 {
     let mut pass = pass;
-    let (seats, _) = tick_turn(
+    let (seats, end) = tick_turn(
         rt,
         service.alloc,
         service.node,
@@ -69,10 +70,11 @@ pub(crate) fn run_timers<R: Wait, A: Dial, P: Dial, N: Dial, K: Clock>(
         &mut pass.clock,
     );
     pass.seats = seats;
+    tell_timers(service.log, pass.links.app_at, &end);
     pass
 }
 
-/// Runs the reminders that are due.
+/// Runs the reminders that are due. The log says whether the store or the application is away.
 pub(crate) fn run_reminders<R: Wait, A: Dial, P: Dial, N: Dial, K: Clock>(
     rt: &R,
     service: &SidecarService<'_, N, K>,
@@ -83,7 +85,7 @@ pub(crate) fn run_reminders<R: Wait, A: Dial, P: Dial, N: Dial, K: Clock>(
     ensures leaves { LeavesTables pass.seats result.seats }
 {
     let mut pass = pass;
-    let (seats, _) = reminder_turn(
+    let (seats, end) = reminder_turn(
         rt,
         service.alloc,
         service.node,
@@ -92,5 +94,6 @@ pub(crate) fn run_reminders<R: Wait, A: Dial, P: Dial, N: Dial, K: Clock>(
         &mut pass.clock,
     );
     pass.seats = seats;
+    tell_reminders(service.log, pass.links.app_at, pass.links.store_at, &end);
     pass
 }

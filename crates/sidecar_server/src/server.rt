@@ -17,10 +17,12 @@ use crate::pass::Pass;
 use crate::placements::Placements;
 use crate::service::SidecarService;
 use crate::session::serve_at;
+use crate::telling::tell_listening;
 use crate::watch::{Parties, StopCause, Watch};
 use actor_names::{Address, OutOfMemory};
 use actor_ports::{Clock, Conn, Dial, Listen};
 use actors_api::Side;
+use event_log::{EventLog, Notice};
 use exchanges::Links;
 use placement_beats::PlacementBook;
 use server_ports::{Duty, Ending, ServerEnd, serve_ports};
@@ -66,6 +68,7 @@ fn serve_watched<
     places: SidecarPlaces,
     most: Option<u64>,
     at_once: u64,
+    log: &EventLog,
 ) -> (L, L, ServerEnd)
     requires { Admits node.now watch.now pass.seats pass.watch }
     ensures never_falls { L.listen_faults callers ≤ L.listen_faults result.0 }
@@ -81,6 +84,7 @@ fn serve_watched<
         placement: places.placement,
         ending: Ending::new(places.callers, Some(places.peers)),
         at_once,
+        log,
     };
     let shared = &service;
     let serve = |pass: Pass<A, P, N, K>, conn: C|
@@ -144,7 +148,8 @@ fn stop_all<R: Wait>(rt: &R, node: &SidecarNode, seats: Seats) -> Seats
 /// at once. Beside them the sidecar speaks with the
 /// placement and looks whether its lease has ended, every 200 milliseconds; it deactivates idle actors as often, runs the timers
 /// that are due every 100 milliseconds, and the reminders every 1,000. At the end all parts are stopped, and the sidecar
-/// leaves the placement. The lease counts by `steady`. Its host must be one that a Register frame can carry.
+/// leaves the placement. The lease counts by `steady`. The log says where it listens,
+/// when the placement, the store or the application is away, and why it stops. Its host must be one that a Register frame can carry.
 pub fn serve_sidecar<
     R: Threads + Wait + Sync,
     C: Conn,
@@ -167,6 +172,7 @@ pub fn serve_sidecar<
     steady: K,
     most: Option<u64>,
     at_once: u64,
+    log: &EventLog,
 ) -> (L, L, Result<SidecarServed, OutOfMemory>)
     requires seats { IsSeatsOf node.now seats }
     requires host { payload.Fits (frames.Register (host_of node.now)) }
@@ -203,9 +209,11 @@ pub fn serve_sidecar<
         link: None,
         is_second: false,
     };
+    tell_listening(log, places.callers, places.peers);
     let (callers, peers, end) = serve_watched(
-        rt, alloc, node, &gate, pass, callers, peers, places, most, at_once,
+        rt, alloc, node, &gate, pass, callers, peers, places, most, at_once, log,
     );
+    log.say_stop(Notice::Ended);
     let stop = closed_watch(rt, gate, seat);
     // No other thread is left: nothing follows these steps.
     let seats = stop_all(rt, node, last);

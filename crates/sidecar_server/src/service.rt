@@ -5,6 +5,7 @@ use crate::pass::Pass;
 use crate::placements::Placements;
 use crate::watch::Watch;
 use actor_ports::{Clock, Dial};
+use event_log::EventLog;
 use exchanges::Links;
 use placement_beats::PlacementBook;
 use server_ports::{Ending, Service};
@@ -16,7 +17,7 @@ use step_gate::Gate;
 const WORKS: u32 = 12;
 
 /// What the threads of a sidecar share: its node, the gate of the watch, the addresses of the placement, the end of the
-/// server, which listens at two ports, and how many connections of each it serves at once.
+/// server, which listens at two ports, how many connections of each it serves at once, and its log.
 #[derive(Drop)]
 pub(crate) struct SidecarService<'a, N: Dial, K: Clock> {
     pub(crate) alloc: Global,
@@ -25,6 +26,7 @@ pub(crate) struct SidecarService<'a, N: Dial, K: Clock> {
     pub(crate) placement: Placements,
     pub(crate) ending: Ending,
     pub(crate) at_once: u64,
+    pub(crate) log: &'a EventLog,
 }
 
 impl<N: Dial, K: Clock> SidecarService<'_, N, K> {

@@ -8,6 +8,7 @@ use crate::back::{give_back, unbound};
 use crate::serving::serve_bound;
 use actor_ports::PortError;
 use command_words::StandbyWords;
+use event_log::{EventLog, Notice};
 use server_ports::Host;
 use std::alloc::Global;
 use std::sync::Wait;
@@ -38,12 +39,14 @@ fn unopened(error: PortError) -> StandbyEnd
 
 /// Opens the standby's file, which is made if there is none, binds its port, and serves one session after the other, until
 /// as many were served as the words say, or without an end. It ends earlier if the disk or the port fails. A session that
-/// ends otherwise, whatever was read in it, is followed by the next one.
+/// ends otherwise, whatever was read in it, is followed by the next one. What happens meanwhile is said in the log, of which
+/// no clause speaks.
 pub fn run_standby<R: Wait, H: Host>(
     rt: &R,
     alloc: Global,
     words: &StandbyWords<'_>,
     host: &mut H,
+    log: &EventLog,
 ) -> StandbyEnd
     ensures asks { AsksOnly words.now.journal.now (place_of words.now.listen) (H.asked host.old) (H.asked host.new) }
     // A fault is answered only if the host's count of such faults rose.
@@ -64,7 +67,10 @@ pub fn run_standby<R: Wait, H: Host>(
         Err(error) => return unopened(error),
     };
     match host.bind(&words.listen) {
-        Ok(port) => serve_bound(rt, alloc, disk, port, words.sessions, host),
+        Ok(port) => {
+            log.say(Notice::Listening { at: words.listen });
+            serve_bound(rt, alloc, disk, port, words.sessions, host, log)
+        }
         Err(error) => {
             give_back(host, disk);
             unbound(error)

@@ -8,6 +8,7 @@ use crate::back::give_back;
 use crate::command::StandbyEnd;
 use actor_ports::{Listen, PortError, SessionEnd};
 use disk_model::Disk;
+use event_log::{EventLog, Notice};
 use server_ports::Host;
 use standby_session::standby_session;
 use std::alloc::Global;
@@ -33,12 +34,29 @@ fn unaccepted(error: PortError) -> StandbyEnd
     }
 }
 
+// Says that a session ended so: after how many calls, and whether the disk failed.
+fn tell_session(log: &EventLog, end: SessionEnd) {
+    let calls = match end {
+        SessionEnd::Done { requests }
+        | SessionEnd::Malformed { requests }
+        | SessionEnd::Broken { requests }
+        | SessionEnd::ConnFault { requests }
+        | SessionEnd::OutOfMemory { requests }
+        | SessionEnd::Spent { requests, count: _ } => requests,
+    };
+    log.say(Notice::Detached { calls });
+    if let SessionEnd::Broken { requests: _ } = end {
+        log.say_stop(Notice::DiskFailed);
+    }
+}
+
 // Serves the next session, and tells how the command ends, if it does.
 fn serve_next<R: Wait, D: Disk, L: Listen>(
     rt: &R,
     alloc: Global,
     disk: &mut D,
     port: &mut L,
+    log: &EventLog,
 ) -> Option<StandbyEnd>
     ensures serves { ServesNext (D.told disk.old) (D.told disk.new) result }
     ensures never_fall { (D.disk_faults disk.old ≤ D.disk_faults disk.new) × (L.listen_faults port.old ≤ L.listen_faults port.new) }
@@ -49,7 +67,10 @@ fn serve_next<R: Wait, D: Disk, L: Listen>(
         Ok(conn) => conn,
         Err(error) => return Some(unaccepted(error)),
     };
-    next_end(standby_session(rt, alloc, disk, &mut conn))
+    log.say(Notice::Attached);
+    let end = standby_session(rt, alloc, disk, &mut conn);
+    tell_session(log, end);
+    next_end(end)
 }
 
 // Serves so many sessions, or up to the first that ends the command.
@@ -59,6 +80,7 @@ fn serve_many<R: Wait, D: Disk, L: Listen>(
     disk: &mut D,
     port: &mut L,
     most: u64,
+    log: &EventLog,
 ) -> StandbyEnd
     ensures serves { Serves (Some most) (D.told disk.old) (D.told disk.new) result }
     ensures never_fall { (D.disk_faults disk.old ≤ D.disk_faults disk.new) × (L.listen_faults port.old ≤ L.listen_faults port.new) }
@@ -66,7 +88,7 @@ fn serve_many<R: Wait, D: Disk, L: Listen>(
     ensures port_cause { result ≡ StandbyEnd.PortFault → L.listen_faults port.old < L.listen_faults port.new }
 {
     for _ in 0..most {
-        if let Some(end) = serve_next(rt, alloc, disk, port) {
+        if let Some(end) = serve_next(rt, alloc, disk, port, log) {
             return end;
         }
     }
@@ -79,6 +101,7 @@ fn serve_on<R: Wait, D: Disk, L: Listen>(
     alloc: Global,
     disk: &mut D,
     port: &mut L,
+    log: &EventLog,
 ) -> StandbyEnd
     ensures serves { Serves None (D.told disk.old) (D.told disk.new) result }
     ensures never_fall { (D.disk_faults disk.old ≤ D.disk_faults disk.new) × (L.listen_faults port.old ≤ L.listen_faults port.new) }
@@ -86,7 +109,7 @@ fn serve_on<R: Wait, D: Disk, L: Listen>(
     ensures port_cause { result ≡ StandbyEnd.PortFault → L.listen_faults port.old < L.listen_faults port.new }
 {
     for _ in rt.forever() {
-        if let Some(end) = serve_next(rt, alloc, disk, port) {
+        if let Some(end) = serve_next(rt, alloc, disk, port, log) {
             return end;
         }
     }
@@ -100,6 +123,7 @@ fn serve_sessions<R: Wait, D: Disk, L: Listen>(
     disk: &mut D,
     port: &mut L,
     most: Option<u64>,
+    log: &EventLog,
 ) -> StandbyEnd
     ensures serves { Serves most (D.told disk.old) (D.told disk.new) result }
     ensures never_fall { (D.disk_faults disk.old ≤ D.disk_faults disk.new) × (L.listen_faults port.old ≤ L.listen_faults port.new) }
@@ -107,8 +131,8 @@ fn serve_sessions<R: Wait, D: Disk, L: Listen>(
     ensures port_cause { result ≡ StandbyEnd.PortFault → L.listen_faults port.old < L.listen_faults port.new }
 {
     match most {
-        Some(most) => serve_many(rt, alloc, disk, port, most),
-        None => serve_on(rt, alloc, disk, port),
+        Some(most) => serve_many(rt, alloc, disk, port, most, log),
+        None => serve_on(rt, alloc, disk, port, log),
     }
 }
 
@@ -133,6 +157,7 @@ pub(crate) fn serve_bound<R: Wait, H: Host>(
     port: H::Port,
     most: Option<u64>,
     host: &mut H,
+    log: &EventLog,
 ) -> StandbyEnd
     requires disk { 0 < H.disks_out host.old }
     requires port { 0 < H.ports_out host.old }
@@ -147,9 +172,10 @@ pub(crate) fn serve_bound<R: Wait, H: Host>(
 {
     let mut disk = disk;
     let mut port = port;
-    let end = serve_sessions(rt, alloc, &mut disk, &mut port, most);
+    let end = serve_sessions(rt, alloc, &mut disk, &mut port, most, log);
     let port_failed = H::port_failed(&port);
     host.done_port(port);
     let disk_failed = give_back(host, disk);
+    log.say_stop(Notice::Ended);
     ended(end, disk_failed, port_failed)
 }

@@ -10,6 +10,7 @@ use crate::ends::end_of;
 use crate::serving::serve_opened;
 use actor_ports::{Clock, Dial, PortError};
 use command_words::ServerWords;
+use event_log::EventLog;
 use fence_rows::Fenced;
 use server_ports::Host;
 use std::alloc::{AllocError, Global};
@@ -63,6 +64,7 @@ fn run_both<R: Threads + Wait + Sync, H: Host, N: Dial, K: Clock>(
     host: &mut H,
     net: &N,
     clock: &K,
+    log: &EventLog,
 ) -> StoreEnd
     requires { 1 < H.disks_out host.old }
     ensures asks { AsksPort (place_of words.now.listen) (H.asked host.old) (H.asked host.new) }
@@ -76,7 +78,7 @@ fn run_both<R: Threads + Wait + Sync, H: Host, N: Dial, K: Clock>(
     ensures ran { (back : List (Option DiskState)) × Hands (H.handed host.old) (given_back back) (H.handed host.new) × RunsPair words.now.is_new (H.Store.told first) (H.Store.told second) result back }
 {
     match Fenced::open(alloc, first, second, words.is_new) {
-        Ok(store) => serve_opened(rt, alloc, store, words, host, net, clock),
+        Ok(store) => serve_opened(rt, alloc, store, words, host, net, clock, log),
         Err((error, first, second)) => {
             give_both(host, first, second);
             end_of(error)
@@ -94,6 +96,7 @@ fn run_first<R: Threads + Wait + Sync, H: Host, N: Dial, K: Clock>(
     host: &mut H,
     net: &N,
     clock: &K,
+    log: &EventLog,
 ) -> StoreEnd
     requires { 0 < H.disks_out host.old }
     ensures asks { AsksSecond path.now (place_of words.now.listen) (H.asked host.old) (H.asked host.new) }
@@ -107,7 +110,7 @@ fn run_first<R: Threads + Wait + Sync, H: Host, N: Dial, K: Clock>(
     ensures ran { (given : Handed) × Hands (H.handed host.old) given (H.handed host.new) × RunsFirst path.now words.now.is_new (H.Store.told first) result given }
 {
     match host.open_disk(path, true) {
-        Ok(second) => run_both(rt, alloc, first, second, words, host, net, clock),
+        Ok(second) => run_both(rt, alloc, first, second, words, host, net, clock, log),
         Err(error) => {
             host.done_disk(first);
             unopened(error)
@@ -117,7 +120,7 @@ fn run_first<R: Threads + Wait + Sync, H: Host, N: Dial, K: Clock>(
 
 /// Opens the store's two files, the second with `.2` behind the path, binds its port and serves it, until as many
 /// connections were served as the words say, or without an end. It ends earlier if a disk or the port fails. The second
-/// file is made if there is none.
+/// file is made if there is none. What happens meanwhile is said in the log, of which no clause speaks.
 pub fn run_store<R: Threads + Wait + Sync, H: Host, N: Dial, K: Clock>(
     rt: &R,
     alloc: Global,
@@ -125,6 +128,7 @@ pub fn run_store<R: Threads + Wait + Sync, H: Host, N: Dial, K: Clock>(
     host: &mut H,
     net: &N,
     clock: &K,
+    log: &EventLog,
 ) -> StoreEnd
     ensures asks { AsksOnly words.now.journal.now (place_of words.now.listen) (H.asked host.old) (H.asked host.new) }
     // A fault is answered only if the host's count of such faults rose.
@@ -146,7 +150,17 @@ pub fn run_store<R: Threads + Wait + Sync, H: Host, N: Dial, K: Clock>(
         return StoreEnd::OutOfMemory;
     };
     match host.open_disk(words.journal, words.is_new) {
-        Ok(first) => run_first(rt, alloc, first, second.as_str(), words, host, net, clock),
+        Ok(first) => run_first(
+            rt,
+            alloc,
+            first,
+            second.as_str(),
+            words,
+            host,
+            net,
+            clock,
+            log,
+        ),
         Err(error) => unopened(error),
     }
 }

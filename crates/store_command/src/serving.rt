@@ -11,6 +11,7 @@ use crate::back::give_back;
 use crate::command::StoreEnd;
 use actor_ports::{Clock, Dial, PortError};
 use command_words::ServerWords;
+use event_log::EventLog;
 use fence_rows::{Fenced, fence_law};
 use server_ports::{Host, ServerEnd};
 use std::alloc::Global;
@@ -67,6 +68,7 @@ fn serve_bound<R: Threads + Wait + Sync, H: Host, N: Dial, K: Clock>(
     host: &mut H,
     net: &N,
     clock: &K,
+    log: &EventLog,
 ) -> StoreEnd
     requires disks { 1 < H.disks_out host.old }
     requires port { 0 < H.ports_out host.old }
@@ -98,6 +100,7 @@ fn serve_bound<R: Threads + Wait + Sync, H: Host, N: Dial, K: Clock>(
         words.listen,
         words.sessions,
         words.connections,
+        log,
     );
     let port_failed = H::port_failed(&port);
     host.done_port(port);
@@ -116,6 +119,7 @@ pub(crate) fn serve_opened<R: Threads + Wait + Sync, H: Host, N: Dial, K: Clock>
     host: &mut H,
     net: &N,
     clock: &K,
+    log: &EventLog,
 ) -> StoreEnd
     requires disks { 1 < H.disks_out host.old }
     requires stands { Stands store.contents store }
@@ -132,7 +136,7 @@ pub(crate) fn serve_opened<R: Threads + Wait + Sync, H: Host, N: Dial, K: Clock>
     store_law();
     fence_law();
     match host.bind(&words.listen) {
-        Ok(port) => serve_bound(rt, alloc, store, port, words, host, net, clock),
+        Ok(port) => serve_bound(rt, alloc, store, port, words, host, net, clock, log),
         Err(error) => {
             give_back(host, store);
             unbound(error)

@@ -23,7 +23,7 @@ came_by errors.Reopen = Lost
 came_by error = Kept
 
 abbrev pub came_from : CompactEnd → Compaction
-came_from (ends.Compacted rows) = Made
+came_from (ends.Compacted rows) = Made rows
 came_from (ends.NotNeeded len) = Short len
 came_from (ends.Failed error) = came_by error
 came_from ends.OutOfMemory = Kept
@@ -66,12 +66,12 @@ Asks least now before after came = ((r : FencedOutcome) × (Adds (Compact least 
 abbrev pub least_by : ℕ → Compaction → Option ℕ
 least_by least Lost = None
 least_by least (Short len) = Some (next_least len)
-least_by least Made = Some least
+least_by least (Made rows) = Some least
 least_by least Kept = Some least
 
 -- after one that was made the length of the file is asked for, by a compaction that no file is long enough for
 abbrev pub GoesOn : ℕ → ℕ → Compaction → StoreSeat → StoreSeat → Option ℕ → Type 0
-GoesOn least now Made before after next = (again : Compaction) × (Asks greatest_least now before after again × (next ≡ least_by least again))
+GoesOn least now (Made rows) before after next = (again : Compaction) × (Asks greatest_least now before after again × (next ≡ least_by least again))
 GoesOn least now (Short len) before after next = (after ≡ before) × (next ≡ Some least)
 GoesOn least now Kept before after next = (after ≡ before) × (next ≡ Some least)
 GoesOn least now Lost before after next = (after ≡ before) × (next ≡ None)

@@ -6,6 +6,7 @@ ghost use Rattle.store_server.specs.Compacting.{came_by, came_of, grown, next_le
 ghost use Rattle.tx_journal.specs.File.{most_bytes};
 
 use disk_model::Disk;
+use event_log::{EventLog, Notice};
 use fence_rows::{Fenced, FencedEvent, FencedOutcome};
 use std::sync::Wait;
 use step_gate::{Gate, Seat};
@@ -21,8 +22,8 @@ const MOST_BYTES: u64 = 1_073_741_824;
 /// What came of a compaction, to the loop that asks for them.
 #[derive(Clone, Copy)]
 pub(crate) enum Compaction {
-    /// The file was written anew.
-    Made,
+    /// The file was written anew, with `rows` rows.
+    Made { rows: u64 },
     /// The file has `len` bytes, fewer than were asked for.
     Short { len: u64 },
     /// It wasn't written anew, and the store goes on as before.
@@ -47,7 +48,7 @@ fn came_of(outcome: &FencedOutcome) -> Compaction
 {
     match outcome {
         FencedOutcome::CompactIs { end } => match end {
-            CompactEnd::Compacted { rows: _ } => Compaction::Made,
+            CompactEnd::Compacted { rows } => Compaction::Made { rows: *rows },
             CompactEnd::NotNeeded { len } => Compaction::Short { len: *len },
             CompactEnd::Failed { error } => came_by(error),
             CompactEnd::OutOfMemory => Compaction::Kept,
@@ -100,14 +101,15 @@ fn ask<R: Wait, D: Disk>(
 }
 
 /// One compaction at `now`, in milliseconds since 1970, if the file has at least `least` bytes; one that was made is
-/// followed by a question for the length that it left. Returns the least length for the next turn, or `None` if the store
-/// has lost its disk.
+/// followed by a question for the length that it left, and both are said in the log. Returns the least length for the next
+/// turn, or `None` if the store has lost its disk.
 pub(crate) fn compact_turn<R: Wait, D: Disk>(
     rt: &R,
     gate: &Gate<Fenced<D>>,
     seat: &mut Seat<Fenced<D>>,
     least: u64,
     now: u64,
+    log: &EventLog,
 ) -> Option<u64>
     requires seat { IsSeatOf Allows gate.now seat.old }
     requires early { now < 253370764800000 }
@@ -116,11 +118,18 @@ pub(crate) fn compact_turn<R: Wait, D: Disk>(
 {
     match ask(rt, gate, seat, least, now) {
         Compaction::Lost => None,
-        Compaction::Made => match ask(rt, gate, seat, u64::MAX, now) {
+        Compaction::Made { rows } => match ask(rt, gate, seat, u64::MAX, now) {
             Compaction::Lost => None,
-            Compaction::Short { len } => Some(next_least(len)),
+            Compaction::Short { len } => {
+                log.say(Notice::Compacted { rows, len });
+                Some(next_least(len))
+            }
             _ => Some(least),
         },
-        _ => Some(least),
+        Compaction::Kept => {
+            log.say_lasting(Notice::NotCompacted);
+            Some(least)
+        }
+        Compaction::Short { len: _ } => Some(least),
     }
 }

@@ -3,7 +3,7 @@
 // Promise: each frame that is sent to the store is one step of it at a gate, and what is written are the spellings of the
 // answers, in order (`specs/Commands`); the answer to each command may be sent (`specs/Laws`). What all threads did is one
 // legal history of the store's steps, from the store that was given to the one that is handed back; the server ends for a
-// fault of its port only if the port has one. Depends on `frame_session`, `server_ports`, `store_core`, `step_gate`,
+// fault of its port only if the port has one. Depends on `frame_session`, `server_ports`, `event_log`, `store_core`, `step_gate`,
 // `frame_wire` and `actor_ports`.
 #![tactic(auto)]
 

@@ -16,6 +16,7 @@ use crate::session::serve_one;
 use actor_names::{Address, OutOfMemory};
 use actor_ports::{Clock, Conn, Dial, Listen};
 use disk_model::Disk;
+use event_log::{EventLog, Notice};
 use fence_rows::Fenced;
 use server_ports::{Duty, Ending, ServerEnd, serve_port};
 use std::alloc::Global;
@@ -47,6 +48,7 @@ fn serve_at<
     at: Address,
     most: Option<u64>,
     at_once: u64,
+    log: &EventLog,
 ) -> (L, ServerEnd)
     requires { IsSeatOf Allows gate.now pass.seat }
     ensures never_falls { L.listen_faults port ≤ L.listen_faults result.0 }
@@ -54,10 +56,12 @@ fn serve_at<
     ensures limit { result.1 ≡ Served → IsSome most }
 {
     fenced_crosses::<D>();
+    log.say(Notice::Listening { at });
     let service = StoreService {
         gate,
         ending: Ending::new(at, None),
         at_once,
+        log,
     };
     let shared = &service;
     let serve = |pass: Pass<D, K, N>, conn: C|
@@ -73,7 +77,7 @@ fn serve_at<
 /// Serves the store at a port until `most` connections were served (without a limit if it is `None`), the store has lost
 /// its disk, or the port fails. Each connection has a thread of its own; at most `at_once` are served at once. Every 1,000
 /// milliseconds the store is compacted if its file has 67,108,864 bytes, or twice what the last compaction left where that
-/// is more. If memory runs out before the first connection, the store is dropped.
+/// is more; the log says so. If memory runs out before the first connection, the store is dropped.
 pub fn serve_store<
     R: Threads + Wait + Sync,
     D: Disk + Drop + Send,
@@ -91,6 +95,7 @@ pub fn serve_store<
     at: Address,
     most: Option<u64>,
     at_once: u64,
+    log: &EventLog,
 ) -> (L, Result<StoreServed<D>, OutOfMemory>)
     ensures never_falls { L.listen_faults port ≤ L.listen_faults result.0 }
     ensures cause { IfOk result.1 (λ s. s.end ≡ PortFault → L.listen_faults port < L.listen_faults result.0) }
@@ -109,7 +114,8 @@ pub fn serve_store<
         net,
         least: USUAL_LEAST,
     };
-    let (port, end) = serve_at(rt, alloc, &gate, pass, port, at, most, at_once);
+    let (port, end) = serve_at(rt, alloc, &gate, pass, port, at, most, at_once, log);
+    log.say_stop(Notice::Ended);
     let store = gate.close(rt, seat);
     (port, Ok(StoreServed { store, end }))
 }

@@ -6,6 +6,7 @@ use crate::compacting::compact_turn;
 use crate::pass::Pass;
 use actor_ports::{Clock, Dial};
 use disk_model::Disk;
+use event_log::{EventLog, Notice};
 use fence_rows::Fenced;
 use server_ports::{Duty, Ending, Service, pause_for};
 use std::sync::Wait;
@@ -14,12 +15,22 @@ use step_gate::Gate;
 // How long the server waits between two turns, in milliseconds.
 const PAUSE_MS: u64 = 1_000;
 
-/// What the store's threads share: the gate of the store, the end of the server, and how many connections it serves at once.
+/// What the store's threads share: the gate of the store, the end of the server, how many connections it serves at once, and
+/// its log.
 #[derive(Drop)]
 pub(crate) struct StoreService<'a, D: Disk> {
     pub(crate) gate: &'a Gate<Fenced<D>>,
     pub(crate) ending: Ending,
     pub(crate) at_once: u64,
+    pub(crate) log: &'a EventLog,
+}
+
+impl<D: Disk> StoreService<'_, D> {
+    /// Ends the server, whose store has lost its disk.
+    pub(crate) fn lose_disk<N: Dial>(&self, net: &mut N) {
+        self.log.say_stop(Notice::DiskFailed);
+        self.ending.stop(net);
+    }
 }
 
 impl<D: Disk + Drop + Send, K: Clock, N: Dial> Service<Pass<D, K, N>> for StoreService<'_, D> {
@@ -72,9 +83,16 @@ fn compact<R: Wait, D: Disk + Drop + Send, K: Clock, N: Dial>(
 {
     let mut pass = pass;
     let now = pass.clock.now_ms();
-    match compact_turn(rt, service.gate, &mut pass.seat, pass.least, now) {
+    match compact_turn(
+        rt,
+        service.gate,
+        &mut pass.seat,
+        pass.least,
+        now,
+        service.log,
+    ) {
         Some(least) => pass.least = least,
-        None => service.ending.stop(&mut pass.net),
+        None => service.lose_disk(&mut pass.net),
     }
     pass
 }

@@ -31,6 +31,6 @@ pub(crate) fn serve_one<R: Wait, D: Disk + Drop + Send, C: Conn, K: Clock, N: Di
     let mut net = net;
     let (_, end) = store_session(rt, alloc, service.gate, seat, &mut conn, &mut clock);
     if let SessionEnd::Broken { requests: _ } = end {
-        service.ending.stop(&mut net);
+        service.lose_disk(&mut net);
     }
 }

@@ -5,6 +5,7 @@ use crate::outside::{CaseOutside, outside_of};
 use actor_ports::{MemSink, MemSource};
 use actors_top::run;
 use case_texts::{add, hex_bytes};
+use event_log::EventLog;
 use std::alloc::Global;
 use std::net::{IpAddr, Ipv4Addr, Net, SocketAddr, TcpListener, TcpStream};
 use std::sync::Wait;
@@ -59,8 +60,8 @@ fn status_of<
         + Copy
         + Send
         + Drop,
->(rt: R, alloc: Global, words: &[String], outside: &mut CaseOutside<R>) -> u8 {
-    run(&rt, alloc, words, outside)
+>(rt: R, alloc: Global, words: &[String], outside: &mut CaseOutside<R>, log: &EventLog) -> u8 {
+    run(&rt, alloc, words, outside, log)
 }
 
 // What is read over the links while the command runs, and its status.
@@ -78,6 +79,7 @@ fn served<
     alloc: Global,
     words: &[String],
     outside: &mut CaseOutside<R>,
+    log: &EventLog,
     port: u16,
     visit: Visit,
     bytes: &[u8],
@@ -85,7 +87,7 @@ fn served<
     thread::join(
         &rt,
         || answers(rt, alloc, port, visit, bytes),
-        || status_of(rt, alloc, words, outside),
+        || status_of(rt, alloc, words, outside, log),
     )
 }
 
@@ -112,11 +114,13 @@ fn add_served<
     let input = MemSource::new(alloc, b"", &[]).ok()?;
     let output = MemSink::new(alloc, &[]).ok()?;
     let mut outside = outside_of(rt, alloc, input, output, host_of(rt, alloc, listener)?)?;
+    let log = EventLog::new(alloc).ok()?;
     let (frames, status) = served(
         rt,
         alloc,
         words.as_slice(),
         &mut outside,
+        &log,
         port,
         visit,
         bytes,

@@ -4,6 +4,7 @@ use crate::outside::{bare_host, outside_of};
 use actor_ports::{MemSink, MemSource};
 use actors_top::run;
 use case_texts::escaped_bytes;
+use event_log::EventLog;
 use std::alloc::Global;
 use std::net::{Net, TcpListener, TcpStream};
 use std::sync::Wait;
@@ -85,7 +86,8 @@ impl Case {
         let input = MemSource::new(alloc, self.input.as_slice(), self.reads.as_slice()).ok()?;
         let output = MemSink::new(alloc, self.writes.as_slice()).ok()?;
         let mut outside = outside_of(rt, alloc, input, output, bare_host(alloc)?)?;
-        let status = run(&rt, alloc, self.words.as_slice(), &mut outside);
+        let log = EventLog::new(alloc).ok()?;
+        let status = run(&rt, alloc, self.words.as_slice(), &mut outside, &log);
         Some((status, outside.output))
     }
 }

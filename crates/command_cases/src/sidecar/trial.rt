@@ -9,6 +9,7 @@ use actor_ports::{MemSink, MemSource, SystemClock};
 use actors_top::{Outside, run};
 use case_texts::{add, add_escaped};
 use disk_model::MemDisk;
+use event_log::EventLog;
 use server_ports::MemHost;
 use std::alloc::Global;
 use std::sync::Wait;
@@ -117,7 +118,8 @@ fn status_of<R: Threads + Wait + Clock + Sync + Send + Copy + Drop>(
         steady: SystemClock::new(Moments { rt, stage }),
         host: host_of(rt, alloc, stage)?,
     };
-    let status = run(&rt, alloc, words.as_slice(), &mut outside);
+    let log = EventLog::new(alloc).ok()?;
+    let status = run(&rt, alloc, words.as_slice(), &mut outside, &log);
     Some((status, outside.output))
 }
 

@@ -17,6 +17,7 @@ use Rattle.sidecar_server.specs.contracts.service.SidecarService as service
 use Rattle.sidecar_server.proofs.link.PlacementLink.TheSendSync as link
 use Rattle.sidecar_server.proofs.placements.Placements.TheSendSync as placements
 use Rattle.sidecar_server.proofs.watch.Watch.TheSendSync as watch
+use Rattle.event_log.proofs.log.EventLog.TheSendSync as log
 use Rattle.server_ports.proofs.ending.Ending.TheSendSync as ending
 use Rattle.sidecar_server.proofs.server.serve_watched.Given as given
 use Rattle.sidecar_server.proofs.server.serve_watched.Goals as goal
@@ -30,7 +31,7 @@ service_crosses : (g : given.Over) → IsSync node.the_row → (ℓ : NamedLft) 
 service_crosses g n ℓ =
     let T = service.the_type ℓ (param 5 g.row.N) (param 6 g.row.K) (param 7 g.row.N-Link) g.N.Dial g.N.Link.Conn g.N.Link.Source g.N.Link.Sink g.K.Clock in
     let w = watch.the_send (param 5 g.row.N) (param 6 g.row.K) (param 7 g.row.N-Link) g.N.Dial g.N.Link.Source g.N.Link.Sink g.K.Clock in
-    recorded_sync _ _ T.to T.to_one (struct_sync (shape T) (search (sendable, crosses) depth 20, (search (n, sendable) depth 9, (search (w, gate.the_sync, sendable, crosses) depth 20, (placements.the_field_sync, (search (ending.the_sync, sendable, crosses) depth 20, (search sendable, tt)))))))
+    recorded_sync _ _ T.to T.to_one (struct_sync (shape T) (search (sendable, crosses) depth 20, (search (n, sendable) depth 9, (search (w, gate.the_sync, sendable, crosses) depth 20, (placements.the_field_sync, (search (ending.the_sync, sendable, crosses) depth 20, (search sendable, (search (log.the_sync, sendable, crosses) depth 20, tt))))))))
 
 -- a closure that captures two references may be shared if what they lead to may be
 closure_shared : (ν : List ℕ) (A B : RattleType) → IsSync A → IsSync B → IsSync (TupleAt ν (A ∷ B ∷ []))

@@ -5,4 +5,4 @@ pub returns-in-Err-clause-serves : goal.returns-in-Err-clause-serves
 returns-in-Err-clause-serves g c = none_next (g.D.Disk.told c.args.disk.now) c.unaccepted.result c.in-Err.error c.unaccepted.ensures
 
 pub returns-clause-serves : goal.returns-clause-serves
-returns-clause-serves g c = one_next _ _ _ _ c.standby_session.result _ c.next_end.ensures c.standby_session.ensures.session
+returns-clause-serves g c = one_next _ _ _ _ c.standby_session-end.result _ c.next_end.ensures c.standby_session-end.ensures.session

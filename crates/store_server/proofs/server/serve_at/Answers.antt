@@ -3,6 +3,7 @@ use denote.Param.{param}
 use denote.Param.Send.{IsSend, AllSend, recorded_send, struct_send, param_send, arg_send, sendable}
 use denote.Struct.Declared.{fields, shape}
 use Rattle.std.proofs.Crossing.{crosses}
+use Rattle.event_log.proofs.log.EventLog.TheSendSync as log
 use Rattle.server_ports.proofs.ending.Ending.TheSendSync as ending
 use Rattle.atomic_table.proofs.shared.Seat.TheSendSync as seat
 use Rattle.step_gate.proofs.gate.Gate.TheSendSync as gate
@@ -24,4 +25,4 @@ serve_port-requires-send-P g c κs within =
 pub serve_port-requires-sync-V : goal.serve_port-requires-sync-V
 serve_port-requires-sync-V g c κs within =
     let s : IsSend (store.the_row (param 1 g.row.D) g.D.Disk) = record { owned = c.fenced_crosses.ensures.owned; leaving = λ k d w. tt } in
-    search (s, gate.the_sync, ending.the_sync, sendable, crosses) depth 20
+    search (s, gate.the_sync, ending.the_sync, log.the_sync, sendable, crosses) depth 20

@@ -1,0 +1,144 @@
+// What a Look shows that the one before it didn't.
+use actor_names::{Member, Space};
+use event_log::{EventLog, Notice};
+use place_table::HostInfo;
+use placement_node::{RoomSeen, SeenRooms};
+
+/// The rooms as they were seen last, and how many members were dropped since.
+#[derive(Drop)]
+pub(crate) struct Sight {
+    rooms: Option<SeenRooms>,
+    dropped: u32,
+}
+
+impl Sight {
+    /// Nothing was seen yet.
+    pub(crate) fn none() -> Sight {
+        Sight {
+            rooms: None,
+            dropped: 0,
+        }
+    }
+
+    /// A Tick has dropped so many members.
+    pub(crate) fn drop_members(&mut self, dropped: u32) {
+        self.dropped = self.dropped.saturating_add(dropped);
+    }
+
+    /// The rooms are so now. What has changed is said; of the first ones nothing is.
+    pub(crate) fn show(&mut self, log: &EventLog, rooms: SeenRooms) {
+        if let Some(seen) = self.rooms.take() {
+            tell_rooms(log, seen.as_slice(), rooms.as_slice(), self.dropped);
+        }
+        self.rooms = Some(rooms);
+        self.dropped = 0;
+    }
+}
+
+// How a member went.
+#[derive(Clone, Copy)]
+enum Going {
+    // Of its own accord.
+    Left,
+    // It was dropped.
+    Lost,
+    // One or the other.
+    Either,
+}
+
+// How members went, of which so many are gone and so many were dropped by a Tick.
+fn going_of(gone: u64, dropped: u32) -> Going {
+    if dropped == 0 {
+        Going::Left
+    } else if u64::from(dropped) >= gone {
+        Going::Lost
+    } else {
+        Going::Either
+    }
+}
+
+// The room of a space, in a list in byte order of space.
+fn room_of<'a>(rooms: &'a [RoomSeen], space: &Space) -> Option<&'a RoomSeen> {
+    match rooms.binary_search_by(|room| room.space.cmp(space)) {
+        Ok(at) => Some(&rooms[at]),
+        Err(_) => None,
+    }
+}
+
+// The members of a space's room.
+fn members_of<'a>(rooms: &'a [RoomSeen], space: &Space) -> &'a [HostInfo] {
+    match room_of(rooms, space) {
+        Some(room) => room.members.as_slice(),
+        None => &[],
+    }
+}
+
+// Whether a member is in a room, whose members are in byte order of node.
+fn is_in(hosts: &[HostInfo], member: &Member) -> bool {
+    hosts
+        .binary_search_by(|host| host.member.cmp(member))
+        .is_ok()
+}
+
+// How many of the members that were there before aren't there now.
+fn count_gone(before: &[HostInfo], now: &[HostInfo]) -> u64 {
+    let mut gone = 0u64;
+    for host in before {
+        if !is_in(now, &host.member) {
+            gone = gone.saturating_add(1);
+        }
+    }
+    gone
+}
+
+// Says which members joined a room.
+fn tell_joined(log: &EventLog, before: &[HostInfo], now: &[HostInfo]) {
+    for host in now {
+        if !is_in(before, &host.member) {
+            log.say(Notice::Joined {
+                member: host.member,
+            });
+        }
+    }
+}
+
+// Says which members went from a room.
+fn tell_gone(log: &EventLog, before: &[HostInfo], now: &[HostInfo], going: Going) {
+    for host in before {
+        let member = host.member;
+        if !is_in(now, &member) {
+            log.say(match going {
+                Going::Left => Notice::Left { member },
+                Going::Lost => Notice::Lost { member },
+                Going::Either => Notice::Gone { member },
+            });
+        }
+    }
+}
+
+// Says that a room has used a further version.
+fn tell_round(log: &EventLog, before: u64, room: &RoomSeen) {
+    if room.version > before {
+        log.say(Notice::RoundBegan {
+            space: room.space,
+            version: room.version,
+        });
+    }
+}
+
+// Says what has changed between two Looks, between which so many members were dropped.
+fn tell_rooms(log: &EventLog, before: &[RoomSeen], now: &[RoomSeen], dropped: u32) {
+    let mut gone = 0u64;
+    for room in before {
+        let members = members_of(now, &room.space);
+        gone = gone.saturating_add(count_gone(room.members.as_slice(), members));
+    }
+    let going = going_of(gone, dropped);
+    for room in now {
+        let members = members_of(before, &room.space);
+        tell_gone(log, members, room.members.as_slice(), going);
+        tell_joined(log, members, room.members.as_slice());
+        let version = room_of(before, &room.space).map_or(0, |room| room.version);
+        tell_round(log, version, room);
+    }
+}
