@@ -1,5 +1,5 @@
 -- Links to the placement. Own.
-use Rattle.std.specs.Prelude.{◌≡◌, ◌⊎◌, ◌==◌, ◌&&◌, Bool, true, false, Option, Some, None, Ok}
+use Rattle.std.specs.Prelude.{◌≡◌, ◌⊎◌, ◌==◌, ◌&&◌, if◌then◌else◌, Bool, true, false, Option, Some, None, Ok}
 use Rattle.actor_names.specs.declared.address.Address.{Address}
 use Rattle.actor_ports.specs.Traffic.{Place, Traffic, Dialled, Dials}
 use Rattle.http_edge.specs.Carry.{Carried, Over}
@@ -8,6 +8,14 @@ use Rattle.sidecar_server.specs.declared.placements.Placements.{Placements}
 -- one of the two addresses at which the placement may listen
 abbrev pub IsOneOf : Placements → Address → Type 0
 IsOneOf p at = (at ≡ p.first) ⊎ (p.second ≡ Some at)
+
+abbrev pub second_or : Address → Option Address → Address
+second_or first None = first
+second_or first (Some second) = second
+
+-- the address that is dialled next: the second one, if there is one and its turn has come
+abbrev pub next_address : Placements → Bool → Address
+next_address p is_second = if is_second then second_or p.first p.second else p.first
 
 abbrev pub is_same_address : Address → Address → Bool
 is_same_address a b = (a.ip == b.ip) && (a.port == b.port)

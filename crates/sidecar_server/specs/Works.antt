@@ -1,5 +1,5 @@
 -- What the threads of a sidecar do beside its connections, at the gates of its parts. Own.
-use Rattle.std.specs.Prelude.{◌≡◌, ◌⊎◌, ◌^◌, ℕ, Bool, true, false, List, [], ◌∷◌, length, Option, None, Some, Result, Ok, Err, IfOk, IfErr}
+use Rattle.std.specs.Prelude.{◌≡◌, ◌⊎◌, ◌^◌, ℕ, Bool, true, false, not, if◌then◌else◌, List, [], ◌∷◌, length, Option, None, Some, Result, Ok, Err, IfOk, IfErr}
 use Rattle.actor_names.specs.declared.address.Address.{Address}
 use Rattle.actor_ports.specs.Traffic.{Place, Traffic, Dialled}
 use Rattle.part_model.specs.declared.event.PartEvent.{PartEvent}
@@ -74,6 +74,21 @@ pub record TellsWatch (node : SidecarNode) (event : WatchEvent) (old new : Watch
 abbrev pub left_by : {L : Type 0} → TurnEnd → L → Option L
 left_by ends.Next link = Some link
 left_by end link = None
+
+-- the link failed over which a turn ended so
+abbrev pub has_failed : TurnEnd → Bool
+has_failed ends.ConnFault = true
+has_failed (ends.BadReply at) = true
+has_failed end = false
+
+-- whether the second address is dialled next, behind a turn that ended so
+abbrev pub turned_by : TurnEnd → Bool → Bool
+turned_by end is_second = if has_failed end then not is_second else is_second
+
+-- A turn, with the addresses dialled in turn: the other one is dialled next if the dial failed, or the link, and the same one
+-- otherwise. No link is left by a turn that didn't end well.
+abbrev pub Alternates : {L : Type 0} → Bool → Bool → Option L → Type 0
+Alternates {L = L} before after left = ((left ≡ None) × (after ≡ not before)) ⊎ ((end : TurnEnd) × (link : L) × (left ≡ left_by end link) × (after ≡ turned_by end before))
 
 module _ {N L K : Type 0} (dialled : N → Option Dialled) (traffic : L → Option Traffic) (shown : K → ℕ) where
   -- one turn of this node with the placement at this place, or none

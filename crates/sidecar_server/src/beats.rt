@@ -1,10 +1,10 @@
 // The turns with the placement.
 ghost use Rattle.std.specs.Prelude.{◌≡◌, IfSome};
 ghost use Rattle.exchanges.specs.Replies.{place_at};
-ghost use Rattle.sidecar_server.specs.Links.{IsOneOf};
+ghost use Rattle.sidecar_server.specs.Links.{IsOneOf, next_address};
 ghost use Rattle.sidecar_server.specs.Passes.{Admits};
 ghost use Rattle.sidecar_server.specs.Watch.{WatchTakes};
-ghost use Rattle.sidecar_server.specs.Works.{DoesDuty, GivesStops, LeavesTables, MayTurn, TellsWatch, left_by};
+ghost use Rattle.sidecar_server.specs.Works.{Alternates, has_failed, turned_by, DoesDuty, GivesStops, LeavesTables, MayTurn, TellsWatch, left_by};
 
 use crate::link::PlacementLink;
 use crate::pass::Pass;
@@ -27,6 +27,7 @@ fn stop<R: Wait, A: Dial, P: Dial, N: Dial, K: Clock>(
     ensures admits { Admits service.now.node.now service.now.watch.now result.seats result.watch }
     ensures stops { GivesStops service.now.node.now pass.seats result.seats }
     ensures watch { result.watch ≡ pass.watch }
+    ensures same { (result.link ≡ pass.link) × (result.is_second ≡ pass.is_second) }
 {
     let mut pass = pass;
     let (seats, _) = stop_turn(rt, service.node, pass.seats);
@@ -46,6 +47,7 @@ pub(crate) fn tell_watch<R: Wait, A: Dial, P: Dial, N: Dial, K: Clock>(
     requires event { WatchTakes N.dialled N.Link.read_traffic K.shown event }
     ensures admits { Admits service.now.node.now service.now.watch.now result.seats result.watch }
     ensures tells { TellsWatch service.now.node.now event pass.watch result.watch pass.seats result.seats }
+    ensures same { (result.link ≡ pass.link) × (result.is_second ≡ pass.is_second) }
 {
     let mut pass = pass;
     match service.watch.call_in(rt, &mut pass.watch, event) {
@@ -79,7 +81,8 @@ fn dial_placement<N: Dial, K: Clock>(
     waits: Waits,
     is_second: bool,
 ) -> Option<PlacementLink<N>>
-    ensures { IfSome result (IsOneOf service.now.placement) }
+    ensures one_of { IfSome result (IsOneOf service.now.placement) }
+    ensures next { IfSome result (λ at. at ≡ next_address service.now.placement is_second) }
 {
     let at = next_address(service.placement, is_second);
     match net.dial_waiting(at.ip, at.port, waits) {
@@ -118,9 +121,21 @@ fn kept_link<L: Drop>(end: TurnEnd, link: L) -> Option<L>
     }
 }
 
-// Whether the link failed over which a turn ended so: then the other address is dialled next.
-fn has_failed(end: TurnEnd) -> bool {
+// Whether the link failed over which a turn ended so.
+fn has_failed(end: TurnEnd) -> bool
+    ensures { result ≡ has_failed end }
+{
     matches!(end, TurnEnd::ConnFault | TurnEnd::BadReply { .. })
+}
+
+// Whether the second address is dialled next, behind a turn that ended so: behind a link that failed the other one is.
+fn turned_by(end: TurnEnd, is_second: bool) -> bool
+    ensures { result ≡ turned_by end is_second }
+{
+    if has_failed(end) {
+        return !is_second;
+    }
+    is_second
 }
 
 // One turn over this link, and what the watch is to be told of it. The link is kept if the turn ended well.
@@ -135,6 +150,7 @@ fn beat_over<R: Wait, A: Dial, P: Dial, N: Dial, K: Clock>(
     ensures admits { Admits service.now.node.now service.now.watch.now result.0.seats result.0.watch }
     ensures turn { MayTurn N.dialled N.Link.read_traffic K.shown service.now.node.now (place_at link) pass.seats result.0.seats }
     ensures event { IfSome result.1 (WatchTakes N.dialled N.Link.read_traffic K.shown) }
+    ensures alternates { Alternates pass.is_second result.0.is_second result.0.link }
 {
     let mut pass = pass;
     let PlacementLink { link, at } = link;
@@ -154,7 +170,7 @@ fn beat_over<R: Wait, A: Dial, P: Dial, N: Dial, K: Clock>(
     tell_turn(service.log, at, end);
     let used = PlacementLink { link, at };
     pass.link = kept_link(end, used);
-    pass.is_second ^= has_failed(end);
+    pass.is_second = turned_by(end, pass.is_second);
     let parties = Parties {
         member: service.node.host().member,
         placement: service.placement,
@@ -173,6 +189,7 @@ fn beat_on<R: Wait, A: Dial, P: Dial, N: Dial, K: Clock>(
     requires leads { IsOneOf service.now.placement link }
     ensures admits { Admits service.now.node.now service.now.watch.now result.seats result.watch }
     ensures does { DoesDuty N.dialled N.Link.read_traffic K.shown service.now.node.now service.now.placement pass.seats result.seats }
+    ensures alternates { Alternates pass.is_second result.is_second result.link }
 {
     let (beaten, event) = beat_over(rt, service, pass, link);
     match event {
@@ -191,6 +208,7 @@ pub(crate) fn beat<R: Wait, A: Dial, P: Dial, N: Dial, K: Clock>(
     requires { Admits service.now.node.now service.now.watch.now pass.seats pass.watch }
     ensures admits { Admits service.now.node.now service.now.watch.now result.seats result.watch }
     ensures does { DoesDuty N.dialled N.Link.read_traffic K.shown service.now.node.now service.now.placement pass.seats result.seats }
+    ensures alternates { Alternates pass.is_second result.is_second result.link }
 {
     let mut pass = pass;
     let left = pass.link.take();
@@ -223,7 +241,7 @@ fn leave_over<R: Wait, A: Dial, P: Dial, N: Dial, K: Clock>(
     pass
 }
 
-/// Stops all parts and leaves the placement, over a new link to the address at which it was heard last.
+/// Stops all parts and leaves the placement, over a new link to the address that is dialled next.
 pub(crate) fn leave<R: Wait, A: Dial, P: Dial, N: Dial, K: Clock>(
     rt: &R,
     service: &SidecarService<'_, N, K>,

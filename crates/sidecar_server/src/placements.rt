@@ -1,6 +1,6 @@
 // Where the placement listens.
 ghost use Rattle.std.specs.Prelude.{◌≡◌, IsTrue};
-ghost use Rattle.sidecar_server.specs.Links.{IsOneOf, are_same_placements};
+ghost use Rattle.sidecar_server.specs.Links.{IsOneOf, are_same_placements, next_address};
 
 use actor_names::Address;
 
@@ -13,7 +13,8 @@ pub struct Placements {
 
 /// The address that is dialled next: the second one, if there is one and its turn has come.
 pub(crate) fn next_address(placements: Placements, is_second: bool) -> Address
-    ensures { IsOneOf placements result }
+    ensures is { result ≡ next_address placements is_second }
+    ensures one_of { IsOneOf placements result }
 {
     match placements.second {
         Some(second) => { if is_second { second } else { placements.first } }

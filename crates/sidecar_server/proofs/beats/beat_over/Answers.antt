@@ -1,4 +1,4 @@
-use Rattle.std.proofs.Common.{ap, sym, subst}
+use Rattle.std.proofs.Common.{ap, sym, subst, inr}
 use Rattle.actor_names.specs.declared.address.Address.{Address}
 use Rattle.place_table.specs.declared.host.HostInfo.{HostInfo}
 use Rattle.exchanges.specs.Replies.{place_at}
@@ -19,3 +19,6 @@ pub returns-clause-event : goal.returns-clause-event
 returns-clause-event g c =
     rw c.turn_event.ensures (turn_takes g.N.Dial.dialled g.N.Link.Source.read_traffic g.K.Clock.shown _ _ _ _ _ _ _ _ _ _ _ _
     (ap (λ (h : HostInfo). h.member) (sym c.host.ensures)) c.placement_turn-seats.ensures.seats c.now_ms-sent.ensures.shows _ (subst (λ (a : Address). IsOneOf c.args.service.now.placement a) (sym c.link.view_is) c.requires.leads) c.link.invariant c.placement_turn-seats.ensures.turn)
+
+pub returns-clause-alternates : goal.returns-clause-alternates
+returns-clause-alternates g c = inr (_, _, c.kept_link.ensures, c.turned_by.ensures)
