@@ -53,8 +53,8 @@ fn main(rt: HostRuntime) -> ExitCode {
     ExitCode::from(status(rt))
 }
 
-/// Runs the program over the standard streams, the system's files, TCP and its clock; a server with a log. A word that isn't text is a usage
-/// error.
+/// Runs the program over the standard streams, the system's files, TCP and its clock; a server with a log. A word that isn't
+/// text is a usage error.
 fn status<
     R: Env
         + AllocGlobal

@@ -123,8 +123,8 @@ fn serve_both_at<
 
 /// Serves the placement at a port until `most` connections were served (without a limit if it is `None`), the node has
 /// lost its disk, or the port fails. Each connection has a thread of its own; at most `at_once` of a port are served at
-/// once. The node is given a Tick every 1,000 milliseconds,
-/// and a Look behind it: the log says which members came and went, and which versions were used. If memory runs out before the first connection, the node is dropped.
+/// once. The node is given a Tick every 1,000 milliseconds, and a Look behind it: the log says which members came and went, and
+/// which rounds began and ended. If memory runs out before the first connection, the node is dropped.
 pub fn serve_placement<
     R: Threads + Wait + Sync,
     D: Disk + Drop + Send,

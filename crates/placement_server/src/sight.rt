@@ -4,10 +4,16 @@ use event_log::{EventLog, Notice};
 use place_table::HostInfo;
 use placement_node::{RoomSeen, SeenRooms};
 
-/// The rooms as they were seen last, and how many members were dropped since.
+/// The most rooms of a placement.
+const MOST_ROOMS: usize = 64;
+
+/// The rooms as they were seen last and when that was, in milliseconds since 1970; of each round that ran then, in order of the
+/// rooms, a moment before it began; and how many members were dropped since.
 #[derive(Drop)]
 pub(crate) struct Sight {
     rooms: Option<SeenRooms>,
+    at_ms: u64,
+    since: [u64; MOST_ROOMS],
     dropped: u32,
 }
 
@@ -16,6 +22,8 @@ impl Sight {
     pub(crate) fn none() -> Sight {
         Sight {
             rooms: None,
+            at_ms: 0,
+            since: [0; MOST_ROOMS],
             dropped: 0,
         }
     }
@@ -27,12 +35,66 @@ impl Sight {
 
     /// The rooms are so now. What has changed is said; of the first ones nothing is.
     pub(crate) fn show(&mut self, log: &EventLog, rooms: SeenRooms) {
+        let now_ms = log.now_ms();
+        let mut since = [self.at_ms; MOST_ROOMS];
         if let Some(seen) = self.rooms.take() {
             tell_rooms(log, seen.as_slice(), rooms.as_slice(), self.dropped);
+            for at in 0..MOST_ROOMS {
+                let Some(room) = rooms.as_slice().get(at) else {
+                    break;
+                };
+                since[at] = self.tell_round(log, seen.as_slice(), room, now_ms);
+            }
         }
         self.rooms = Some(rooms);
+        self.at_ms = now_ms;
+        self.since = since;
         self.dropped = 0;
     }
+
+    // Says which rounds of a room ended and began since the last Look, and answers a moment before the one began that runs now.
+    fn tell_round(&self, log: &EventLog, seen: &[RoomSeen], room: &RoomSeen, now_ms: u64) -> u64 {
+        let place = seen.binary_search_by(|one| one.space.cmp(&room.space));
+        let (version, ran, since_ms) = match place {
+            Ok(at) => (
+                seen[at].version,
+                running(&seen[at]),
+                self.since.get(at).copied().unwrap_or(self.at_ms),
+            ),
+            Err(_) => (0, None, self.at_ms),
+        };
+        let runs = running(room);
+        if let Some(ran) = ran {
+            if runs == Some(ran) {
+                return since_ms;
+            }
+            say_end(log, room, ran, now_ms.saturating_sub(since_ms));
+        }
+        if room.version > version {
+            log.say(Notice::RoundBegan {
+                space: room.space,
+                version: room.version,
+            });
+            if runs.is_none() {
+                say_end(log, room, room.version, now_ms.saturating_sub(self.at_ms));
+            }
+        }
+        self.at_ms
+    }
+}
+
+// The version of the round that runs in a room.
+fn running(room: &RoomSeen) -> Option<u64> {
+    room.round.as_ref().map(|round| round.version)
+}
+
+// Says that a round of a room has ended.
+fn say_end(log: &EventLog, room: &RoomSeen, version: u64, within_ms: u64) {
+    log.say(Notice::RoundEnded {
+        space: room.space,
+        version,
+        within_ms,
+    });
 }
 
 // How a member went.
@@ -116,17 +178,7 @@ fn tell_gone(log: &EventLog, before: &[HostInfo], now: &[HostInfo], going: Going
     }
 }
 
-// Says that a room has used a further version.
-fn tell_round(log: &EventLog, before: u64, room: &RoomSeen) {
-    if room.version > before {
-        log.say(Notice::RoundBegan {
-            space: room.space,
-            version: room.version,
-        });
-    }
-}
-
-// Says what has changed between two Looks, between which so many members were dropped.
+// Says which members came and went between two Looks, between which so many members were dropped.
 fn tell_rooms(log: &EventLog, before: &[RoomSeen], now: &[RoomSeen], dropped: u32) {
     let mut gone = 0u64;
     for room in before {
@@ -138,7 +190,5 @@ fn tell_rooms(log: &EventLog, before: &[RoomSeen], now: &[RoomSeen], dropped: u3
         let members = members_of(before, &room.space);
         tell_gone(log, members, room.members.as_slice(), going);
         tell_joined(log, members, room.members.as_slice());
-        let version = room_of(before, &room.space).map_or(0, |room| room.version);
-        tell_round(log, version, room);
     }
 }
