@@ -9,6 +9,7 @@ use crate::watch::WatchEvent;
 use actor_ports::{Clock, Dial};
 use clock_turns::{closing_turn, tick_turn};
 use reminder_turns::reminder_turn;
+use sidecar_node::Desk;
 use std::sync::Wait;
 
 /// Looks whether the lease has ended.
@@ -37,15 +38,24 @@ pub(crate) fn close_idle<R: Wait, A: Dial, P: Dial, N: Dial, K: Clock>(
     ensures leaves { LeavesTables pass.seats result.seats }
 {
     let mut pass = pass;
-    let (seats, _) = closing_turn(
+    let mut desk = Desk {
         rt,
-        service.alloc,
-        service.node,
-        pass.seats,
-        &mut pass.links,
-        &mut pass.clock,
-    );
+        alloc: service.alloc,
+        node: service.node,
+        seats: pass.seats,
+        links: pass.links,
+        clock: pass.clock,
+    };
+    let _ = closing_turn(&mut desk);
+    let Desk {
+        seats,
+        links,
+        clock,
+        ..
+    } = desk;
     pass.seats = seats;
+    pass.links = links;
+    pass.clock = clock;
     pass
 }
 
@@ -60,15 +70,24 @@ pub(crate) fn run_timers<R: Wait, A: Dial, P: Dial, N: Dial, K: Clock>(
     ensures leaves { LeavesTables pass.seats result.seats }
 {
     let mut pass = pass;
-    let (seats, _) = tick_turn(
+    let mut desk = Desk {
         rt,
-        service.alloc,
-        service.node,
-        pass.seats,
-        &mut pass.links,
-        &mut pass.clock,
-    );
+        alloc: service.alloc,
+        node: service.node,
+        seats: pass.seats,
+        links: pass.links,
+        clock: pass.clock,
+    };
+    let _ = tick_turn(&mut desk);
+    let Desk {
+        seats,
+        links,
+        clock,
+        ..
+    } = desk;
     pass.seats = seats;
+    pass.links = links;
+    pass.clock = clock;
     pass
 }
 
@@ -83,14 +102,23 @@ pub(crate) fn run_reminders<R: Wait, A: Dial, P: Dial, N: Dial, K: Clock>(
     ensures leaves { LeavesTables pass.seats result.seats }
 {
     let mut pass = pass;
-    let (seats, _) = reminder_turn(
+    let mut desk = Desk {
         rt,
-        service.alloc,
-        service.node,
-        pass.seats,
-        &mut pass.links,
-        &mut pass.clock,
-    );
+        alloc: service.alloc,
+        node: service.node,
+        seats: pass.seats,
+        links: pass.links,
+        clock: pass.clock,
+    };
+    let _ = reminder_turn(&mut desk);
+    let Desk {
+        seats,
+        links,
+        clock,
+        ..
+    } = desk;
     pass.seats = seats;
+    pass.links = links;
+    pass.clock = clock;
     pass
 }
