@@ -1,41 +1,32 @@
 -- Calls that were served, in each case.
-use Rattle.std.proofs.Common.{◌≡◌, ◌≢◌, ◌≤◌, refl, sym, subst, inl, inr, ℕ, List, [], ◌++◌, Option, Some, Result, Ok, Err}
+use Rattle.std.proofs.Common.{◌≡◌, ◌≢◌, ◌≤◌, refl, sym, subst, inl, inr, ℕ, List, [], ◌++◌, Option, Some, Ok, Err}
 use Rattle.std.proofs.lemmas.List.{append-nil}
 use Rattle.step_gate.specs.declared.gate.Spent.{Spent}
-use Rattle.actor_names.specs.declared.actor_key.ActorKey.{ActorKey}
 use Rattle.actor_names.specs.declared.member.Member.{Member}
 use Rattle.actor_names.specs.declared.address.Address.{Address}
 use Rattle.place_table.specs.declared.host.HostInfo.{HostInfo}
 use Rattle.part_model.specs.Receipts.{PartReply}
 use Rattle.part_model.specs.declared.event.Reply.TheVariants as replies
-use Rattle.call_names.specs.declared.name.CallName.{CallName}
 use Rattle.http_edge.specs.declared.message.HttpRequest.{HttpRequest}
 use Rattle.actors_api.specs.declared.reply.ApiReply.{ApiReply}
 use Rattle.actors_api.specs.declared.side.Side.{Side}
 use Rattle.actors_api.specs.declared.refusal.ApiRefusal.TheVariants as refusals
-use Rattle.actors_api.specs.declared.command.ApiCommand.{ApiCommand}
-use Rattle.actors_api.specs.declared.command.ApiCommand.TheVariants as commands
-use Rattle.sidecar_node.specs.declared.node.SidecarNode.{SidecarNode}
 use Rattle.sidecar_node.specs.declared.node.Seats.{Seats}
-use Rattle.actors_api.specs.declared.refusal.ApiRefusal.{ApiRefusal}
-use Rattle.actors_api.specs.Commands.{command_of, ReadsCommand}
 use Rattle.part_model.specs.declared.event.PartEvent.TheVariants.{Draw}
-use Rattle.sidecar_node.specs.Nodes.{host_of, SpentAt}
-use Rattle.sidecar_node.specs.Entries.{PartEntry, NodeEntry, one_entry}
+use Rattle.sidecar_node.specs.Nodes.{SpentAt}
+use Rattle.sidecar_node.specs.Entries.{PartEntry, one_entry}
 use Rattle.sidecar_node.specs.Turns.{Said, Begins}
 use Rattle.exchanges.specs.Exchanges.{Exchange}
 use Rattle.actor_calls.specs.declared.invoke.Invoke.{Invoke}
 use Rattle.actor_calls.specs.declared.next.Next.{Next}
 use Rattle.actor_calls.specs.declared.next.Next.TheVariants.{Answered, Moves}
-use Rattle.actor_calls.specs.declared.served.Served.{Served}
-use Rattle.actor_calls.specs.declared.served.Served.TheVariants as served
 use Rattle.http_edge.specs.declared.error.EdgeError.{EdgeError}
 use Rattle.http_edge.specs.declared.error.EdgeError.TheVariants as edge
 use Rattle.actor_calls.specs.Outcomes.{refused, refusal_of, next_of, ended_answer, turn_answer}
-use Rattle.actor_calls.specs.Turns.{IsIdle, Follows, IsAsked}
+use Rattle.actor_calls.specs.Turns.{IsIdle, IsTurn, Follows, IsAsked}
 use Rattle.actor_calls.specs.Hops.{AfterDraw, IsForwarded, IsHop}
 use Rattle.actor_calls.proofs.Tries.{makes_one}
-use Rattle.actor_calls.specs.Serving.{GoesOn, IsInvoked, IsDone, FollowsRead, IsServed}
+use Rattle.actor_calls.specs.Serving.{GoesOn, IsInvoked}
 
 pub idle : (now : ℕ) → IsIdle now now [] []
 idle now = record { now = refl; entries = refl; exchanges = refl }
@@ -56,6 +47,14 @@ module _ (part : ℕ) (after : Seats) (app : Address) (q : Invoke) (request : Ht
       → chain ≡ q.chain → first ≤ middle → Begins q.actor chain least middle es said → SpentAt part said after → Follows part after app q request said middle last fs xs next → IsAsked part after app q request least first last (es ++ fs) xs next
   asked_follows least chain first middle last said es fs xs next e later b full f =
       record { middle = middle; front = es; back = fs; said = said; entries = refl; later = later; begins = subst (λ (m : Option (List ℕ)). Begins q.actor m least middle es said) e b; full = full; follows = f }
+
+  -- a turn that began, and its end
+  pub asked_turn :
+      (least : Option ℕ) (chain told : Option (List ℕ)) (first middle last call : ℕ) (es fs : List PartEntry) (xs : List Exchange) (answer : ApiReply)
+      → chain ≡ q.chain → first ≤ middle → Begins q.actor chain least middle es (Ok (replies.Begun call told)) → IsTurn part after app q request call told middle last fs xs answer
+      → IsAsked part after app q request least first last (es ++ fs) xs (Answered answer)
+  asked_turn least chain told first middle last call es fs xs answer e later b t =
+      asked_follows least chain first middle last (Ok (replies.Begun call told)) es fs xs (Answered answer) e later b tt (answer, t, refl)
 
   -- the gate took no further entry
   pub asked_spent :
@@ -153,33 +152,6 @@ module _ (part : ℕ) (after : Seats) (host : Member) (app : Address) (q : Invok
         exchanges = refl;
         asked = asked_moves part before after app q request version owner q.least first middle es xs a;
         goes_on = subst (λ (m : Member). GoesOn part after m app q request side (Moves version owner) middle last fs vs ys answer) same (subst (λ (l : Address). GoesOn part after me l q request side (Moves version owner) middle last fs vs ys answer) there o);
-      }
-
--- ---- requests that were read
-
-module _ (node : SidecarNode) (after : Seats) (app : Address) (side : Side) (request : HttpRequest) where
-  pub done : (now : ℕ) (what : Served) → IsDone now now [] [] [] what what
-  done now what = record { now = refl; entries = refl; app = refl; peers = refl; is = refl }
-
-  -- any other command than a call is handed back
-  pub follows_command : (command : ApiCommand) (now : ℕ)
-      → ((actor : ActorKey) (method : List ℕ) (chain : Option (List ℕ)) (least : Option ℕ) (call : Option CallName) → command ≢ commands.Invoke actor method chain least call)
-      → FollowsRead node after app side request (Ok command) now now [] [] [] (served.Other command)
-  follows_command (commands.Invoke actor method chain least call) now h = absurd (h actor method chain least call refl)
-  follows_command command now h = done now (served.Other command)
-
-  -- a request was read, and what followed
-  pub served_by :
-      (space : List ℕ) (first shown now last : ℕ) (read : Result ApiCommand ApiRefusal) (ns : List NodeEntry) (xs ys : List Exchange) (outcome : Served)
-      → space ≡ (host_of node).member.space → first ≤ now → shown ≡ now → ReadsCommand (command_of space side request now) read → FollowsRead node after app side request read shown last ns xs ys outcome
-      → IsServed node after app side request first last ns xs ys outcome
-  served_by space first shown now last read ns xs ys outcome same later is reads follows =
-      record {
-        now = now;
-        read = read;
-        later = later;
-        reads = subst (λ (s : List ℕ). ReadsCommand (command_of s side request now) read) same reads;
-        follows = subst (λ (n : ℕ). FollowsRead node after app side request read n last ns xs ys outcome) is follows;
       }
 
 -- the application gave no reply, and memory didn't run out

@@ -1,6 +1,6 @@
 -- A served call: the request, its entries on the part of its actor, its exchanges with the application and with other
 -- sidecars, and its answer. Own.
-use Rattle.std.specs.Prelude.{◌≡◌, ◌⊎◌, ◌≤◌, ℕ, List, [], ◌++◌, Option, Some, None, Result, Ok, Err}
+use Rattle.std.specs.Prelude.{◌≡◌, ℕ, List, [], ◌++◌, Option, Some, None, Result, Ok, Err}
 use Rattle.actor_names.specs.declared.member.Member.{Member}
 use Rattle.actor_names.specs.declared.address.Address.{Address}
 use Rattle.step_gate.specs.declared.gate.Spent.{Spent}
@@ -12,12 +12,8 @@ use Rattle.actors_api.specs.declared.reply.ApiReply.{ApiReply}
 use Rattle.actors_api.specs.declared.side.Side.{Side}
 use Rattle.actors_api.specs.declared.side.Side.TheVariants.{Caller, Peer}
 use Rattle.actors_api.specs.declared.reply.ApiReply.TheVariants as replies
-use Rattle.actors_api.specs.declared.refusal.ApiRefusal.{ApiRefusal}
 use Rattle.actors_api.specs.declared.refusal.ApiRefusal.TheVariants as refusals
 use Rattle.actors_api.specs.Responses.{response_of}
-use Rattle.actors_api.specs.declared.command.ApiCommand.{ApiCommand}
-use Rattle.actors_api.specs.declared.command.ApiCommand.TheVariants as commands
-use Rattle.actors_api.specs.Commands.{command_of, ReadsCommand}
 use Rattle.sidecar_node.specs.declared.node.SidecarNode.{SidecarNode}
 use Rattle.sidecar_node.specs.declared.node.Seats.{Seats}
 use Rattle.sidecar_node.specs.Entries.{PartEntry, NodeEntry, at_part, at_calls, one_entry}
@@ -26,8 +22,6 @@ use Rattle.exchanges.specs.Exchanges.{Exchange}
 use Rattle.actor_calls.specs.declared.invoke.Invoke.{Invoke}
 use Rattle.actor_calls.specs.declared.next.Next.{Next}
 use Rattle.actor_calls.specs.declared.next.Next.TheVariants.{Answered, Moves}
-use Rattle.actor_calls.specs.declared.served.Served.{Served}
-use Rattle.actor_calls.specs.declared.served.Served.TheVariants as served
 use Rattle.actor_calls.specs.Turns.{IsIdle, IsAsked}
 use Rattle.actor_calls.specs.Hops.{IsRouted}
 use Rattle.actor_calls.specs.Outcomes.{refused}
@@ -54,7 +48,7 @@ module _ (part : ℕ) (after : Seats) (me : Member) (app : Address) (q : Invoke)
     pub asked : IsAsked part after app q request q.least first middle front early next
     pub goes_on : GoesOn side next middle last back late ys answer
 
--- ---- requests that are read first; `ns` are the entries on all gates of the node
+-- ---- calls of callers and of other sidecars; `ns` are the entries on all gates of the node
 
 -- no entry and no exchange was made, and the clock wasn't read
 pub record IsNothing (first last : ℕ) (ns : List NodeEntry) (xs ys : List Exchange) : Type 0 where
@@ -62,14 +56,6 @@ pub record IsNothing (first last : ℕ) (ns : List NodeEntry) (xs ys : List Exch
   pub entries : ns ≡ []
   pub app : xs ≡ []
   pub peers : ys ≡ []
-
--- nothing was done
-pub record IsDone (first last : ℕ) (ns : List NodeEntry) (xs ys : List Exchange) (what outcome : Served) : Type 0 where
-  pub now : last ≡ first
-  pub entries : ns ≡ []
-  pub app : xs ≡ []
-  pub peers : ys ≡ []
-  pub is : outcome ≡ what
 
 module _ (node : SidecarNode) (after : Seats) (app : Address) (side : Side) (request : HttpRequest) where
   -- a caller's call was served, with entries on the part of its actor alone
@@ -111,24 +97,3 @@ module _ (node : SidecarNode) (after : Seats) (app : Address) (side : Side) (req
   abbrev pub IsCallAnswered : Option CallName → Invoke → ℕ → ℕ → List NodeEntry → List Exchange → List Exchange → ApiReply → Type 0
   IsCallAnswered None q first last ns xs ys answer = IsOwnServed q first last ns xs ys answer
   IsCallAnswered (Some call) q first last ns xs ys answer = IsForwardServed call q first last ns xs ys answer
-
-  -- the same as what became of a request
-  pub record IsCallServed (call : Option CallName) (q : Invoke) (first last : ℕ) (ns : List NodeEntry) (xs ys : List Exchange) (outcome : Served) : Type 0 where
-    pub answer : ApiReply
-    pub answered : IsCallAnswered call q first last ns xs ys answer
-    pub is : outcome ≡ served.Answered answer
-
-  -- what follows the reading of a request: a refusal is its answer, and any other command than a call is handed back
-  abbrev pub FollowsRead : Result ApiCommand ApiRefusal → ℕ → ℕ → List NodeEntry → List Exchange → List Exchange → Served → Type 0
-  FollowsRead (Ok (commands.Invoke actor method chain least call)) first last ns xs ys outcome =
-      IsCallServed call (record { actor = actor; method = method; chain = chain; least = least }) first last ns xs ys outcome
-  FollowsRead (Ok command) first last ns xs ys outcome = IsDone first last ns xs ys (served.Other command) outcome
-  FollowsRead (Err refusal) first last ns xs ys outcome = IsDone first last ns xs ys (served.Answered (replies.Refused refusal)) outcome
-
-  -- a served request: it was read at a moment of the clock; memory may have run out meanwhile
-  pub record IsServed (first last : ℕ) (ns : List NodeEntry) (xs ys : List Exchange) (outcome : Served) : Type 0 where
-    pub now : ℕ
-    pub read : Result ApiCommand ApiRefusal
-    pub later : first ≤ now
-    pub reads : ReadsCommand (command_of (host_of node).member.space side request now) read
-    pub follows : FollowsRead read now last ns xs ys outcome

@@ -1,11 +1,11 @@
 // Calls that other sidecars forwarded here. Each of them acts at most once.
-ghost use Rattle.std.specs.Prelude.{◌≡◌, List, Ok};
+ghost use Rattle.std.specs.Prelude.{◌≡◌, List};
 ghost use Rattle.sidecar_node.specs.Entries.{NodeEntry};
 ghost use Rattle.sidecar_node.specs.Nodes.{IsSeatsOf, Acts};
 ghost use Rattle.exchanges.specs.Exchanges.{Exchange, Dialling};
 ghost use Rattle.actors_api.specs.Responses.{response_of};
 ghost use Rattle.actor_calls.specs.Forwards.{begin_of, finish_of, known_answer, GoesOut, finish_answer};
-ghost use Rattle.actor_calls.specs.Serving.{IsNewServed, AfterBegin, IsForwardServed};
+ghost use Rattle.actor_calls.specs.Serving.{IsForwardServed};
 
 use crate::invoke::Invoke;
 use crate::invoking::serve_invoke;
@@ -16,7 +16,7 @@ use call_book::{BookEvent, BookReply};
 use call_names::CallName;
 use exchanges::Links;
 use http_edge::{HttpRequest, HttpResponse};
-use sidecar_node::{Seats, SidecarNode};
+use sidecar_node::Desk;
 use std::alloc::Global;
 use std::sync::Wait;
 use step_gate::Spent;
@@ -83,95 +83,39 @@ fn finish_answer(said: Result<BookReply, Spent>, sent: ApiReply) -> ApiReply
     }
 }
 
-// Serves a call that is new, and notes its response in the book.
-fn serve_new<R: Wait, A: Dial, P: Dial, S: Dial, K: Clock>(
-    rt: &R,
-    alloc: Global,
-    node: &SidecarNode,
-    seats: Seats,
-    side: Side,
-    call: &CallName,
-    invoke: &Invoke,
-    request: &HttpRequest,
-    links: &mut Links<A, P, S>,
-    clock: &mut K,
-) -> (Seats, ApiReply)
-    requires { IsSeatsOf node.now seats }
-    ensures seats { IsSeatsOf node.now result.0 }
-    ensures served { (ns : List NodeEntry) × (xs : List Exchange) × (ys : List Exchange) × Acts ns seats result.0
-        × Dialling xs (A.dialled links.old.app) (A.dialled links.new.app) (A.dial_faults links.old.app) (A.dial_faults links.new.app)
-        × Dialling ys (P.dialled links.old.peers) (P.dialled links.new.peers) (P.dial_faults links.old.peers) (P.dial_faults links.new.peers)
-        × IsNewServed node.now result.0 links.old.app_at side request.now call.now invoke.now (K.shown clock.old) (K.shown clock.new) ns xs ys result.1 }
-    ensures places { (links.new.app_at ≡ links.old.app_at) × (links.new.store_at ≡ links.old.store_at) }
-    ensures store { links.new.store ≡ links.old.store }
-{
-    let (served, reply) = serve_invoke(rt, alloc, node, seats, side, invoke, request, links, clock);
-    let mut seats = served;
-    let (sent, noted) = go_out(alloc, side, &reply);
-    let said = node.step_calls(rt, &mut seats, finish_of(call, noted));
-    (seats, finish_answer(said, sent))
-}
-
-// What follows the reply to the Begin.
-fn after_begin<R: Wait, A: Dial, P: Dial, S: Dial, K: Clock>(
-    rt: &R,
-    alloc: Global,
-    node: &SidecarNode,
-    seats: Seats,
-    side: Side,
-    call: &CallName,
-    invoke: &Invoke,
-    request: &HttpRequest,
-    reply: BookReply,
-    links: &mut Links<A, P, S>,
-    clock: &mut K,
-) -> (Seats, ApiReply)
-    requires { IsSeatsOf node.now seats }
-    ensures seats { IsSeatsOf node.now result.0 }
-    ensures follows { (ns : List NodeEntry) × (xs : List Exchange) × (ys : List Exchange) × Acts ns seats result.0
-        × Dialling xs (A.dialled links.old.app) (A.dialled links.new.app) (A.dial_faults links.old.app) (A.dial_faults links.new.app)
-        × Dialling ys (P.dialled links.old.peers) (P.dialled links.new.peers) (P.dial_faults links.old.peers) (P.dial_faults links.new.peers)
-        × AfterBegin node.now result.0 links.old.app_at side request.now call.now invoke.now (Ok reply) (K.shown clock.old) (K.shown clock.new) ns xs ys result.1 }
-    ensures places { (links.new.app_at ≡ links.old.app_at) × (links.new.store_at ≡ links.old.store_at) }
-    ensures store { links.new.store ≡ links.old.store }
-{
-    match reply {
-        BookReply::New => serve_new(
-            rt, alloc, node, seats, side, call, invoke, request, links, clock,
-        ),
-        known => (seats, known_answer(known)),
-    }
-}
-
 /// Serves a call that another sidecar forwarded here under this name: one Begin in the book of forwarded calls, and if it
 /// is new, the call is served and has one Finish with the response that goes out. Any other reply to the Begin is the
 /// answer, and nothing else is done. If there is no memory for the response, none goes out, and the Finish notes status
 /// 503 alone, which takes no memory.
 pub fn serve_forwarded<R: Wait, A: Dial, P: Dial, S: Dial, K: Clock>(
-    rt: &R,
-    alloc: Global,
-    node: &SidecarNode,
-    mut seats: Seats,
+    desk: &mut Desk<'_, R, Links<A, P, S>, K>,
     side: Side,
     call: &CallName,
     invoke: &Invoke,
     request: &HttpRequest,
-    links: &mut Links<A, P, S>,
-    clock: &mut K,
-) -> (Seats, ApiReply)
-    requires { IsSeatsOf node.now seats }
-    ensures seats { IsSeatsOf node.now result.0 }
-    ensures served { (ns : List NodeEntry) × (xs : List Exchange) × (ys : List Exchange) × Acts ns seats result.0
-        × Dialling xs (A.dialled links.old.app) (A.dialled links.new.app) (A.dial_faults links.old.app) (A.dial_faults links.new.app)
-        × Dialling ys (P.dialled links.old.peers) (P.dialled links.new.peers) (P.dial_faults links.old.peers) (P.dial_faults links.new.peers)
-        × IsForwardServed node.now result.0 links.old.app_at side request.now call.now invoke.now (K.shown clock.old) (K.shown clock.new) ns xs ys result.1 }
-    ensures places { (links.new.app_at ≡ links.old.app_at) × (links.new.store_at ≡ links.old.store_at) }
-    ensures store { links.new.store ≡ links.old.store }
+) -> ApiReply
+    requires { IsSeatsOf desk.old.node.now desk.old.seats }
+    ensures node { desk.new.node.now ≡ desk.old.node.now }
+    ensures seats { IsSeatsOf desk.old.node.now desk.new.seats }
+    ensures served { (ns : List NodeEntry) × (xs : List Exchange) × (ys : List Exchange) × Acts ns desk.old.seats desk.new.seats
+        × Dialling xs (A.dialled desk.old.links.app) (A.dialled desk.new.links.app) (A.dial_faults desk.old.links.app) (A.dial_faults desk.new.links.app)
+        × Dialling ys (P.dialled desk.old.links.peers) (P.dialled desk.new.links.peers) (P.dial_faults desk.old.links.peers) (P.dial_faults desk.new.links.peers)
+        × IsForwardServed desk.old.node.now desk.new.seats desk.old.links.app_at side request.now call.now invoke.now (K.shown desk.old.clock) (K.shown desk.new.clock) ns xs ys result }
+    ensures places { (desk.new.links.app_at ≡ desk.old.links.app_at) × (desk.new.links.store_at ≡ desk.old.links.store_at) }
+    ensures store { desk.new.links.store ≡ desk.old.links.store }
 {
-    match node.step_calls(rt, &mut seats, begin_of(call)) {
-        Err(_) => (seats, refused(ApiRefusal::Spent)),
-        Ok(reply) => after_begin(
-            rt, alloc, node, seats, side, call, invoke, request, reply, links, clock,
-        ),
+    let node = desk.node;
+    match node.step_calls(desk.rt, &mut desk.seats, begin_of(call)) {
+        Err(_) => refused(ApiRefusal::Spent),
+        Ok(reply) => match reply {
+            BookReply::New => {
+                let answer = serve_invoke(desk, side, invoke, request);
+                let (sent, noted) = go_out(desk.alloc, side, &answer);
+                let finish = finish_of(call, noted);
+                let said = node.step_calls(desk.rt, &mut desk.seats, finish);
+                finish_answer(said, sent)
+            }
+            known => known_answer(known),
+        },
     }
 }

@@ -19,8 +19,6 @@ mod law;
 mod next;
 mod outcomes;
 mod peers;
-mod served;
-mod serving;
 
 pub use forwarded::serve_forwarded;
 pub use invoke::Invoke;
@@ -29,5 +27,3 @@ pub use law::{call_law, forward_law, peer_law};
 pub use next::Next;
 pub use outcomes::{next_of, turn_answer};
 pub use peers::peer_next;
-pub use served::Served;
-pub use serving::serve_call;

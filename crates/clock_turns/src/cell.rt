@@ -9,12 +9,12 @@ ghost use Rattle.clock_turns.specs.Closings.{Closing, IsTold, IsOwed, owed_entri
 use crate::closing_stand::{closing_end, is_fault};
 use crate::ends::TickEnd;
 use actor_names::{ActorKey, Address};
-use actor_ports::{Dial, Waits};
+use actor_ports::{Clock, Dial, Waits};
 use app_texts::deactivate_request;
-use exchanges::exchange_waiting;
+use exchanges::{Links, exchange_waiting};
 use http_edge::{EdgeError, HttpResponse};
 use part_model::PartEvent;
-use sidecar_node::{Seats, SidecarNode};
+use sidecar_node::Desk;
 use std::alloc::Global;
 use std::sync::Wait;
 use timer_book::TimerEvent;
@@ -65,27 +65,29 @@ fn tell_app<L: Dial>(
 
 /// Deactivates an actor that this part has given up: its timers are dropped, the application is told, and the part hears
 /// that this is over, whatever came back.
-pub(crate) fn close_cell<R: Wait, L: Dial>(
-    rt: &R,
-    alloc: Global,
-    node: &SidecarNode,
-    seats: &mut Seats,
+pub(crate) fn close_cell<R: Wait, A: Dial, P: Dial, S: Dial, K: Clock>(
+    desk: &mut Desk<'_, R, Links<A, P, S>, K>,
     part: usize,
     key: ActorKey,
-    at: &Address,
-    app: &mut L,
 ) -> Closed
-    requires seats { IsSeatsOf node.now seats.old }
-    requires inside { part < length (part_gates node.now) }
-    ensures seats { IsSeatsOf node.now seats.new }
-    ensures closing { (c : Closing) × (c.key ≡ key) × IsTold at.now c × IsOwed part c seats.new × Acts (owed_entries part c) seats.old seats.new
-        × Dialling c.asked (L.dialled app.old) (L.dialled app.new) (L.dial_faults app.old) (L.dial_faults app.new)
+    requires seats { IsSeatsOf desk.old.node.now desk.old.seats }
+    requires inside { part < length (part_gates desk.old.node.now) }
+    ensures node { desk.new.node.now ≡ desk.old.node.now }
+    ensures seats { IsSeatsOf desk.old.node.now desk.new.seats }
+    ensures closing { (c : Closing) × (c.key ≡ key) × IsTold desk.old.links.app_at c × IsOwed part c desk.new.seats × Acts (owed_entries part c) desk.old.seats desk.new.seats
+        × Dialling c.asked (A.dialled desk.old.links.app) (A.dialled desk.new.links.app) (A.dial_faults desk.old.links.app) (A.dial_faults desk.new.links.app)
         × (result.faulted ≡ is_fault c.got) × (result.end ≡ closing_end c.dropped c.closed c.got) }
+    ensures clock { desk.new.clock ≡ desk.old.clock }
+    ensures places { (desk.new.links.app_at ≡ desk.old.links.app_at) × (desk.new.links.store_at ≡ desk.old.links.store_at) }
+    ensures others { (desk.new.links.peers ≡ desk.old.links.peers) × (desk.new.links.store ≡ desk.old.links.store) }
 {
-    let copy = copied(rt, alloc, &key);
-    let dropped = node.step_book(rt, seats, part, TimerEvent::DropActor { key: copy });
-    let got = tell_app(alloc, app, at, &key);
-    let closed = node.step_part(rt, seats, part, PartEvent::Closed { key });
+    let node = desk.node;
+    let copy = copied(desk.rt, desk.alloc, &key);
+    let event = TimerEvent::DropActor { key: copy };
+    let dropped = node.step_book(desk.rt, &mut desk.seats, part, event);
+    let at = desk.links.app_at;
+    let got = tell_app(desk.alloc, &mut desk.links.app, &at, &key);
+    let closed = node.step_part(desk.rt, &mut desk.seats, part, PartEvent::Closed { key });
     Closed {
         faulted: is_fault(&got),
         end: closing_end(&dropped, &closed, &got),

@@ -7,11 +7,9 @@ use crate::closing_stand::Stand;
 use crate::counting::either;
 use crate::ends::TickEnd;
 use crate::taking::{Taken, take_one};
-use actor_names::Address;
 use actor_ports::{Clock, Dial};
 use exchanges::Links;
-use sidecar_node::{Seats, SidecarNode};
-use std::alloc::Global;
+use sidecar_node::Desk;
 use std::sync::Wait;
 
 /// What the deactivations came to.
@@ -24,28 +22,28 @@ pub struct Closings {
 }
 
 /// Takes every actor that may be deactivated at this moment, part by part in order, and deactivates it: its timers are
-/// dropped, the application at this address is told, and its part is told that this is over, whatever came back. A fault of
-/// the application's connection doesn't end it.
-pub fn close_cells<R: Wait, L: Dial>(
-    rt: &R,
-    alloc: Global,
-    node: &SidecarNode,
-    seats: &mut Seats,
+/// dropped, the application is told, and its part is told that this is over, whatever came back. A fault of the
+/// application's connection doesn't end it.
+pub fn close_cells<R: Wait, A: Dial, P: Dial, S: Dial, K: Clock>(
+    desk: &mut Desk<'_, R, Links<A, P, S>, K>,
     now: u64,
-    at: &Address,
-    app: &mut L,
 ) -> Closings
-    requires { IsSeatsOf node.now seats.old }
-    ensures seats { IsSeatsOf node.now seats.new }
-    ensures closes { ClosesCells node.now at.now now seats.old seats.new (L.dialled app.old) (L.dialled app.new) (L.dial_faults app.old) (L.dial_faults app.new) result.faulted result.end }
+    requires { IsSeatsOf desk.old.node.now desk.old.seats }
+    ensures node { desk.new.node.now ≡ desk.old.node.now }
+    ensures seats { IsSeatsOf desk.old.node.now desk.new.seats }
+    ensures closes { ClosesCells desk.old.node.now desk.old.links.app_at now desk.old.seats desk.new.seats (A.dialled desk.old.links.app) (A.dialled desk.new.links.app) (A.dial_faults desk.old.links.app) (A.dial_faults desk.new.links.app) result.faulted result.end }
+    ensures clock { desk.new.clock ≡ desk.old.clock }
+    ensures places { (desk.new.links.app_at ≡ desk.old.links.app_at) × (desk.new.links.store_at ≡ desk.old.links.store_at) }
+    ensures others { (desk.new.links.peers ≡ desk.old.links.peers) × (desk.new.links.store ≡ desk.old.links.store) }
 {
+    let node = desk.node;
     let mut part = 0usize;
     let mut faulted = false;
-    for _ in rt.forever() {
+    for _ in desk.rt.forever() {
         if part >= node.parts() {
             return Closings { faulted, end: None };
         }
-        let taken = take_one(rt, alloc, node, seats, part, now, at, app);
+        let taken = take_one(desk, part, now);
         let Taken {
             faulted: fault,
             stand,
@@ -85,23 +83,18 @@ fn turn_end(closings: Closings) -> TickEnd
 /// the application and one Closed. `Done` says that no part had one left; `AppFault` the same, with a fault of the
 /// application's connection on the way. `Stopped`, `Spent` and `OutOfMemory` end the turn, once what was begun is over.
 pub fn closing_turn<R: Wait, A: Dial, P: Dial, S: Dial, K: Clock>(
-    rt: &R,
-    alloc: Global,
-    node: &SidecarNode,
-    mut seats: Seats,
-    links: &mut Links<A, P, S>,
-    clock: &mut K,
-) -> (Seats, TickEnd)
-    requires { IsSeatsOf node.now seats }
-    ensures seats { IsSeatsOf node.now result.0 }
-    ensures turn { ClosingTurn node.now links.old.app_at (K.shown clock.new) seats result.0 (A.dialled links.old.app) (A.dialled links.new.app) (A.dial_faults links.old.app) (A.dial_faults links.new.app) result.1 }
-    ensures cause { TickCause (A.dial_faults links.old.app) (A.dial_faults links.new.app) result.1 }
-    ensures clock { K.shown clock.old ≤ K.shown clock.new }
-    ensures places { (links.new.app_at ≡ links.old.app_at) × (links.new.store_at ≡ links.old.store_at) }
-    ensures others { (links.new.peers ≡ links.old.peers) × (links.new.store ≡ links.old.store) }
+    desk: &mut Desk<'_, R, Links<A, P, S>, K>,
+) -> TickEnd
+    requires { IsSeatsOf desk.old.node.now desk.old.seats }
+    ensures node { desk.new.node.now ≡ desk.old.node.now }
+    ensures seats { IsSeatsOf desk.old.node.now desk.new.seats }
+    ensures turn { ClosingTurn desk.old.node.now desk.old.links.app_at (K.shown desk.new.clock) desk.old.seats desk.new.seats (A.dialled desk.old.links.app) (A.dialled desk.new.links.app) (A.dial_faults desk.old.links.app) (A.dial_faults desk.new.links.app) result }
+    ensures cause { TickCause (A.dial_faults desk.old.links.app) (A.dial_faults desk.new.links.app) result }
+    ensures clock { K.shown desk.old.clock ≤ K.shown desk.new.clock }
+    ensures places { (desk.new.links.app_at ≡ desk.old.links.app_at) × (desk.new.links.store_at ≡ desk.old.links.store_at) }
+    ensures others { (desk.new.links.peers ≡ desk.old.links.peers) × (desk.new.links.store ≡ desk.old.links.store) }
 {
-    let now = clock.now_ms();
-    let at = links.app_at;
-    let closings = close_cells(rt, alloc, node, &mut seats, now, &at, &mut links.app);
-    (seats, turn_end(closings))
+    let now = desk.clock.now_ms();
+    let closings = close_cells(desk, now);
+    turn_end(closings)
 }

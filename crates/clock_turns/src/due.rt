@@ -13,10 +13,9 @@ use crate::fire::fire_timer;
 use crate::marks::two_marks;
 use crate::outcome::Outcome;
 use crate::tick_stand::{Stand, after_timer};
-use actor_names::Address;
 use actor_ports::{Clock, Dial};
-use sidecar_node::{Seats, SidecarNode};
-use std::alloc::Global;
+use exchanges::Links;
+use sidecar_node::Desk;
 use std::sync::Wait;
 use timer_book::{DueTimer, TimerEvent, TimerReply};
 
@@ -42,145 +41,86 @@ fn idle(place: Stand) -> Firing
 }
 
 // The timer that a Due gave.
-fn fire_due<R: Wait, L: Dial, K: Clock>(
-    rt: &R,
-    alloc: Global,
-    node: &SidecarNode,
-    seats: Seats,
+fn fire_due<R: Wait, A: Dial, P: Dial, S: Dial, K: Clock>(
+    desk: &mut Desk<'_, R, Links<A, P, S>, K>,
     book: usize,
     due: DueTimer,
-    at: &Address,
-    app: &mut L,
-    clock: &mut K,
-) -> (Seats, Firing)
-    requires seats { IsSeatsOf node.now seats }
-    requires inside { book < length (part_gates node.now) }
-    ensures seats { IsSeatsOf node.now result.0 }
-    ensures due { (fired : Option Fired) × IsFiring node.now at.now book (Ok (DueIs (Some due))) fired (K.shown clock.old) (K.shown clock.new) result.0
-        × Acts (fired_entries node.now book (K.shown clock.new) fired) seats result.0
-        × Dialling (fired_asked fired) (L.dialled app.old) (L.dialled app.new) (L.dial_faults app.old) (L.dial_faults app.new)
-        × (result.1.begun ≡ fired_begun fired) × (result.1.faulted ≡ fired_fault fired) × (result.1.stand ≡ due_stand book fired) }
-    ensures clock { K.shown clock.old ≤ K.shown clock.new }
+) -> Firing
+    requires seats { IsSeatsOf desk.old.node.now desk.old.seats }
+    requires inside { book < length (part_gates desk.old.node.now) }
+    ensures node { desk.new.node.now ≡ desk.old.node.now }
+    ensures seats { IsSeatsOf desk.old.node.now desk.new.seats }
+    ensures due { (fired : Option Fired) × IsFiring desk.old.node.now desk.old.links.app_at book (Ok (DueIs (Some due))) fired (K.shown desk.old.clock) (K.shown desk.new.clock) desk.new.seats
+        × Acts (fired_entries desk.old.node.now book (K.shown desk.new.clock) fired) desk.old.seats desk.new.seats
+        × Dialling (fired_asked fired) (A.dialled desk.old.links.app) (A.dialled desk.new.links.app) (A.dial_faults desk.old.links.app) (A.dial_faults desk.new.links.app)
+        × (result.begun ≡ fired_begun fired) × (result.faulted ≡ fired_fault fired) × (result.stand ≡ due_stand book fired) }
+    ensures clock { K.shown desk.old.clock ≤ K.shown desk.new.clock }
+    ensures places { (desk.new.links.app_at ≡ desk.old.links.app_at) × (desk.new.links.store_at ≡ desk.old.links.store_at) }
+    ensures others { (desk.new.links.peers ≡ desk.old.links.peers) × (desk.new.links.store ≡ desk.old.links.store) }
 {
-    match two_marks(alloc, &due) {
-        Err(_) => (
-            seats,
-            idle(Stand::Over {
-                end: TickEnd::OutOfMemory,
-            }),
-        ),
+    match two_marks(desk.alloc, &due) {
+        Err(_) => idle(Stand::Over {
+            end: TickEnd::OutOfMemory,
+        }),
         Ok(marks) => {
-            let (seats, fired) = fire_timer(
-                rt, alloc, node, seats, book, due, marks, at, app, clock,
-            );
+            let fired = fire_timer(desk, book, due, marks);
             let Outcome {
                 begun,
                 faulted,
                 end,
             } = fired;
-            let firing = Firing {
+            Firing {
                 begun,
                 faulted,
                 stand: after_timer(book, end),
-            };
-            (seats, firing)
+            }
         }
-    }
-}
-
-// What follows the answer that a timer is due, or none.
-fn follow_list<R: Wait, L: Dial, K: Clock>(
-    rt: &R,
-    alloc: Global,
-    node: &SidecarNode,
-    seats: Seats,
-    book: usize,
-    timer: Option<DueTimer>,
-    at: &Address,
-    app: &mut L,
-    clock: &mut K,
-) -> (Seats, Firing)
-    requires seats { IsSeatsOf node.now seats }
-    requires inside { book < length (part_gates node.now) }
-    ensures seats { IsSeatsOf node.now result.0 }
-    ensures due { (fired : Option Fired) × IsFiring node.now at.now book (Ok (DueIs timer)) fired (K.shown clock.old) (K.shown clock.new) result.0
-        × Acts (fired_entries node.now book (K.shown clock.new) fired) seats result.0
-        × Dialling (fired_asked fired) (L.dialled app.old) (L.dialled app.new) (L.dial_faults app.old) (L.dial_faults app.new)
-        × (result.1.begun ≡ fired_begun fired) × (result.1.faulted ≡ fired_fault fired) × (result.1.stand ≡ stand book (Ok (DueIs timer)) fired) }
-    ensures clock { K.shown clock.old ≤ K.shown clock.new }
-{
-    match timer {
-        None => {
-            let _books = node.parts();
-            (seats, idle(Stand::On { book: book + 1 }))
-        }
-        Some(due) => fire_due(rt, alloc, node, seats, book, due, at, app, clock),
-    }
-}
-
-// What follows the answer to a Due.
-fn follow_due<R: Wait, L: Dial, K: Clock>(
-    rt: &R,
-    alloc: Global,
-    node: &SidecarNode,
-    seats: Seats,
-    book: usize,
-    reply: TimerReply,
-    at: &Address,
-    app: &mut L,
-    clock: &mut K,
-) -> (Seats, Firing)
-    requires seats { IsSeatsOf node.now seats }
-    requires inside { book < length (part_gates node.now) }
-    ensures seats { IsSeatsOf node.now result.0 }
-    ensures due { (fired : Option Fired) × IsFiring node.now at.now book (Ok reply) fired (K.shown clock.old) (K.shown clock.new) result.0
-        × Acts (fired_entries node.now book (K.shown clock.new) fired) seats result.0
-        × Dialling (fired_asked fired) (L.dialled app.old) (L.dialled app.new) (L.dial_faults app.old) (L.dial_faults app.new)
-        × (result.1.begun ≡ fired_begun fired) × (result.1.faulted ≡ fired_fault fired) × (result.1.stand ≡ stand book (Ok reply) fired) }
-    ensures clock { K.shown clock.old ≤ K.shown clock.new }
-{
-    match reply {
-        TimerReply::DueIs { timer } => {
-            follow_list(rt, alloc, node, seats, book, timer, at, app, clock)
-        }
-        _ => (
-            seats,
-            idle(Stand::Over {
-                end: TickEnd::OutOfMemory,
-            }),
-        ),
     }
 }
 
 /// One Due on this book at this moment, and the timer that it gave. The moment is in milliseconds since 1970.
-pub(crate) fn take_due<R: Wait, L: Dial, K: Clock>(
-    rt: &R,
-    alloc: Global,
-    node: &SidecarNode,
-    mut seats: Seats,
+pub(crate) fn take_due<R: Wait, A: Dial, P: Dial, S: Dial, K: Clock>(
+    desk: &mut Desk<'_, R, Links<A, P, S>, K>,
     book: usize,
     now: u64,
-    at: &Address,
-    app: &mut L,
-    clock: &mut K,
-) -> (Seats, Firing)
-    requires seats { IsSeatsOf node.now seats }
-    requires inside { book < length (part_gates node.now) }
+) -> Firing
+    requires seats { IsSeatsOf desk.old.node.now desk.old.seats }
+    requires inside { book < length (part_gates desk.old.node.now) }
     requires now { now < 253370764800000 }
-    ensures seats { IsSeatsOf node.now result.0 }
-    ensures due { (said : BookSaid) × (fired : Option Fired) × IsFiring node.now at.now book said fired (K.shown clock.old) (K.shown clock.new) result.0
-        × Acts (due_entries node.now now book said fired (K.shown clock.new)) seats result.0
-        × Dialling (fired_asked fired) (L.dialled app.old) (L.dialled app.new) (L.dial_faults app.old) (L.dial_faults app.new)
-        × (result.1.begun ≡ fired_begun fired) × (result.1.faulted ≡ fired_fault fired) × (result.1.stand ≡ stand book said fired) }
-    ensures clock { K.shown clock.old ≤ K.shown clock.new }
+    ensures node { desk.new.node.now ≡ desk.old.node.now }
+    ensures seats { IsSeatsOf desk.old.node.now desk.new.seats }
+    ensures due { (said : BookSaid) × (fired : Option Fired) × IsFiring desk.old.node.now desk.old.links.app_at book said fired (K.shown desk.old.clock) (K.shown desk.new.clock) desk.new.seats
+        × Acts (due_entries desk.old.node.now now book said fired (K.shown desk.new.clock)) desk.old.seats desk.new.seats
+        × Dialling (fired_asked fired) (A.dialled desk.old.links.app) (A.dialled desk.new.links.app) (A.dial_faults desk.old.links.app) (A.dial_faults desk.new.links.app)
+        × (result.begun ≡ fired_begun fired) × (result.faulted ≡ fired_fault fired) × (result.stand ≡ stand book said fired) }
+    ensures clock { K.shown desk.old.clock ≤ K.shown desk.new.clock }
+    ensures places { (desk.new.links.app_at ≡ desk.old.links.app_at) × (desk.new.links.store_at ≡ desk.old.links.store_at) }
+    ensures others { (desk.new.links.peers ≡ desk.old.links.peers) × (desk.new.links.store ≡ desk.old.links.store) }
 {
+    let node = desk.node;
     let moment = moment_of(now);
-    let said = node.step_book(rt, &mut seats, book, TimerEvent::Due { now: moment });
+    let said = node.step_book(
+        desk.rt,
+        &mut desk.seats,
+        book,
+        TimerEvent::Due { now: moment },
+    );
     match said {
         Err(spent) => {
             let end = TickEnd::Spent { count: spent.count };
-            (seats, idle(Stand::Over { end }))
+            idle(Stand::Over { end })
         }
-        Ok(reply) => follow_due(rt, alloc, node, seats, book, reply, at, app, clock),
+        Ok(reply) => match reply {
+            TimerReply::DueIs { timer } => match timer {
+                None => {
+                    let _books = node.parts();
+                    idle(Stand::On { book: book + 1 })
+                }
+                Some(due) => fire_due(desk, book, due),
+            },
+            _ => idle(Stand::Over {
+                end: TickEnd::OutOfMemory,
+            }),
+        },
     }
 }

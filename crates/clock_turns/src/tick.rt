@@ -2,17 +2,15 @@
 ghost use Rattle.std.specs.Prelude.{◌≡◌, ◌≤◌};
 ghost use Rattle.sidecar_node.specs.Nodes.{IsSeatsOf};
 ghost use Rattle.clock_turns.specs.Closings.{TickCause};
-ghost use Rattle.clock_turns.specs.Ticks.{tick_end, ThenTimers, TickTurn};
+ghost use Rattle.clock_turns.specs.Ticks.{tick_end, TickTurn};
 
 use crate::closing::{Closings, close_cells};
 use crate::counting::either;
 use crate::ends::TickEnd;
 use crate::timers::{Firings, fire_timers};
-use actor_names::Address;
 use actor_ports::{Clock, Dial};
 use exchanges::Links;
-use sidecar_node::{Seats, SidecarNode};
-use std::alloc::Global;
+use sidecar_node::Desk;
 use std::sync::Wait;
 
 // How the tick ends.
@@ -31,39 +29,6 @@ fn tick_end(turns: u32, faulted: bool, end: Option<TickEnd>) -> TickEnd
     }
 }
 
-// What follows the deactivations.
-fn then_timers<R: Wait, L: Dial, K: Clock>(
-    rt: &R,
-    alloc: Global,
-    node: &SidecarNode,
-    seats: Seats,
-    faulted: bool,
-    closed: Option<TickEnd>,
-    at: &Address,
-    app: &mut L,
-    clock: &mut K,
-) -> (Seats, TickEnd)
-    requires { IsSeatsOf node.now seats }
-    ensures seats { IsSeatsOf node.now result.0 }
-    ensures follows { ThenTimers node.now at.now faulted closed seats result.0 (L.dialled app.old) (L.dialled app.new) (L.dial_faults app.old) (L.dial_faults app.new) (K.shown clock.old) (K.shown clock.new) result.1 }
-    ensures clock { K.shown clock.old ≤ K.shown clock.new }
-{
-    match closed {
-        Some(end) => (seats, end),
-        None => {
-            let now = clock.now_ms();
-            let (seats, fired) = fire_timers(rt, alloc, node, seats, now, at, app, clock);
-            let Firings {
-                turns,
-                faulted: more,
-                end,
-            } = fired;
-            let faulted = either(faulted, more);
-            (seats, tick_end(turns, faulted, end))
-        }
-    }
-}
-
 /// A sidecar's tick. First it deactivates the actors whose time is over, as `closing_turn` does. Then the timers fire that
 /// are due at one moment of the clock: on each book in order Due after Due, until none is due. After each timer come a
 /// Started and, if that finds the registration, a turn and a Finished, however the turn ended. On Begun a turn has one
@@ -73,34 +38,32 @@ fn then_timers<R: Wait, L: Dial, K: Clock>(
 /// `Stopped`, `Spent` and `OutOfMemory` end the tick, once what was begun is over. Any other refusal of an Ask ends that
 /// timer's turn alone.
 pub fn tick_turn<R: Wait, A: Dial, P: Dial, S: Dial, K: Clock>(
-    rt: &R,
-    alloc: Global,
-    node: &SidecarNode,
-    mut seats: Seats,
-    links: &mut Links<A, P, S>,
-    clock: &mut K,
-) -> (Seats, TickEnd)
-    requires { IsSeatsOf node.now seats }
-    ensures seats { IsSeatsOf node.now result.0 }
-    ensures turn { TickTurn node.now links.old.app_at seats result.0 (A.dialled links.old.app) (A.dialled links.new.app) (A.dial_faults links.old.app) (A.dial_faults links.new.app) (K.shown clock.old) (K.shown clock.new) result.1 }
-    ensures cause { TickCause (A.dial_faults links.old.app) (A.dial_faults links.new.app) result.1 }
-    ensures clock { K.shown clock.old ≤ K.shown clock.new }
-    ensures places { (links.new.app_at ≡ links.old.app_at) × (links.new.store_at ≡ links.old.store_at) }
-    ensures others { (links.new.peers ≡ links.old.peers) × (links.new.store ≡ links.old.store) }
+    desk: &mut Desk<'_, R, Links<A, P, S>, K>,
+) -> TickEnd
+    requires { IsSeatsOf desk.old.node.now desk.old.seats }
+    ensures node { desk.new.node.now ≡ desk.old.node.now }
+    ensures seats { IsSeatsOf desk.old.node.now desk.new.seats }
+    ensures turn { TickTurn desk.old.node.now desk.old.links.app_at desk.old.seats desk.new.seats (A.dialled desk.old.links.app) (A.dialled desk.new.links.app) (A.dial_faults desk.old.links.app) (A.dial_faults desk.new.links.app) (K.shown desk.old.clock) (K.shown desk.new.clock) result }
+    ensures cause { TickCause (A.dial_faults desk.old.links.app) (A.dial_faults desk.new.links.app) result }
+    ensures clock { K.shown desk.old.clock ≤ K.shown desk.new.clock }
+    ensures places { (desk.new.links.app_at ≡ desk.old.links.app_at) × (desk.new.links.store_at ≡ desk.old.links.store_at) }
+    ensures others { (desk.new.links.peers ≡ desk.old.links.peers) × (desk.new.links.store ≡ desk.old.links.store) }
 {
-    let now = clock.now_ms();
-    let at = links.app_at;
-    let closings = close_cells(rt, alloc, node, &mut seats, now, &at, &mut links.app);
+    let now = desk.clock.now_ms();
+    let closings = close_cells(desk, now);
     let Closings { faulted, end } = closings;
-    then_timers(
-        rt,
-        alloc,
-        node,
-        seats,
-        faulted,
-        end,
-        &at,
-        &mut links.app,
-        clock,
-    )
+    match end {
+        Some(end) => end,
+        None => {
+            let later = desk.clock.now_ms();
+            let fired = fire_timers(desk, later);
+            let Firings {
+                turns,
+                faulted: more,
+                end,
+            } = fired;
+            let faulted = either(faulted, more);
+            tick_end(turns, faulted, end)
+        }
+    }
 }

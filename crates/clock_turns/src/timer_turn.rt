@@ -1,19 +1,20 @@
 // The turn of a timer.
-ghost use Rattle.std.specs.Prelude.{◌≡◌, ◌<◌, ◌≤◌, true, List, Option, Some, Ok, length};
+ghost use Rattle.std.specs.Prelude.{◌≡◌, ◌<◌, ◌≤◌, List, length};
 ghost use Rattle.std.specs.Option.{option_copied};
 ghost use Rattle.exchanges.specs.Exchanges.{Exchange, Dialling};
 ghost use Rattle.sidecar_node.specs.Nodes.{part_gates, part_at, IsSeatsOf, Acts};
-ghost use Rattle.clock_turns.specs.Timers.{Called, Calls, IsCalled, called_entries, called_asked, Turn, Follows, IsTurn, turn_entries, started_event};
-ghost use Rattle.clock_turns.specs.Ends.{got_fault, called_end, called_begun, called_fault, turn_end};
+ghost use Rattle.clock_turns.specs.Timers.{Calls, called_asked, Turn, IsTurn, turn_entries, started_event};
+ghost use Rattle.clock_turns.specs.Ends.{called_begun, called_fault, turn_end};
 
 use crate::callback::call_timer;
 use crate::ends::TickEnd;
 use crate::outcome::{Outcome, got_fault, is_there, over_end, refused_end, spent_or};
 use actor_names::{Address, ChainId};
 use actor_ports::{Clock, Dial};
+use exchanges::Links;
 use http_edge::{EdgeError, HttpResponse};
 use part_core::PartReply;
-use sidecar_node::{Seats, SidecarNode, begin_turn, end_turn};
+use sidecar_node::{Desk, begin_turn, end_turn};
 use std::alloc::Global;
 use std::sync::Wait;
 use timer_book::{DueTimer, TimerEvent};
@@ -36,118 +37,65 @@ fn call_if<L: Dial>(
     None
 }
 
-// The turn that has begun: a second Started, one exchange if that found the registration, and the End.
-fn run_call<R: Wait, L: Dial, K: Clock>(
-    rt: &R,
-    alloc: Global,
-    node: &SidecarNode,
-    mut seats: Seats,
+/// Begins a turn of the timer's actor. A turn that begins has a second Started, one exchange with the application if that
+/// found the registration, and its End, whatever came back.
+pub(crate) fn take_turn<R: Wait, A: Dial, P: Dial, S: Dial, K: Clock>(
+    desk: &mut Desk<'_, R, Links<A, P, S>, K>,
     book: usize,
     due: &DueTimer,
     again: TimerEvent,
-    call: u64,
-    chain: Option<ChainId>,
-    at: &Address,
-    app: &mut L,
-    clock: &mut K,
-) -> (Seats, Outcome)
-    requires seats { IsSeatsOf node.now seats }
-    requires inside { book < length (part_gates node.now) }
+) -> Outcome
+    requires seats { IsSeatsOf desk.old.node.now desk.old.seats }
+    requires inside { book < length (part_gates desk.old.node.now) }
     requires again { again ≡ started_event due.now }
-    ensures seats { IsSeatsOf node.now result.0 }
-    ensures called { (c : Called) × IsCalled at.now book (part_at node.now due.now.key) due.now call chain c (K.shown clock.old) (K.shown clock.new) result.0
-        × Acts (called_entries book (part_at node.now due.now.key) due.now (Some c)) seats result.0
-        × Dialling c.asked (L.dialled app.old) (L.dialled app.new) (L.dial_faults app.old) (L.dial_faults app.new)
-        × (result.1.begun ≡ true) × (result.1.faulted ≡ got_fault c.got) × (result.1.end ≡ called_end c) }
-    ensures clock { K.shown clock.old ≤ K.shown clock.new }
+    ensures node { desk.new.node.now ≡ desk.old.node.now }
+    ensures seats { IsSeatsOf desk.old.node.now desk.new.seats }
+    ensures turn { (t : Turn) × IsTurn desk.old.links.app_at book (part_at desk.old.node.now due.now.key) due.now t (K.shown desk.old.clock) (K.shown desk.new.clock) desk.new.seats
+        × Acts (turn_entries book (part_at desk.old.node.now due.now.key) due.now t) desk.old.seats desk.new.seats
+        × Dialling (called_asked t.called) (A.dialled desk.old.links.app) (A.dialled desk.new.links.app) (A.dial_faults desk.old.links.app) (A.dial_faults desk.new.links.app)
+        × (result.begun ≡ called_begun t.called) × (result.faulted ≡ called_fault t.called) × (result.end ≡ turn_end t.said t.called) }
+    ensures clock { K.shown desk.old.clock ≤ K.shown desk.new.clock }
+    ensures places { (desk.new.links.app_at ≡ desk.old.links.app_at) × (desk.new.links.store_at ≡ desk.old.links.store_at) }
+    ensures others { (desk.new.links.peers ≡ desk.old.links.peers) × (desk.new.links.store ≡ desk.old.links.store) }
 {
-    let said = node.step_book(rt, &mut seats, book, again);
-    let there = is_there(&said);
-    let got = call_if(alloc, app, at, due, there, chain.as_ref());
-    let (seats, over) = end_turn(rt, node, seats, &due.key, call, clock);
-    let end = over_end(&over, &got);
-    let outcome = Outcome {
-        begun: true,
-        faulted: got_fault(&got),
-        end: spent_or(&said, end),
-    };
-    (seats, outcome)
-}
-
-// What follows the last reply of the beginning.
-fn follow<R: Wait, L: Dial, K: Clock>(
-    rt: &R,
-    alloc: Global,
-    node: &SidecarNode,
-    seats: Seats,
-    book: usize,
-    due: &DueTimer,
-    again: TimerEvent,
-    reply: PartReply,
-    at: &Address,
-    app: &mut L,
-    clock: &mut K,
-) -> (Seats, Outcome)
-    requires seats { IsSeatsOf node.now seats }
-    requires inside { book < length (part_gates node.now) }
-    requires again { again ≡ started_event due.now }
-    ensures seats { IsSeatsOf node.now result.0 }
-    ensures follows { (called : Option Called) × Follows at.now book (part_at node.now due.now.key) due.now (Ok reply) called (K.shown clock.old) (K.shown clock.new) result.0
-        × Acts (called_entries book (part_at node.now due.now.key) due.now called) seats result.0
-        × Dialling (called_asked called) (L.dialled app.old) (L.dialled app.new) (L.dial_faults app.old) (L.dial_faults app.new)
-        × (result.1.begun ≡ called_begun called) × (result.1.faulted ≡ called_fault called) × (result.1.end ≡ turn_end (Ok reply) called) }
-    ensures clock { K.shown clock.old ≤ K.shown clock.new }
-{
-    match reply {
-        PartReply::Begun { call, chain } => run_call(
-            rt, alloc, node, seats, book, due, again, call, chain, at, app, clock,
-        ),
-        other => {
-            let outcome = Outcome {
+    let node = desk.node;
+    let said = begin_turn(
+        desk.rt,
+        desk.alloc,
+        node,
+        &mut desk.seats,
+        &due.key,
+        None,
+        None,
+        &mut desk.clock,
+    );
+    match said {
+        Err(spent) => Outcome {
+            begun: false,
+            faulted: false,
+            end: Some(TickEnd::Spent { count: spent.count }),
+        },
+        Ok(reply) => match reply {
+            PartReply::Begun { call, chain } => {
+                let said = node.step_book(desk.rt, &mut desk.seats, book, again);
+                let there = is_there(&said);
+                let at = desk.links.app_at;
+                let app = &mut desk.links.app;
+                let got = call_if(desk.alloc, app, &at, due, there, chain.as_ref());
+                let seats = &mut desk.seats;
+                let over = end_turn(desk.rt, node, seats, &due.key, call, &mut desk.clock);
+                let end = over_end(&over, &got);
+                Outcome {
+                    begun: true,
+                    faulted: got_fault(&got),
+                    end: spent_or(&said, end),
+                }
+            }
+            other => Outcome {
                 begun: false,
                 faulted: false,
                 end: refused_end(&other),
-            };
-            (seats, outcome)
-        }
-    }
-}
-
-/// Begins a turn of the timer's actor, and runs it if it begins.
-pub(crate) fn take_turn<R: Wait, L: Dial, K: Clock>(
-    rt: &R,
-    alloc: Global,
-    node: &SidecarNode,
-    seats: Seats,
-    book: usize,
-    due: &DueTimer,
-    again: TimerEvent,
-    at: &Address,
-    app: &mut L,
-    clock: &mut K,
-) -> (Seats, Outcome)
-    requires seats { IsSeatsOf node.now seats }
-    requires inside { book < length (part_gates node.now) }
-    requires again { again ≡ started_event due.now }
-    ensures seats { IsSeatsOf node.now result.0 }
-    ensures turn { (t : Turn) × IsTurn at.now book (part_at node.now due.now.key) due.now t (K.shown clock.old) (K.shown clock.new) result.0
-        × Acts (turn_entries book (part_at node.now due.now.key) due.now t) seats result.0
-        × Dialling (called_asked t.called) (L.dialled app.old) (L.dialled app.new) (L.dial_faults app.old) (L.dial_faults app.new)
-        × (result.1.begun ≡ called_begun t.called) × (result.1.faulted ≡ called_fault t.called) × (result.1.end ≡ turn_end t.said t.called) }
-    ensures clock { K.shown clock.old ≤ K.shown clock.new }
-{
-    let (seats, said) = begin_turn(rt, alloc, node, seats, &due.key, None, None, clock);
-    match said {
-        Err(spent) => {
-            let outcome = Outcome {
-                begun: false,
-                faulted: false,
-                end: Some(TickEnd::Spent { count: spent.count }),
-            };
-            (seats, outcome)
-        }
-        Ok(reply) => follow(
-            rt, alloc, node, seats, book, due, again, reply, at, app, clock,
-        ),
+            },
+        },
     }
 }

@@ -7,10 +7,9 @@ use crate::counting::{either, more_if};
 use crate::due::{Firing, take_due};
 use crate::ends::TickEnd;
 use crate::tick_stand::Stand;
-use actor_names::Address;
 use actor_ports::{Clock, Dial};
-use sidecar_node::{Seats, SidecarNode};
-use std::alloc::Global;
+use exchanges::Links;
+use sidecar_node::Desk;
 use std::sync::Wait;
 
 /// What the timers came to.
@@ -25,37 +24,32 @@ pub(crate) struct Firings {
 }
 
 /// Fires every timer that is due at this moment, book by book in order. The moment is in milliseconds since 1970.
-pub(crate) fn fire_timers<R: Wait, L: Dial, K: Clock>(
-    rt: &R,
-    alloc: Global,
-    node: &SidecarNode,
-    seats: Seats,
+pub(crate) fn fire_timers<R: Wait, A: Dial, P: Dial, S: Dial, K: Clock>(
+    desk: &mut Desk<'_, R, Links<A, P, S>, K>,
     now: u64,
-    at: &Address,
-    app: &mut L,
-    clock: &mut K,
-) -> (Seats, Firings)
-    requires seats { IsSeatsOf node.now seats }
+) -> Firings
+    requires seats { IsSeatsOf desk.old.node.now desk.old.seats }
     requires now { now < 253370764800000 }
-    ensures seats { IsSeatsOf node.now result.0 }
-    ensures fires { FiresTimers node.now at.now now seats result.0 (L.dialled app.old) (L.dialled app.new) (L.dial_faults app.old) (L.dial_faults app.new) (K.shown clock.old) (K.shown clock.new) result.1.turns result.1.faulted result.1.end }
-    ensures clock { K.shown clock.old ≤ K.shown clock.new }
+    ensures node { desk.new.node.now ≡ desk.old.node.now }
+    ensures seats { IsSeatsOf desk.old.node.now desk.new.seats }
+    ensures fires { FiresTimers desk.old.node.now desk.old.links.app_at now desk.old.seats desk.new.seats (A.dialled desk.old.links.app) (A.dialled desk.new.links.app) (A.dial_faults desk.old.links.app) (A.dial_faults desk.new.links.app) (K.shown desk.old.clock) (K.shown desk.new.clock) result.turns result.faulted result.end }
+    ensures clock { K.shown desk.old.clock ≤ K.shown desk.new.clock }
+    ensures places { (desk.new.links.app_at ≡ desk.old.links.app_at) × (desk.new.links.store_at ≡ desk.old.links.store_at) }
+    ensures others { (desk.new.links.peers ≡ desk.old.links.peers) × (desk.new.links.store ≡ desk.old.links.store) }
 {
-    let mut seats = seats;
+    let node = desk.node;
     let mut book = 0usize;
     let mut turns = 0u32;
     let mut faulted = false;
-    for _ in rt.forever() {
+    for _ in desk.rt.forever() {
         if book >= node.parts() {
-            let firings = Firings {
+            return Firings {
                 turns,
                 faulted,
                 end: None,
             };
-            return (seats, firings);
         }
-        let (after, firing) = take_due(rt, alloc, node, seats, book, now, at, app, clock);
-        seats = after;
+        let firing = take_due(desk, book, now);
         let Firing {
             begun,
             faulted: fault,
@@ -66,12 +60,11 @@ pub(crate) fn fire_timers<R: Wait, L: Dial, K: Clock>(
         match stand {
             Stand::On { book: next } => book = next,
             Stand::Over { end } => {
-                let firings = Firings {
+                return Firings {
                     turns,
                     faulted,
                     end: Some(end),
                 };
-                return (seats, firings);
             }
         }
     }

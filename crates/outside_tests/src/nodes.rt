@@ -15,10 +15,19 @@ fn split_seats_step_at_one_node(rt: HostRuntime) -> Result<(), Fail> {
     let (seats, others) = node.split(alloc, seats);
     let (others, stopped) = stop_turn(&rt, &node, others?);
     assert!(rt; stopped.is_ok());
-    let seats = node.join(seats, others);
+    let mut seats = node.join(seats, others);
     let key = read_key(alloc, b"counter/7")?;
     let mut clock = MemClock::new(alloc, 20, &[])?;
-    let (_seats, last) = begin_turn(&rt, alloc, &node, seats, &key, None, Some(1), &mut clock);
+    let last = begin_turn(
+        &rt,
+        alloc,
+        &node,
+        &mut seats,
+        &key,
+        None,
+        Some(1),
+        &mut clock,
+    );
     assert!(rt; matches!(last, Ok(PartReply::Stopped)));
     Ok(())
 }

@@ -1,3 +1,4 @@
+mod Diallers
 mod Turns
 mod Reports
 mod Runs

@@ -1,25 +1,23 @@
 // A turn of an actor with one callback of its application: its beginning, the exchange, its End.
-ghost use Rattle.std.specs.Prelude.{◌≡◌, List, None, Ok, IfOk};
+ghost use Rattle.std.specs.Prelude.{◌≡◌, List};
 ghost use Rattle.std.specs.Option.{option_copied};
-ghost use Rattle.http_edge.specs.Texts.{request_text};
 ghost use Rattle.sidecar_node.specs.Entries.{PartEntry};
-ghost use Rattle.sidecar_node.specs.Nodes.{part_at, IsSeatsOf, ActsAt, SpentAt};
+ghost use Rattle.sidecar_node.specs.Nodes.{part_at, IsSeatsOf, ActsAt};
 ghost use Rattle.exchanges.specs.Exchanges.{Exchange, Dialling};
 ghost use Rattle.exchanges.specs.Replies.{IsHttpExchange, place_at};
-ghost use Rattle.reminder_turns.specs.Callbacks.{remind_text, entry_text, IsCalled, Follows, IsTurn, TurnedFull};
+ghost use Rattle.reminder_turns.specs.Callbacks.{remind_text, entry_text, IsTurn, TurnedFull};
 
 use crate::results::Turned;
 use actor_names::{Address, ChainId};
 use actor_ports::{Clock, Dial};
 use app_texts::{Callback, reminder_request};
-use exchanges::exchange_at;
+use exchanges::{Links, exchange_at};
 use frame_wire::DueEntry;
 use http_edge::{EdgeError, HttpResponse};
 use part_core::PartReply;
-use sidecar_node::{Seats, SidecarNode, begin_turn, end_turn};
+use sidecar_node::{Desk, begin_turn, end_turn};
 use std::alloc::Global;
 use std::sync::Wait;
-use step_gate::Spent;
 
 // One exchange of this callback with the application at this address.
 fn ask_app<L: Dial>(
@@ -71,87 +69,46 @@ fn call_back<L: Dial>(
     ask_app(alloc, app, at, &callback)
 }
 
-// The turn that has begun: one exchange with the application, and the End.
-fn run_turn<R: Wait, L: Dial, K: Clock>(
-    rt: &R,
-    alloc: Global,
-    node: &SidecarNode,
-    seats: Seats,
+/// Asks the reminder's actor for a turn. A turn that begins has one exchange with the callback of the application, under the
+/// chain that it was told, and one End, whatever came back.
+pub(crate) fn take_turn<R: Wait, A: Dial, P: Dial, S: Dial, K: Clock>(
+    desk: &mut Desk<'_, R, Links<A, P, S>, K>,
     entry: &DueEntry,
-    call: u64,
-    chain: Option<ChainId>,
-    app: &mut L,
-    at: &Address,
-    clock: &mut K,
-) -> (
-    Seats,
-    Result<HttpResponse, EdgeError>,
-    Result<PartReply, Spent>,
-)
-    requires { IsSeatsOf node.now seats }
-    ensures seats { IsSeatsOf node.now result.0 }
-    ensures turn { (es : List PartEntry) × (xs : List Exchange) × ActsAt (part_at node.now entry.now.key.actor) es seats result.0
-        × Dialling xs (L.dialled app.old) (L.dialled app.new) (L.dial_faults app.old) (L.dial_faults app.new)
-        × IsCalled at.now entry.now call chain (K.shown clock.old) (K.shown clock.new) es xs result.1 result.2 }
-    ensures full { SpentAt (part_at node.now entry.now.key.actor) result.2 result.0 }
+) -> Turned
+    requires { IsSeatsOf desk.old.node.now desk.old.seats }
+    ensures node { desk.new.node.now ≡ desk.old.node.now }
+    ensures seats { IsSeatsOf desk.old.node.now desk.new.seats }
+    ensures turn { (es : List PartEntry) × (xs : List Exchange) × ActsAt (part_at desk.old.node.now entry.now.key.actor) es desk.old.seats desk.new.seats
+        × Dialling xs (A.dialled desk.old.links.app) (A.dialled desk.new.links.app) (A.dial_faults desk.old.links.app) (A.dial_faults desk.new.links.app)
+        × IsTurn desk.old.links.app_at entry.now (K.shown desk.old.clock) (K.shown desk.new.clock) es xs result }
+    ensures full { TurnedFull (part_at desk.old.node.now entry.now.key.actor) result desk.new.seats }
+    ensures places { (desk.new.links.app_at ≡ desk.old.links.app_at) × (desk.new.links.store_at ≡ desk.old.links.store_at) }
+    ensures others { (desk.new.links.peers ≡ desk.old.links.peers) × (desk.new.links.store ≡ desk.old.links.store) }
 {
-    let got = call_back(alloc, app, at, entry, chain.as_ref());
-    let (seats, said) = end_turn(rt, node, seats, &entry.key.actor, call, clock);
-    (seats, got, said)
-}
-
-// What follows the last reply of the beginning.
-fn follow<R: Wait, L: Dial, K: Clock>(
-    rt: &R,
-    alloc: Global,
-    node: &SidecarNode,
-    seats: Seats,
-    entry: &DueEntry,
-    reply: PartReply,
-    app: &mut L,
-    at: &Address,
-    clock: &mut K,
-) -> (Seats, Turned)
-    requires { IsSeatsOf node.now seats }
-    ensures seats { IsSeatsOf node.now result.0 }
-    ensures follows { (es : List PartEntry) × (xs : List Exchange) × ActsAt (part_at node.now entry.now.key.actor) es seats result.0
-        × Dialling xs (L.dialled app.old) (L.dialled app.new) (L.dial_faults app.old) (L.dial_faults app.new)
-        × Follows at.now entry.now (Ok reply) (K.shown clock.old) (K.shown clock.new) es xs result.1 }
-    ensures full { TurnedFull (part_at node.now entry.now.key.actor) result.1 result.0 }
-{
-    match reply {
-        PartReply::Begun { call, chain } => {
-            let (seats, got, ended) = run_turn(
-                rt, alloc, node, seats, entry, call, chain, app, at, clock,
-            );
-            (seats, Turned::Called { got, ended })
-        }
-        other => (seats, Turned::Refused { said: Ok(other) }),
-    }
-}
-
-/// Asks the reminder's actor for a turn, and runs it if it begins: one exchange with the callback of the application at
-/// this address, and one End, whatever came back.
-pub(crate) fn take_turn<R: Wait, L: Dial, K: Clock>(
-    rt: &R,
-    alloc: Global,
-    node: &SidecarNode,
-    seats: Seats,
-    entry: &DueEntry,
-    app: &mut L,
-    at: &Address,
-    clock: &mut K,
-) -> (Seats, Turned)
-    requires { IsSeatsOf node.now seats }
-    ensures seats { IsSeatsOf node.now result.0 }
-    ensures turn { (es : List PartEntry) × (xs : List Exchange) × ActsAt (part_at node.now entry.now.key.actor) es seats result.0
-        × Dialling xs (L.dialled app.old) (L.dialled app.new) (L.dial_faults app.old) (L.dial_faults app.new)
-        × IsTurn at.now entry.now (K.shown clock.old) (K.shown clock.new) es xs result.1 }
-    ensures full { TurnedFull (part_at node.now entry.now.key.actor) result.1 result.0 }
-{
-    let (seats, said) = begin_turn(rt, alloc, node, seats, &entry.key.actor, None, None, clock);
+    let node = desk.node;
+    let key = &entry.key.actor;
+    let said = begin_turn(
+        desk.rt,
+        desk.alloc,
+        node,
+        &mut desk.seats,
+        key,
+        None,
+        None,
+        &mut desk.clock,
+    );
     match said {
-        Err(spent) => (seats, Turned::Refused { said: Err(spent) }),
-        Ok(reply) => follow(rt, alloc, node, seats, entry, reply, app, at, clock),
+        Err(spent) => Turned::Refused { said: Err(spent) },
+        Ok(reply) => match reply {
+            PartReply::Begun { call, chain } => {
+                let at = desk.links.app_at;
+                let app = &mut desk.links.app;
+                let got = call_back(desk.alloc, app, &at, entry, chain.as_ref());
+                let seats = &mut desk.seats;
+                let ended = end_turn(desk.rt, node, seats, key, call, &mut desk.clock);
+                Turned::Called { got, ended }
+            }
+            other => Turned::Refused { said: Ok(other) },
+        },
     }
 }

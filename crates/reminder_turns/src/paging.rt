@@ -1,21 +1,16 @@
 // One page of due reminders.
-ghost use Rattle.std.specs.Prelude.{◌≡◌, List, Option, Ok};
+ghost use Rattle.std.specs.Prelude.{◌≡◌};
 ghost use Rattle.sidecar_node.specs.Nodes.{IsSeatsOf};
-ghost use Rattle.reminder_turns.specs.Outcomes.{last_key, stand_after};
-ghost use Rattle.reminder_turns.specs.declared.ends.TickEnd.{TickEnd};
-ghost use Rattle.reminder_turns.specs.Runs.{RunsPage};
 ghost use Rattle.reminder_turns.specs.Pages.{TakesPage};
 
 use crate::listing::{last_key, page_of};
 use crate::running::{Ran, run_page};
 use crate::standing::{Stand, stand_after};
-use actor_names::Address;
 use actor_ports::{Clock, Dial};
-use exchanges::ask_store;
-use frame_wire::{DueEntries, MOST_DUE, StoreCommand};
+use exchanges::{Links, ask_store};
+use frame_wire::{MOST_DUE, StoreCommand};
 use reminder_rows::DueKey;
-use sidecar_node::{Seats, SidecarNode};
-use std::alloc::Global;
+use sidecar_node::Desk;
 use std::sync::Wait;
 
 /// What a page came to.
@@ -29,90 +24,46 @@ pub(crate) struct Paged {
     pub(crate) next: Stand,
 }
 
-// Runs the reminders that a page lists.
-fn run_listed<R: Wait, A: Dial, S: Dial, K: Clock>(
-    rt: &R,
-    alloc: Global,
-    node: &SidecarNode,
-    seats: Seats,
-    entries: DueEntries,
-    app: &mut A,
-    app_at: &Address,
-    store: &mut S,
-    store_at: &Address,
-    clock: &mut K,
-) -> (Seats, Paged)
-    requires { IsSeatsOf node.now seats }
-    ensures seats { IsSeatsOf node.now result.0 }
-    ensures runs { (last_end : Option TickEnd) × RunsPage node.now app_at.now store_at.now entries (K.shown clock.old) (K.shown clock.new) seats result.0
-        (A.dialled app.old) (A.dialled app.new) (A.dial_faults app.old) (A.dial_faults app.new)
-        (S.dialled store.old) (S.dialled store.new) (S.dial_faults store.old) (S.dial_faults store.new)
-        result.1.turns result.1.faulted last_end × (result.1.next ≡ stand_after (last_key entries) last_end) }
-{
-    let (seats, ran) = run_page(
-        rt,
-        alloc,
-        node,
-        seats,
-        entries.as_slice(),
-        app,
-        app_at,
-        store,
-        store_at,
-        clock,
-    );
-    let Ran {
-        turns,
-        faulted,
-        end,
-    } = ran;
-    let next = stand_after(last_key(entries), end);
-    (
-        seats,
-        Paged {
-            turns,
-            faulted,
-            next,
-        },
-    )
-}
-
 /// Asks the store for the page behind this place, and runs its reminders.
-pub(crate) fn take_page<R: Wait, A: Dial, S: Dial, K: Clock>(
-    rt: &R,
-    alloc: Global,
-    node: &SidecarNode,
-    seats: Seats,
+pub(crate) fn take_page<R: Wait, A: Dial, P: Dial, S: Dial, K: Clock>(
+    desk: &mut Desk<'_, R, Links<A, P, S>, K>,
     place: Option<DueKey>,
-    app: &mut A,
-    app_at: &Address,
-    store: &mut S,
-    store_at: &Address,
-    clock: &mut K,
-) -> (Seats, Paged)
-    requires { IsSeatsOf node.now seats }
-    ensures seats { IsSeatsOf node.now result.0 }
-    ensures takes { TakesPage node.now app_at.now store_at.now place (K.shown clock.old) (K.shown clock.new) seats result.0
-        (A.dialled app.old) (A.dialled app.new) (A.dial_faults app.old) (A.dial_faults app.new)
-        (S.dialled store.old) (S.dialled store.new) (S.dial_faults store.old) (S.dial_faults store.new)
-        result.1.turns result.1.faulted result.1.next }
+) -> Paged
+    requires { IsSeatsOf desk.old.node.now desk.old.seats }
+    ensures node { desk.new.node.now ≡ desk.old.node.now }
+    ensures seats { IsSeatsOf desk.old.node.now desk.new.seats }
+    ensures takes { TakesPage desk.old.node.now desk.old.links.app_at desk.old.links.store_at place (K.shown desk.old.clock) (K.shown desk.new.clock) desk.old.seats desk.new.seats
+        (A.dialled desk.old.links.app) (A.dialled desk.new.links.app) (A.dial_faults desk.old.links.app) (A.dial_faults desk.new.links.app)
+        (S.dialled desk.old.links.store) (S.dialled desk.new.links.store) (S.dial_faults desk.old.links.store) (S.dial_faults desk.new.links.store)
+        result.turns result.faulted result.next }
+    ensures places { (desk.new.links.app_at ≡ desk.old.links.app_at) × (desk.new.links.store_at ≡ desk.old.links.store_at) }
+    ensures peers { desk.new.links.peers ≡ desk.old.links.peers }
 {
     let asked = StoreCommand::Due {
         after: place,
         limit: MOST_DUE,
     };
-    let got = ask_store(alloc, store, store_at, asked);
+    let at = desk.links.store_at;
+    let got = ask_store(desk.alloc, &mut desk.links.store, &at, asked);
     match page_of(got) {
-        Err(end) => (
-            seats,
+        Err(end) => Paged {
+            turns: 0,
+            faulted: false,
+            next: Stand::Over { end },
+        },
+        Ok(entries) => {
+            let ran = run_page(desk, entries.as_slice());
+            let Ran {
+                turns,
+                faulted,
+                end,
+            } = ran;
+            let next = stand_after(last_key(entries), end);
             Paged {
-                turns: 0,
-                faulted: false,
-                next: Stand::Over { end },
-            },
-        ),
-        Ok(entries) => run_listed(
-            rt, alloc, node, seats, entries, app, app_at, store, store_at, clock,
-        ),
+                turns,
+                faulted,
+                next,
+            }
+        }
     }
 }

@@ -1,22 +1,22 @@
 // The report of a reminder that has fired.
-ghost use Rattle.std.specs.Prelude.{◌≡◌, List, Ok};
+ghost use Rattle.std.specs.Prelude.{◌≡◌, List};
 ghost use Rattle.part_model.specs.declared.event.PartEvent.TheVariants.{Draw};
 ghost use Rattle.sidecar_node.specs.Entries.{PartEntry, one_entry};
 ghost use Rattle.sidecar_node.specs.Nodes.{part_at, IsSeatsOf, ActsAt, SpentAt};
 ghost use Rattle.exchanges.specs.Exchanges.{Exchange, Dialling};
 ghost use Rattle.exchanges.specs.Replies.{place_at};
 ghost use Rattle.exchanges.specs.Asked.{IsStoreExchange};
-ghost use Rattle.reminder_turns.specs.Reports.{stamp_of, fired_command, AfterDraw, IsReport, ReportedFull};
+ghost use Rattle.reminder_turns.specs.Reports.{stamp_of, fired_command, IsReport, ReportedFull};
 
 use crate::results::Reported;
 use actor_names::{ActorKey, Address};
-use actor_ports::Dial;
-use exchanges::{StoreEnd, ask_store};
+use actor_ports::{Clock, Dial};
+use exchanges::{Links, StoreEnd, ask_store};
 use frame_wire::{Stamp, StoreAnswer, StoreCommand};
 use part_core::PartReply;
 use part_model::PartEvent;
 use reminder_rows::DueKey;
-use sidecar_node::{Seats, SidecarNode};
+use sidecar_node::{Desk, Seats, SidecarNode};
 use std::alloc::Global;
 use std::sync::Wait;
 use step_gate::Spent;
@@ -79,26 +79,6 @@ fn tell_fired<L: Dial>(
     }
 }
 
-// What follows the reply to the Draw.
-fn follow_draw<L: Dial>(
-    alloc: Global,
-    node: &SidecarNode,
-    key: &DueKey,
-    reply: PartReply,
-    store: &mut L,
-    at: &Address,
-) -> Reported
-    ensures { (xs : List Exchange) × AfterDraw node.now at.now key.now (Ok reply) xs result
-        × Dialling xs (L.dialled store.old) (L.dialled store.new) (L.dial_faults store.old) (L.dial_faults store.new) }
-{
-    match reply {
-        PartReply::Drawn { n } => Reported::Told {
-            got: tell_fired(alloc, node, key, n, store, at),
-        },
-        other => Reported::Undrawn { said: Ok(other) },
-    }
-}
-
 // One Draw on the actor's part.
 fn draw_step<R: Wait>(
     rt: &R,
@@ -117,24 +97,32 @@ fn draw_step<R: Wait>(
 
 /// Reports that the reminder has fired: one Draw on the part of its actor and, if that drew a number, one exchange with
 /// the store, stamped with it.
-pub(crate) fn report<R: Wait, L: Dial>(
-    rt: &R,
-    alloc: Global,
-    node: &SidecarNode,
-    seats: &mut Seats,
+pub(crate) fn report<R: Wait, A: Dial, P: Dial, S: Dial, K: Clock>(
+    desk: &mut Desk<'_, R, Links<A, P, S>, K>,
     key: &DueKey,
-    store: &mut L,
-    at: &Address,
 ) -> Reported
-    requires { IsSeatsOf node.now seats.old }
-    ensures seats { IsSeatsOf node.now seats.new }
-    ensures reports { (es : List PartEntry) × (xs : List Exchange) × ActsAt (part_at node.now key.now.actor) es seats.old seats.new
-        × Dialling xs (L.dialled store.old) (L.dialled store.new) (L.dial_faults store.old) (L.dial_faults store.new)
-        × IsReport node.now at.now key.now es xs result }
-    ensures full { ReportedFull (part_at node.now key.now.actor) result seats.new }
+    requires { IsSeatsOf desk.old.node.now desk.old.seats }
+    ensures node { desk.new.node.now ≡ desk.old.node.now }
+    ensures seats { IsSeatsOf desk.old.node.now desk.new.seats }
+    ensures reports { (es : List PartEntry) × (xs : List Exchange) × ActsAt (part_at desk.old.node.now key.now.actor) es desk.old.seats desk.new.seats
+        × Dialling xs (S.dialled desk.old.links.store) (S.dialled desk.new.links.store) (S.dial_faults desk.old.links.store) (S.dial_faults desk.new.links.store)
+        × IsReport desk.old.node.now desk.old.links.store_at key.now es xs result }
+    ensures full { ReportedFull (part_at desk.old.node.now key.now.actor) result desk.new.seats }
+    ensures places { (desk.new.links.app_at ≡ desk.old.links.app_at) × (desk.new.links.store_at ≡ desk.old.links.store_at) }
+    ensures others { (desk.new.links.app ≡ desk.old.links.app) × (desk.new.links.peers ≡ desk.old.links.peers) }
+    ensures clock { desk.new.clock ≡ desk.old.clock }
 {
-    match draw_step(rt, node, seats, &key.actor) {
+    match draw_step(desk.rt, desk.node, &mut desk.seats, &key.actor) {
         Err(spent) => Reported::Undrawn { said: Err(spent) },
-        Ok(reply) => follow_draw(alloc, node, key, reply, store, at),
+        Ok(reply) => match reply {
+            PartReply::Drawn { n } => {
+                let at = desk.links.store_at;
+                let store = &mut desk.links.store;
+                Reported::Told {
+                    got: tell_fired(desk.alloc, desk.node, key, n, store, &at),
+                }
+            }
+            other => Reported::Undrawn { said: Ok(other) },
+        },
     }
 }

@@ -8,11 +8,10 @@ use crate::ends::TickEnd;
 use crate::listing::reported_end;
 use crate::outcomes::{begun_in, fault_in, is_owed, turned_end};
 use crate::reporting::report;
-use actor_names::Address;
 use actor_ports::{Clock, Dial};
+use exchanges::Links;
 use frame_wire::DueEntry;
-use sidecar_node::{Seats, SidecarNode};
-use std::alloc::Global;
+use sidecar_node::Desk;
 use std::sync::Wait;
 
 /// What reminders came to that were run.
@@ -33,81 +32,60 @@ pub(crate) fn either(one: bool, other: bool) -> bool
     if one { true } else { other }
 }
 
-/// Runs one reminder: a turn of its actor with its callback, and a report if one is owed.
-fn run_one<R: Wait, A: Dial, S: Dial, K: Clock>(
-    rt: &R,
-    alloc: Global,
-    node: &SidecarNode,
-    seats: Seats,
+// Runs one reminder: a turn of its actor with its callback, and a report if one is owed.
+fn run_one<R: Wait, A: Dial, P: Dial, S: Dial, K: Clock>(
+    desk: &mut Desk<'_, R, Links<A, P, S>, K>,
     entry: &DueEntry,
-    app: &mut A,
-    app_at: &Address,
-    store: &mut S,
-    store_at: &Address,
-    clock: &mut K,
-) -> (Seats, Ran)
-    requires { IsSeatsOf node.now seats }
-    ensures seats { IsSeatsOf node.now result.0 }
-    ensures runs { RunsOne node.now app_at.now store_at.now entry.now (K.shown clock.old) (K.shown clock.new) seats result.0
-        (A.dialled app.old) (A.dialled app.new) (A.dial_faults app.old) (A.dial_faults app.new)
-        (S.dialled store.old) (S.dialled store.new) (S.dial_faults store.old) (S.dial_faults store.new)
-        result.1.turns result.1.faulted result.1.end }
+) -> Ran
+    requires { IsSeatsOf desk.old.node.now desk.old.seats }
+    ensures node { desk.new.node.now ≡ desk.old.node.now }
+    ensures seats { IsSeatsOf desk.old.node.now desk.new.seats }
+    ensures runs { RunsOne desk.old.node.now desk.old.links.app_at desk.old.links.store_at entry.now (K.shown desk.old.clock) (K.shown desk.new.clock) desk.old.seats desk.new.seats
+        (A.dialled desk.old.links.app) (A.dialled desk.new.links.app) (A.dial_faults desk.old.links.app) (A.dial_faults desk.new.links.app)
+        (S.dialled desk.old.links.store) (S.dialled desk.new.links.store) (S.dial_faults desk.old.links.store) (S.dial_faults desk.new.links.store)
+        result.turns result.faulted result.end }
+    ensures places { (desk.new.links.app_at ≡ desk.old.links.app_at) × (desk.new.links.store_at ≡ desk.old.links.store_at) }
+    ensures peers { desk.new.links.peers ≡ desk.old.links.peers }
 {
-    let (seats, turned) = take_turn(rt, alloc, node, seats, entry, app, app_at, clock);
+    let turned = take_turn(desk, entry);
     let turns = begun_in(&turned);
     let faulted = fault_in(&turned);
     let early = turned_end(&turned);
     if is_owed(&turned) {
-        let mut seats = seats;
-        let reported = report(rt, alloc, node, &mut seats, &entry.key, store, store_at);
+        let reported = report(desk, &entry.key);
         let end = reported_end(early, reported);
-        return (
-            seats,
-            Ran {
-                turns,
-                faulted,
-                end,
-            },
-        );
-    }
-    (
-        seats,
-        Ran {
+        return Ran {
             turns,
             faulted,
-            end: early,
-        },
-    )
+            end,
+        };
+    }
+    Ran {
+        turns,
+        faulted,
+        end: early,
+    }
 }
 
 /// Runs the reminders of a page, in order, until one ends the call.
-pub(crate) fn run_page<R: Wait, A: Dial, S: Dial, K: Clock>(
-    rt: &R,
-    alloc: Global,
-    node: &SidecarNode,
-    seats: Seats,
+pub(crate) fn run_page<R: Wait, A: Dial, P: Dial, S: Dial, K: Clock>(
+    desk: &mut Desk<'_, R, Links<A, P, S>, K>,
     entries: &[DueEntry],
-    app: &mut A,
-    app_at: &Address,
-    store: &mut S,
-    store_at: &Address,
-    clock: &mut K,
-) -> (Seats, Ran)
-    requires { IsSeatsOf node.now seats }
-    ensures seats { IsSeatsOf node.now result.0 }
-    ensures runs { RunsPage node.now app_at.now store_at.now entries.now (K.shown clock.old) (K.shown clock.new) seats result.0
-        (A.dialled app.old) (A.dialled app.new) (A.dial_faults app.old) (A.dial_faults app.new)
-        (S.dialled store.old) (S.dialled store.new) (S.dial_faults store.old) (S.dial_faults store.new)
-        result.1.turns result.1.faulted result.1.end }
+) -> Ran
+    requires { IsSeatsOf desk.old.node.now desk.old.seats }
+    ensures node { desk.new.node.now ≡ desk.old.node.now }
+    ensures seats { IsSeatsOf desk.old.node.now desk.new.seats }
+    ensures runs { RunsPage desk.old.node.now desk.old.links.app_at desk.old.links.store_at entries.now (K.shown desk.old.clock) (K.shown desk.new.clock) desk.old.seats desk.new.seats
+        (A.dialled desk.old.links.app) (A.dialled desk.new.links.app) (A.dial_faults desk.old.links.app) (A.dial_faults desk.new.links.app)
+        (S.dialled desk.old.links.store) (S.dialled desk.new.links.store) (S.dial_faults desk.old.links.store) (S.dial_faults desk.new.links.store)
+        result.turns result.faulted result.end }
+    ensures places { (desk.new.links.app_at ≡ desk.old.links.app_at) × (desk.new.links.store_at ≡ desk.old.links.store_at) }
+    ensures peers { desk.new.links.peers ≡ desk.old.links.peers }
 {
-    let mut seats = seats;
     let mut turns = 0u32;
     let mut faulted = false;
     for entry in entries {
-        let (next, ran) = run_one(
-            rt, alloc, node, seats, entry, app, app_at, store, store_at, clock,
-        );
-        seats = next;
+        let ran = run_one(desk, entry);
         let Ran {
             turns: more,
             faulted: fault,
@@ -118,23 +96,17 @@ pub(crate) fn run_page<R: Wait, A: Dial, S: Dial, K: Clock>(
         match end {
             None => {}
             Some(end) => {
-                return (
-                    seats,
-                    Ran {
-                        turns,
-                        faulted,
-                        end: Some(end),
-                    },
-                );
+                return Ran {
+                    turns,
+                    faulted,
+                    end: Some(end),
+                };
             }
         }
     }
-    (
-        seats,
-        Ran {
-            turns,
-            faulted,
-            end: None,
-        },
-    )
+    Ran {
+        turns,
+        faulted,
+        end: None,
+    }
 }

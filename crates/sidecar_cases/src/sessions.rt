@@ -1,5 +1,4 @@
 // Sessions of callers and of other sidecars, and the turns by the clock after them.
-ghost use Rattle.std.specs.Prelude.{IfSome};
 ghost use Rattle.sidecar_node.specs.Nodes.{IsSeatsOf};
 
 use crate::links::{MemLinks, add_links, conn, conn_of, links_of};
@@ -9,7 +8,7 @@ use actors_api::Side;
 use case_texts::{add, add_escaped, cut};
 use clock_turns::tick_turn;
 use reminder_turns::reminder_turn;
-use sidecar_node::{Seats, SidecarNode};
+use sidecar_node::Desk;
 use sidecar_requests::sidecar_session;
 use std::alloc::Global;
 use std::sync::Wait;
@@ -26,67 +25,51 @@ pub(crate) enum Then {
 
 // Serves a session over this connection, and appends how it ends and what it writes.
 fn serve<R: Wait>(
-    rt: &R,
-    alloc: Global,
-    node: &SidecarNode,
-    seats: Seats,
+    desk: &mut Desk<'_, R, MemLinks, MemClock>,
     side: Side,
     conn: &mut MemConn,
-    links: &mut MemLinks,
-    clock: &mut MemClock,
     text: &mut String,
-) -> Option<Seats>
-    requires { IsSeatsOf node.now seats }
-    ensures { IfSome result (λ seats. IsSeatsOf node.now seats) }
+) -> Option<()>
+    requires { IsSeatsOf desk.old.node.now desk.old.seats }
+    ensures { IsSeatsOf desk.new.node.now desk.new.seats }
 {
-    let (seats, end) = sidecar_session(rt, alloc, node, seats, side, conn, links, clock);
-    add(format!(in alloc; "{end:?}|").ok()?.as_str(), text)?;
-    add_escaped(alloc, conn.written(), text)?;
-    Some(seats)
+    let end = sidecar_session(desk, side, conn);
+    add(format!(in desk.alloc; "{end:?}|").ok()?.as_str(), text)?;
+    add_escaped(desk.alloc, conn.written(), text)
 }
 
 // The same of the second caller, if there is one.
 fn serve_second<R: Wait>(
-    rt: &R,
-    alloc: Global,
-    node: &SidecarNode,
-    seats: Seats,
+    desk: &mut Desk<'_, R, MemLinks, MemClock>,
     side: Side,
     caller: &str,
-    links: &mut MemLinks,
-    clock: &mut MemClock,
     text: &mut String,
-) -> Option<Seats>
-    requires { IsSeatsOf node.now seats }
-    ensures { IfSome result (λ seats. IsSeatsOf node.now seats) }
+) -> Option<()>
+    requires { IsSeatsOf desk.old.node.now desk.old.seats }
+    ensures { IsSeatsOf desk.new.node.now desk.new.seats }
 {
     if caller.is_empty() {
-        return Some(seats);
+        return Some(());
     }
-    let mut conn = conn(alloc, caller)?;
+    let mut conn = conn(desk.alloc, caller)?;
     add("|", text)?;
-    serve(rt, alloc, node, seats, side, &mut conn, links, clock, text)
+    serve(desk, side, &mut conn, text)
 }
 
 // Serves the sessions of one or two callers, one after the other.
 fn serve_callers<R: Wait>(
-    rt: &R,
-    alloc: Global,
-    node: &SidecarNode,
-    seats: Seats,
+    desk: &mut Desk<'_, R, MemLinks, MemClock>,
     side: Side,
     callers: &str,
-    links: &mut MemLinks,
-    clock: &mut MemClock,
     text: &mut String,
-) -> Option<Seats>
-    requires { IsSeatsOf node.now seats }
-    ensures { IfSome result (λ seats. IsSeatsOf node.now seats) }
+) -> Option<()>
+    requires { IsSeatsOf desk.old.node.now desk.old.seats }
+    ensures { IsSeatsOf desk.new.node.now desk.new.seats }
 {
     let (first, second) = cut(callers, ';');
-    let mut conn = conn(alloc, first)?;
-    let seats = serve(rt, alloc, node, seats, side, &mut conn, links, clock, text)?;
-    serve_second(rt, alloc, node, seats, side, second, links, clock, text)
+    let mut conn = conn(desk.alloc, first)?;
+    serve(desk, side, &mut conn, text)?;
+    serve_second(desk, side, second, text)
 }
 
 /// The sessions of callers or of other sidecars, with links that answer so, and what follows them.
@@ -102,72 +85,63 @@ pub(crate) fn sessions<R: Wait>(
     let (app, rest) = cut(rest, '|');
     let (store, peer) = cut(rest, '|');
     let has_peer = !peer.is_empty();
-    let mut links = links_of(alloc, app, store, peer)?;
-    let mut clock = clock(alloc)?;
+    let links = links_of(alloc, app, store, peer)?;
+    let clock = clock(alloc)?;
     let (node, seats) = open_node(rt, alloc, has_peer)?;
-    let seats = serve_callers(
-        rt, alloc, &node, seats, side, callers, &mut links, &mut clock, text,
-    )?;
+    let mut desk = Desk {
+        rt,
+        alloc,
+        node: &node,
+        seats,
+        links,
+        clock,
+    };
+    serve_callers(&mut desk, side, callers, text)?;
     match then {
         Then::Nothing => {}
-        Then::Turns => add_turns(rt, alloc, &node, seats, &mut links, &mut clock, text)?,
-        Then::LateTick => add_late_tick(rt, alloc, &node, seats, &mut links, text)?,
+        Then::Turns => add_turns(&mut desk, text)?,
+        Then::LateTick => {
+            desk.clock = later_clock(alloc)?;
+            add_tick(&mut desk, text)?;
+        }
     }
-    add_links(alloc, &links, has_peer, text)
+    add_links(alloc, &desk.links, has_peer, text)
+}
+
+// How a tick ends.
+fn add_tick<R: Wait>(desk: &mut Desk<'_, R, MemLinks, MemClock>, text: &mut String) -> Option<()>
+    requires { IsSeatsOf desk.old.node.now desk.old.seats }
+    ensures { IsSeatsOf desk.new.node.now desk.new.seats }
+{
+    let ticked = tick_turn(desk);
+    add(format!(in desk.alloc; "|{ticked:?}").ok()?.as_str(), text)
 }
 
 // How a tick ends, and then a turn with the reminders.
-fn add_turns<R: Wait>(
-    rt: &R,
-    alloc: Global,
-    node: &SidecarNode,
-    seats: Seats,
-    links: &mut MemLinks,
-    clock: &mut MemClock,
-    text: &mut String,
-) -> Option<()>
-    requires { IsSeatsOf node.now seats }
+fn add_turns<R: Wait>(desk: &mut Desk<'_, R, MemLinks, MemClock>, text: &mut String) -> Option<()>
+    requires { IsSeatsOf desk.old.node.now desk.old.seats }
 {
-    let (seats, ticked) = tick_turn(rt, alloc, node, seats, links, clock);
-    add(format!(in alloc; "|{ticked:?}").ok()?.as_str(), text)?;
-    let (_seats, ended) = reminder_turn(rt, alloc, node, seats, links, clock);
-    add(format!(in alloc; "|{ended:?}").ok()?.as_str(), text)
-}
-
-// How a tick ends two hours later.
-fn add_late_tick<R: Wait>(
-    rt: &R,
-    alloc: Global,
-    node: &SidecarNode,
-    seats: Seats,
-    links: &mut MemLinks,
-    text: &mut String,
-) -> Option<()>
-    requires { IsSeatsOf node.now seats }
-{
-    let mut clock = later_clock(alloc)?;
-    let (_seats, ticked) = tick_turn(rt, alloc, node, seats, links, &mut clock);
-    add(format!(in alloc; "|{ticked:?}").ok()?.as_str(), text)
+    add_tick(desk, text)?;
+    let ended = reminder_turn(desk);
+    add(format!(in desk.alloc; "|{ended:?}").ok()?.as_str(), text)
 }
 
 // Whether a session over these bytes ends as one that were cut, without a response.
 fn is_cut<R: Wait>(rt: &R, alloc: Global, bytes: &[u8]) -> Option<bool> {
-    let mut links = links_of(alloc, "", "", "")?;
-    let mut clock = clock(alloc)?;
+    let links = links_of(alloc, "", "", "")?;
+    let clock = clock(alloc)?;
     let mut text = String::new(alloc);
     let mut conn = conn_of(alloc, bytes)?;
     let (node, seats) = open_node(rt, alloc, false)?;
-    let _seats = serve(
+    let mut desk = Desk {
         rt,
         alloc,
-        &node,
+        node: &node,
         seats,
-        Side::Caller,
-        &mut conn,
-        &mut links,
-        &mut clock,
-        &mut text,
-    )?;
+        links,
+        clock,
+    };
+    serve(&mut desk, Side::Caller, &mut conn, &mut text)?;
     Some(text.as_str() == "Malformed { requests: 0 }|")
 }
 

@@ -41,9 +41,9 @@ fn add_ended(alloc: Global, reply: PartReply, text: &mut String) -> Option<()> {
 pub(crate) fn turn<R: Wait>(rt: &R, alloc: Global, key: &[u8], text: &mut String) -> Option<()> {
     let key = read_key(alloc, key).ok()?;
     let mut clock = clock(alloc)?;
-    let (node, seats) = open_node(rt, alloc, false)?;
-    let (seats, begun) = begin_turn(rt, alloc, &node, seats, &key, None, None, &mut clock);
+    let (node, mut seats) = open_node(rt, alloc, false)?;
+    let begun = begin_turn(rt, alloc, &node, &mut seats, &key, None, None, &mut clock);
     let call = add_begun(alloc, begun.ok()?, text)?;
-    let (_seats, ended) = end_turn(rt, &node, seats, &key, call, &mut clock);
+    let ended = end_turn(rt, &node, &mut seats, &key, call, &mut clock);
     add_ended(alloc, ended.ok()?, text)
 }

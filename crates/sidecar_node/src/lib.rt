@@ -8,6 +8,7 @@
 #![tactic(auto)]
 
 mod calls;
+mod desk;
 mod making;
 mod node;
 mod rounds;
@@ -16,6 +17,7 @@ mod seating;
 mod stopping;
 mod turns;
 
+pub use desk::Desk;
 pub use node::{Seats, SidecarNode};
 pub use rounds::RoundEvent;
 pub use stopping::stop_turn;

@@ -122,27 +122,27 @@ pub fn begin_turn<R: Wait, K: Clock>(
     rt: &R,
     alloc: Global,
     node: &SidecarNode,
-    mut seats: Seats,
+    seats: &mut Seats,
     key: &ActorKey,
     chain: Option<&ChainId>,
     least: Option<u64>,
     clock: &mut K,
-) -> (Seats, Result<PartReply, Spent>)
-    requires { IsSeatsOf node.now seats }
-    ensures seats { IsSeatsOf node.now result.0 }
-    ensures begins { (es : List PartEntry) × ActsAt (part_at node.now key.now) es seats result.0 × Begins key.now (option_copied chain.entry) least (K.shown clock.new) es result.1 }
-    ensures spent { SpentAt (part_at node.now key.now) result.1 result.0 }
+) -> Result<PartReply, Spent>
+    requires { IsSeatsOf node.now seats.old }
+    ensures seats { IsSeatsOf node.now seats.new }
+    ensures begins { (es : List PartEntry) × ActsAt (part_at node.now key.now) es seats.old seats.new × Begins key.now (option_copied chain.entry) least (K.shown clock.new) es result }
+    ensures spent { SpentAt (part_at node.now key.now) result seats.new }
     ensures clock { K.shown clock.old ≤ K.shown clock.new }
 {
     let now = clock.now_ms();
     let part = node.part_of(key);
     match ask_event(alloc, key, chain, least, now) {
-        Err(_) => (seats, Ok(PartReply::OutOfMemory)),
+        Err(_) => Ok(PartReply::OutOfMemory),
         Ok(ask) => {
             let seat = seats.parts.remove(part);
             let (seat, said) = ask_turn(rt, &node.parts[part], seat, ask);
             put_at(&mut seats.parts, part, seat);
-            (seats, said)
+            said
         }
     }
 }
@@ -151,19 +151,18 @@ pub fn begin_turn<R: Wait, K: Clock>(
 pub fn end_turn<R: Wait, K: Clock>(
     rt: &R,
     node: &SidecarNode,
-    mut seats: Seats,
+    seats: &mut Seats,
     key: &ActorKey,
     call: u64,
     clock: &mut K,
-) -> (Seats, Result<PartReply, Spent>)
-    requires { IsSeatsOf node.now seats }
-    ensures seats { IsSeatsOf node.now result.0 }
-    ensures ends { (es : List PartEntry) × ActsAt (part_at node.now key.now) es seats result.0 × Ends call (K.shown clock.new) es result.1 }
-    ensures spent { SpentAt (part_at node.now key.now) result.1 result.0 }
+) -> Result<PartReply, Spent>
+    requires { IsSeatsOf node.now seats.old }
+    ensures seats { IsSeatsOf node.now seats.new }
+    ensures ends { (es : List PartEntry) × ActsAt (part_at node.now key.now) es seats.old seats.new × Ends call (K.shown clock.new) es result }
+    ensures spent { SpentAt (part_at node.now key.now) result seats.new }
     ensures clock { K.shown clock.old ≤ K.shown clock.new }
 {
     let now = clock.now_ms();
     let part = node.part_of(key);
-    let said = node.call_part(rt, &mut seats, part, PartEvent::End { call, now });
-    (seats, said)
+    node.call_part(rt, seats, part, PartEvent::End { call, now })
 }

@@ -16,8 +16,8 @@ use frame_wire::{Stamp, StoreAnswer, StoreCommand};
 use sidecar_node::SidecarNode;
 use std::alloc::Global;
 
-// The stamp of a number that the actor's part drew.
-fn stamp_of(node: &SidecarNode, actor: &ActorKey, n: u64) -> Stamp
+/// The stamp of a number that the actor's part drew.
+pub(crate) fn stamp_of(node: &SidecarNode, actor: &ActorKey, n: u64) -> Stamp
     ensures { result ≡ stamp_of node.now actor.now n }
 {
     let _parts = node.parts();
@@ -29,22 +29,20 @@ fn stamp_of(node: &SidecarNode, actor: &ActorKey, n: u64) -> Stamp
     }
 }
 
-/// Asks the store, with this number in the stamp of a command that writes. One that writes state is of this epoch.
+/// Asks the store, with this stamp in a command that writes. One that writes state is of this epoch.
 pub(crate) fn ask_with<L: Dial>(
     alloc: Global,
-    node: &SidecarNode,
-    actor: ActorKey,
-    ask: StoreAsk,
-    n: u64,
-    epoch: u64,
     store: &mut L,
     at: &Address,
+    actor: ActorKey,
+    ask: StoreAsk,
+    stamp: Stamp,
+    epoch: u64,
 ) -> Result<StoreAnswer, StoreEnd>
     ensures { (xs : List Exchange)
-        × IsFrameAsked (store_frame actor (stamp_of node.now actor n) epoch ask) (place_at at.now) xs result
+        × IsFrameAsked (store_frame actor stamp epoch ask) (place_at at.now) xs result
         × Dialling xs (L.dialled store.old) (L.dialled store.new) (L.dial_faults store.old) (L.dial_faults store.new) }
 {
-    let stamp = stamp_of(node, &actor, n);
     match ask {
         StoreAsk::Transact { ops } => ask_fenced(alloc, store, at, epoch, stamp, actor, ops),
         StoreAsk::GetState { key } => {
@@ -69,20 +67,21 @@ pub(crate) fn ask_with<L: Dial>(
     }
 }
 
-/// The same, and what the exchange comes to.
+/// Asks the store, with this number in the stamp of a command that writes, and says what the exchange comes to.
 pub(crate) fn serve_asked<L: Dial>(
     alloc: Global,
     node: &SidecarNode,
+    store: &mut L,
+    at: &Address,
     actor: ActorKey,
     ask: StoreAsk,
     n: u64,
-    store: &mut L,
-    at: &Address,
 ) -> ApiReply
     ensures { (xs : List Exchange) × IsAsked node.now at.now actor ask n xs result
         × Dialling xs (L.dialled store.old) (L.dialled store.new) (L.dial_faults store.old) (L.dial_faults store.new) }
 {
     let wanted = ask.wanted();
-    let got = ask_with(alloc, node, actor, ask, n, 0, store, at);
+    let stamp = stamp_of(node, &actor, n);
+    let got = ask_with(alloc, store, at, actor, ask, stamp, 0);
     store_answer(wanted, got)
 }

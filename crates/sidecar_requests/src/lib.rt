@@ -4,7 +4,7 @@
 // Promise: `serve_record` makes the entries, the exchanges and the answer that `specs/Serving` says of its command: an
 // actor is held while its state or its timers are used, each write bears a number that the actor's part drew, and one of
 // state the version at which the part opened last; after a hold the release follows whatever came back. Nothing else is done at any gate, and nothing else is dialled. Each
-// request that is read is served once, as `IsRequestServed` (`specs/Requests`) says: one that is refused makes no entry
+// request is read and served once, as `IsRequestServed` (`specs/Requests`) says: one that is refused makes no entry
 // and no exchange, a call is served as `actor_calls` promises it, and any other command as `serve_record` does. A session's
 // entries and exchanges are those of its requests, in order, and no others (`specs/Sessions`). What a session is, and how
 // one ends, is said by `http_session`. Depends on `http_session`, `actor_calls`, `exchanges`, `actors_api`, `sidecar_node`,

@@ -10,98 +10,52 @@ use crate::asking::serve_asked;
 use crate::reminder::serve_write;
 use crate::state::serve_state;
 use crate::timer::{delete_timer, set_timer};
-use actor_names::Address;
 use actor_ports::{Clock, Dial};
 use actors_api::{ApiCommand, ApiReply};
 use exchanges::Links;
-use sidecar_node::{Seats, SidecarNode};
-use std::alloc::Global;
+use sidecar_node::Desk;
 use std::sync::Wait;
 
-// Serves a request with the store at this address.
-fn serve_with<R: Wait, L: Dial, K: Clock>(
-    rt: &R,
-    alloc: Global,
-    node: &SidecarNode,
-    seats: &mut Seats,
+/// Serves a request of an actor's state, timers or reminders, which is any command but the call of a method. Nothing but
+/// the store is dialled. Want of memory before a hold or a draw makes no entry; after a hold its release still follows,
+/// and takes no memory.
+pub fn serve_record<R: Wait, A: Dial, P: Dial, S: Dial, K: Clock>(
+    desk: &mut Desk<'_, R, Links<A, P, S>, K>,
     command: ApiCommand,
-    store: &mut L,
-    at: &Address,
-    clock: &mut K,
 ) -> ApiReply
-    requires seats { IsSeatsOf node.now seats.old }
+    requires seats { IsSeatsOf desk.old.node.now desk.old.seats }
     requires record_ { IsRecord command }
-    ensures seats { IsSeatsOf node.now seats.new }
-    ensures served { (ns : List NodeEntry) × (xs : List Exchange) × Acts ns seats.old seats.new
-        × Dialling xs (L.dialled store.old) (L.dialled store.new) (L.dial_faults store.old) (L.dial_faults store.new)
-        × IsRecordServed node.now at.now seats.new command (K.shown clock.old) (K.shown clock.new) ns xs result }
+    ensures node { desk.new.node.now ≡ desk.old.node.now }
+    ensures seats { IsSeatsOf desk.old.node.now desk.new.seats }
+    ensures served { (ns : List NodeEntry) × (xs : List Exchange) × Acts ns desk.old.seats desk.new.seats
+        × Dialling xs (S.dialled desk.old.links.store) (S.dialled desk.new.links.store) (S.dial_faults desk.old.links.store) (S.dial_faults desk.new.links.store)
+        × IsRecordServed desk.old.node.now desk.old.links.store_at desk.new.seats command (K.shown desk.old.clock) (K.shown desk.new.clock) ns xs result }
+    ensures places { (desk.new.links.app_at ≡ desk.old.links.app_at) × (desk.new.links.store_at ≡ desk.old.links.store_at) }
+    ensures others { (desk.new.links.app ≡ desk.old.links.app) × (desk.new.links.peers ≡ desk.old.links.peers) }
 {
     match command {
         ApiCommand::Transact { actor, ops } => {
-            let ask = StoreAsk::Transact { ops };
-            serve_state(rt, alloc, node, seats, actor, ask, store, at, clock)
+            serve_state(desk, actor, StoreAsk::Transact { ops })
         }
         ApiCommand::GetState { actor, key } => {
-            let ask = StoreAsk::GetState { key };
-            serve_state(rt, alloc, node, seats, actor, ask, store, at, clock)
+            serve_state(desk, actor, StoreAsk::GetState { key })
         }
         ApiCommand::PutReminder {
             actor,
             name,
             reminder,
-        } => {
-            let ask = StoreAsk::PutReminder { name, reminder };
-            serve_write(rt, alloc, node, seats, actor, ask, store, at)
-        }
+        } => serve_write(desk, actor, StoreAsk::PutReminder { name, reminder }),
         ApiCommand::GetReminder { actor, name } => {
             let ask = StoreAsk::GetReminder { name };
-            serve_asked(alloc, node, actor, ask, 0, store, at)
+            let at = desk.links.store_at;
+            let store = &mut desk.links.store;
+            serve_asked(desk.alloc, desk.node, store, &at, actor, ask, 0)
         }
         ApiCommand::DeleteReminder { actor, name } => {
-            let ask = StoreAsk::DeleteReminder { name };
-            serve_write(rt, alloc, node, seats, actor, ask, store, at)
+            serve_write(desk, actor, StoreAsk::DeleteReminder { name })
         }
-        ApiCommand::SetTimer { actor, name, timer } => {
-            set_timer(rt, alloc, node, seats, actor, name, timer, clock)
-        }
-        ApiCommand::DeleteTimer { actor, name } => {
-            delete_timer(rt, alloc, node, seats, actor, name, clock)
-        }
+        ApiCommand::SetTimer { actor, name, timer } => set_timer(desk, actor, name, timer),
+        ApiCommand::DeleteTimer { actor, name } => delete_timer(desk, actor, name),
         ApiCommand::Invoke { .. } => unreachable!(),
     }
-}
-
-/// Serves a request of an actor's state, timers or reminders, which is any command but the call of a method. The store
-/// is the one of `links`; nothing else is dialled. Want of memory before a hold or a draw makes no entry; after a hold
-/// its release still follows, and takes no memory.
-pub fn serve_record<R: Wait, A: Dial, P: Dial, S: Dial, K: Clock>(
-    rt: &R,
-    alloc: Global,
-    node: &SidecarNode,
-    mut seats: Seats,
-    command: ApiCommand,
-    links: &mut Links<A, P, S>,
-    clock: &mut K,
-) -> (Seats, ApiReply)
-    requires seats { IsSeatsOf node.now seats }
-    requires record_ { IsRecord command }
-    ensures seats { IsSeatsOf node.now result.0 }
-    ensures served { (ns : List NodeEntry) × (xs : List Exchange) × Acts ns seats result.0
-        × Dialling xs (S.dialled links.old.store) (S.dialled links.new.store) (S.dial_faults links.old.store) (S.dial_faults links.new.store)
-        × IsRecordServed node.now links.old.store_at result.0 command (K.shown clock.old) (K.shown clock.new) ns xs result.1 }
-    ensures places { (links.new.app_at ≡ links.old.app_at) × (links.new.store_at ≡ links.old.store_at) }
-    ensures others { (links.new.app ≡ links.old.app) × (links.new.peers ≡ links.old.peers) }
-{
-    let at = links.store_at;
-    let answer = serve_with(
-        rt,
-        alloc,
-        node,
-        &mut seats,
-        command,
-        &mut links.store,
-        &at,
-        clock,
-    );
-    (seats, answer)
 }

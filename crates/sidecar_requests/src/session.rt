@@ -11,8 +11,7 @@ use actors_api::Side;
 use exchanges::Links;
 use http_edge::RequestReader;
 use http_session::{cut_end, end_unread};
-use sidecar_node::{Seats, SidecarNode};
-use std::alloc::Global;
+use sidecar_node::Desk;
 use std::sync::Wait;
 
 // The most requests of a session.
@@ -20,55 +19,44 @@ const MOST_REQUESTS: u64 = 1 << 62;
 
 // Serves the requests of a connection until it ends.
 fn serve_requests<R: Wait, C: Conn, A: Dial, P: Dial, S: Dial, K: Clock>(
-    rt: &R,
-    alloc: Global,
-    node: &SidecarNode,
-    seats: Seats,
+    desk: &mut Desk<'_, R, Links<A, P, S>, K>,
     side: Side,
     conn: &mut C,
-    links: &mut Links<A, P, S>,
-    clock: &mut K,
-) -> (Seats, SessionEnd)
-    requires { IsSeatsOf node.now seats }
-    ensures seats { IsSeatsOf node.now result.0 }
+) -> SessionEnd
+    requires { IsSeatsOf desk.old.node.now desk.old.seats }
+    ensures seats { IsSeatsOf desk.new.node.now desk.new.seats }
     ensures session { (deeds : List Deed) × IsSession (IsAnswered side) (edge_response side)
-        (account (standing A.dialled A.dial_faults P.dialled P.dial_faults S.dialled S.dial_faults K.shown node.now seats links.old clock.old) [])
-        (account (standing A.dialled A.dial_faults P.dialled P.dial_faults S.dialled S.dial_faults K.shown node.now result.0 links.new clock.new) deeds)
-        (C.read_traffic conn.old) (C.read_traffic conn.new) (C.read_faults conn.old) (C.read_faults conn.new) result.1 }
-    ensures cause { SessionCause (C.read_faults conn.old) (C.read_faults conn.new) result.1 }
+        (account (standing A.dialled A.dial_faults P.dialled P.dial_faults S.dialled S.dial_faults K.shown desk.old.node.now desk.old.seats desk.old.links desk.old.clock) [])
+        (account (standing A.dialled A.dial_faults P.dialled P.dial_faults S.dialled S.dial_faults K.shown desk.new.node.now desk.new.seats desk.new.links desk.new.clock) deeds)
+        (C.read_traffic conn.old) (C.read_traffic conn.new) (C.read_faults conn.old) (C.read_faults conn.new) result }
+    ensures cause { SessionCause (C.read_faults conn.old) (C.read_faults conn.new) result }
 {
-    let mut seats = seats;
-    let mut reader = RequestReader::new(alloc);
+    let mut reader = RequestReader::new(desk.alloc);
     for requests in 0..MOST_REQUESTS {
         match reader.read(conn) {
-            Ok(None) => return (seats, SessionEnd::Done { requests }),
+            Ok(None) => return SessionEnd::Done { requests },
             Err(error) => {
-                let refusal = edge_response(alloc, side, error);
-                let end = end_unread(alloc, error, refusal, requests, conn);
-                return (seats, end);
+                let refusal = edge_response(desk.alloc, side, error);
+                return end_unread(desk.alloc, error, refusal, requests, conn);
             }
             Ok(Some(request)) => {
-                let (next, written) = take_turn(
-                    rt, alloc, node, seats, side, &request, conn, links, clock,
-                );
-                seats = next;
+                let written = take_turn(desk, side, &request, conn);
                 match written {
-                    Err(error) => return (seats, cut_end(error, requests)),
+                    Err(error) => return cut_end(error, requests),
                     Ok(()) => {
                         if request.close {
                             let requests = requests + 1;
-                            return (seats, SessionEnd::Done { requests });
+                            return SessionEnd::Done { requests };
                         }
                     }
                 }
             }
         }
     }
-    let spent = SessionEnd::Spent {
+    SessionEnd::Spent {
         requests: MOST_REQUESTS,
         count: MOST_REQUESTS,
-    };
-    (seats, spent)
+    }
 }
 
 /// Serves the requests of a connection that came on this port until it ends, each before the next one is read. A request
@@ -76,23 +64,19 @@ fn serve_requests<R: Wait, C: Conn, A: Dial, P: Dial, S: Dial, K: Clock>(
 /// has one. A request or such bytes for whose response there is no memory end the session without it. `requests` is the
 /// number of requests whose responses were written whole; a session ends as `Spent` after 2^62 of them.
 pub fn sidecar_session<R: Wait, C: Conn, A: Dial, P: Dial, S: Dial, K: Clock>(
-    rt: &R,
-    alloc: Global,
-    node: &SidecarNode,
-    seats: Seats,
+    desk: &mut Desk<'_, R, Links<A, P, S>, K>,
     side: Side,
     conn: &mut C,
-    links: &mut Links<A, P, S>,
-    clock: &mut K,
-) -> (Seats, SessionEnd)
-    requires { IsSeatsOf node.now seats }
-    ensures seats { IsSeatsOf node.now result.0 }
+) -> SessionEnd
+    requires { IsSeatsOf desk.old.node.now desk.old.seats }
+    ensures node { desk.new.node.now ≡ desk.old.node.now }
+    ensures seats { IsSeatsOf desk.old.node.now desk.new.seats }
     ensures session { SessionDoes side
-        (standing A.dialled A.dial_faults P.dialled P.dial_faults S.dialled S.dial_faults K.shown node.now seats links.old clock.old)
-        (standing A.dialled A.dial_faults P.dialled P.dial_faults S.dialled S.dial_faults K.shown node.now result.0 links.new clock.new)
-        (C.read_traffic conn.old) (C.read_traffic conn.new) (C.read_faults conn.old) (C.read_faults conn.new) result.1 }
-    ensures places { (links.new.app_at ≡ links.old.app_at) × (links.new.store_at ≡ links.old.store_at) }
-    ensures cause { SessionCause (C.read_faults conn.old) (C.read_faults conn.new) result.1 }
+        (standing A.dialled A.dial_faults P.dialled P.dial_faults S.dialled S.dial_faults K.shown desk.old.node.now desk.old.seats desk.old.links desk.old.clock)
+        (standing A.dialled A.dial_faults P.dialled P.dial_faults S.dialled S.dial_faults K.shown desk.new.node.now desk.new.seats desk.new.links desk.new.clock)
+        (C.read_traffic conn.old) (C.read_traffic conn.new) (C.read_faults conn.old) (C.read_faults conn.new) result }
+    ensures places { (desk.new.links.app_at ≡ desk.old.links.app_at) × (desk.new.links.store_at ≡ desk.old.links.store_at) }
+    ensures cause { SessionCause (C.read_faults conn.old) (C.read_faults conn.new) result }
 {
-    serve_requests(rt, alloc, node, seats, side, conn, links, clock)
+    serve_requests(desk, side, conn)
 }

@@ -1,47 +1,48 @@
 // A request of an actor's state.
-ghost use Rattle.std.specs.Prelude.{◌≡◌, List, Ok};
+ghost use Rattle.std.specs.Prelude.{◌≡◌, List};
 ghost use Rattle.sidecar_node.specs.Entries.{NodeEntry};
 ghost use Rattle.sidecar_node.specs.Nodes.{IsSeatsOf, Acts};
 ghost use Rattle.exchanges.specs.Exchanges.{Exchange, Dialling};
-ghost use Rattle.sidecar_requests.specs.Serving.{IsHeldExchange, IsHeldInVain, AfterLock, IsHeldWrite, WhileHeld, AfterHold, IsStateServed};
+ghost use Rattle.sidecar_requests.specs.Serving.{IsHeldExchange, IsHeldInVain, IsHeldWrite, WhileHeld, IsStateServed};
 
 use crate::ask::StoreAsk;
-use crate::asking::ask_with;
+use crate::asking::{ask_with, stamp_of};
 use crate::outcomes::{held_answer, refusal_of, refused, unasked_answer};
 use crate::stepping::{Keys, fence_step, hold_step, release_step, two_keys};
-use actor_names::{ActorKey, Address};
+use actor_names::ActorKey;
 use actor_ports::{Clock, Dial};
 use actors_api::{ApiRefusal, ApiReply};
+use exchanges::Links;
 use part_core::PartReply;
-use sidecar_node::{Seats, SidecarNode};
-use std::alloc::Global;
+use sidecar_node::{Desk, Seats, SidecarNode};
 use std::sync::Wait;
 
 // The actor is held, with this number: one exchange, of this epoch if it writes, and one Release.
-fn exchange_held<R: Wait, L: Dial, K: Clock>(
-    rt: &R,
-    alloc: Global,
-    node: &SidecarNode,
-    seats: &mut Seats,
+fn exchange_held<R: Wait, A: Dial, P: Dial, S: Dial, K: Clock>(
+    desk: &mut Desk<'_, R, Links<A, P, S>, K>,
     actor: ActorKey,
     release: ActorKey,
     ask: StoreAsk,
     n: u64,
     epoch: u64,
-    store: &mut L,
-    at: &Address,
-    clock: &mut K,
 ) -> ApiReply
-    requires seats { IsSeatsOf node.now seats.old }
+    requires seats { IsSeatsOf desk.old.node.now desk.old.seats }
     requires release { release ≡ actor }
-    ensures seats { IsSeatsOf node.now seats.new }
-    ensures held { (ns : List NodeEntry) × (xs : List Exchange) × Acts ns seats.old seats.new
-        × Dialling xs (L.dialled store.old) (L.dialled store.new) (L.dial_faults store.old) (L.dial_faults store.new)
-        × IsHeldExchange node.now at.now seats.new actor ask n epoch (K.shown clock.old) (K.shown clock.new) ns xs result }
+    ensures node { desk.new.node.now ≡ desk.old.node.now }
+    ensures seats { IsSeatsOf desk.old.node.now desk.new.seats }
+    ensures held { (ns : List NodeEntry) × (xs : List Exchange) × Acts ns desk.old.seats desk.new.seats
+        × Dialling xs (S.dialled desk.old.links.store) (S.dialled desk.new.links.store) (S.dial_faults desk.old.links.store) (S.dial_faults desk.new.links.store)
+        × IsHeldExchange desk.old.node.now desk.old.links.store_at desk.new.seats actor ask n epoch (K.shown desk.old.clock) (K.shown desk.new.clock) ns xs result }
+    ensures places { (desk.new.links.app_at ≡ desk.old.links.app_at) × (desk.new.links.store_at ≡ desk.old.links.store_at) }
+    ensures others { (desk.new.links.app ≡ desk.old.links.app) × (desk.new.links.peers ≡ desk.old.links.peers) }
 {
     let wanted = ask.wanted();
-    let got = ask_with(alloc, node, actor, ask, n, epoch, store, at);
-    let said = release_step(rt, node, seats, release, clock);
+    let stamp = stamp_of(desk.node, &actor, n);
+    let at = desk.links.store_at;
+    let store = &mut desk.links.store;
+    let got = ask_with(desk.alloc, store, &at, actor, ask, stamp, epoch);
+    let seats = &mut desk.seats;
+    let said = release_step(desk.rt, desk.node, seats, release, &mut desk.clock);
     held_answer(wanted, said, got)
 }
 
@@ -63,181 +64,102 @@ fn hold_in_vain<R: Wait, K: Clock>(
     unasked_answer(said, refusal)
 }
 
-// What follows the reply to the Lock.
-fn follow_lock<R: Wait, L: Dial, K: Clock>(
-    rt: &R,
-    alloc: Global,
-    node: &SidecarNode,
-    seats: &mut Seats,
+// The actor is held, with this number, and state is written: one Lock of version 0, which tells the epoch; one exchange,
+// unless the Lock was refused; and one Release.
+fn write_held<R: Wait, A: Dial, P: Dial, S: Dial, K: Clock>(
+    desk: &mut Desk<'_, R, Links<A, P, S>, K>,
     actor: ActorKey,
     release: ActorKey,
     ask: StoreAsk,
     n: u64,
-    reply: PartReply,
-    store: &mut L,
-    at: &Address,
-    clock: &mut K,
 ) -> ApiReply
-    requires seats { IsSeatsOf node.now seats.old }
+    requires seats { IsSeatsOf desk.old.node.now desk.old.seats }
     requires release { release ≡ actor }
-    ensures seats { IsSeatsOf node.now seats.new }
-    ensures follows { (ns : List NodeEntry) × (xs : List Exchange) × Acts ns seats.old seats.new
-        × Dialling xs (L.dialled store.old) (L.dialled store.new) (L.dial_faults store.old) (L.dial_faults store.new)
-        × AfterLock node.now at.now seats.new actor ask n (Ok reply) (K.shown clock.old) (K.shown clock.new) ns xs result }
+    ensures node { desk.new.node.now ≡ desk.old.node.now }
+    ensures seats { IsSeatsOf desk.old.node.now desk.new.seats }
+    ensures written { (ns : List NodeEntry) × (xs : List Exchange) × Acts ns desk.old.seats desk.new.seats
+        × Dialling xs (S.dialled desk.old.links.store) (S.dialled desk.new.links.store) (S.dial_faults desk.old.links.store) (S.dial_faults desk.new.links.store)
+        × IsHeldWrite desk.old.node.now desk.old.links.store_at desk.new.seats actor ask n (K.shown desk.old.clock) (K.shown desk.new.clock) ns xs result }
+    ensures places { (desk.new.links.app_at ≡ desk.old.links.app_at) × (desk.new.links.store_at ≡ desk.old.links.store_at) }
+    ensures others { (desk.new.links.app ≡ desk.old.links.app) × (desk.new.links.peers ≡ desk.old.links.peers) }
 {
-    match reply {
-        PartReply::TableStep { receipt, .. } => {
-            let epoch = receipt.opened();
-            exchange_held(
-                rt, alloc, node, seats, actor, release, ask, n, epoch, store, at, clock,
-            )
+    match fence_step(desk.rt, desk.node, &mut desk.seats, &actor) {
+        Err(_) => {
+            let spent = ApiRefusal::Spent;
+            let seats = &mut desk.seats;
+            hold_in_vain(desk.rt, desk.node, seats, release, spent, &mut desk.clock)
         }
-        other => hold_in_vain(rt, node, seats, release, refusal_of(other), clock),
-    }
-}
-
-// The actor is held, with this number, and state is written: one Lock, and what follows its reply.
-fn write_held<R: Wait, L: Dial, K: Clock>(
-    rt: &R,
-    alloc: Global,
-    node: &SidecarNode,
-    seats: &mut Seats,
-    actor: ActorKey,
-    release: ActorKey,
-    ask: StoreAsk,
-    n: u64,
-    store: &mut L,
-    at: &Address,
-    clock: &mut K,
-) -> ApiReply
-    requires seats { IsSeatsOf node.now seats.old }
-    requires release { release ≡ actor }
-    ensures seats { IsSeatsOf node.now seats.new }
-    ensures written { (ns : List NodeEntry) × (xs : List Exchange) × Acts ns seats.old seats.new
-        × Dialling xs (L.dialled store.old) (L.dialled store.new) (L.dial_faults store.old) (L.dial_faults store.new)
-        × IsHeldWrite node.now at.now seats.new actor ask n (K.shown clock.old) (K.shown clock.new) ns xs result }
-{
-    match fence_step(rt, node, seats, &actor) {
-        Err(_) => hold_in_vain(rt, node, seats, release, ApiRefusal::Spent, clock),
-        Ok(reply) => follow_lock(
-            rt, alloc, node, seats, actor, release, ask, n, reply, store, at, clock,
-        ),
+        Ok(reply) => match reply {
+            PartReply::TableStep { receipt, .. } => {
+                let epoch = receipt.opened();
+                exchange_held(desk, actor, release, ask, n, epoch)
+            }
+            other => {
+                let refusal = refusal_of(other);
+                let seats = &mut desk.seats;
+                hold_in_vain(desk.rt, desk.node, seats, release, refusal, &mut desk.clock)
+            }
+        },
     }
 }
 
 // The actor is held, with this number.
-fn serve_held<R: Wait, L: Dial, K: Clock>(
-    rt: &R,
-    alloc: Global,
-    node: &SidecarNode,
-    seats: &mut Seats,
+fn serve_held<R: Wait, A: Dial, P: Dial, S: Dial, K: Clock>(
+    desk: &mut Desk<'_, R, Links<A, P, S>, K>,
     actor: ActorKey,
     release: ActorKey,
     ask: StoreAsk,
     n: u64,
-    store: &mut L,
-    at: &Address,
-    clock: &mut K,
 ) -> ApiReply
-    requires seats { IsSeatsOf node.now seats.old }
+    requires seats { IsSeatsOf desk.old.node.now desk.old.seats }
     requires release { release ≡ actor }
-    ensures seats { IsSeatsOf node.now seats.new }
-    ensures served { (ns : List NodeEntry) × (xs : List Exchange) × Acts ns seats.old seats.new
-        × Dialling xs (L.dialled store.old) (L.dialled store.new) (L.dial_faults store.old) (L.dial_faults store.new)
-        × WhileHeld node.now at.now seats.new actor ask n (K.shown clock.old) (K.shown clock.new) ns xs result }
+    ensures node { desk.new.node.now ≡ desk.old.node.now }
+    ensures seats { IsSeatsOf desk.old.node.now desk.new.seats }
+    ensures served { (ns : List NodeEntry) × (xs : List Exchange) × Acts ns desk.old.seats desk.new.seats
+        × Dialling xs (S.dialled desk.old.links.store) (S.dialled desk.new.links.store) (S.dial_faults desk.old.links.store) (S.dial_faults desk.new.links.store)
+        × WhileHeld desk.old.node.now desk.old.links.store_at desk.new.seats actor ask n (K.shown desk.old.clock) (K.shown desk.new.clock) ns xs result }
+    ensures places { (desk.new.links.app_at ≡ desk.old.links.app_at) × (desk.new.links.store_at ≡ desk.old.links.store_at) }
+    ensures others { (desk.new.links.app ≡ desk.old.links.app) × (desk.new.links.peers ≡ desk.old.links.peers) }
 {
     match ask {
         StoreAsk::Transact { ops } => {
-            let ask = StoreAsk::Transact { ops };
-            write_held(
-                rt, alloc, node, seats, actor, release, ask, n, store, at, clock,
-            )
+            write_held(desk, actor, release, StoreAsk::Transact { ops }, n)
         }
-        other => exchange_held(
-            rt, alloc, node, seats, actor, release, other, n, 0, store, at, clock,
-        ),
-    }
-}
-
-// What follows the reply to the Hold.
-fn follow_hold<R: Wait, L: Dial, K: Clock>(
-    rt: &R,
-    alloc: Global,
-    node: &SidecarNode,
-    seats: &mut Seats,
-    actor: ActorKey,
-    release: ActorKey,
-    ask: StoreAsk,
-    reply: PartReply,
-    store: &mut L,
-    at: &Address,
-    clock: &mut K,
-) -> ApiReply
-    requires seats { IsSeatsOf node.now seats.old }
-    requires release { release ≡ actor }
-    ensures seats { IsSeatsOf node.now seats.new }
-    ensures follows { (ns : List NodeEntry) × (xs : List Exchange) × Acts ns seats.old seats.new
-        × Dialling xs (L.dialled store.old) (L.dialled store.new) (L.dial_faults store.old) (L.dial_faults store.new)
-        × AfterHold node.now at.now seats.new actor ask (Ok reply) (K.shown clock.old) (K.shown clock.new) ns xs result }
-{
-    match reply {
-        PartReply::Held { n } => serve_held(
-            rt, alloc, node, seats, actor, release, ask, n, store, at, clock,
-        ),
-        other => refused(refusal_of(other)),
-    }
-}
-
-// One Hold, and what follows its reply.
-fn hold_state<R: Wait, L: Dial, K: Clock>(
-    rt: &R,
-    alloc: Global,
-    node: &SidecarNode,
-    seats: &mut Seats,
-    actor: ActorKey,
-    keys: Keys,
-    ask: StoreAsk,
-    store: &mut L,
-    at: &Address,
-    clock: &mut K,
-) -> ApiReply
-    requires seats { IsSeatsOf node.now seats.old }
-    requires hold { keys.hold ≡ actor }
-    requires release { keys.release ≡ actor }
-    ensures seats { IsSeatsOf node.now seats.new }
-    ensures served { (ns : List NodeEntry) × (xs : List Exchange) × Acts ns seats.old seats.new
-        × Dialling xs (L.dialled store.old) (L.dialled store.new) (L.dial_faults store.old) (L.dial_faults store.new)
-        × IsStateServed node.now at.now seats.new actor ask (K.shown clock.old) (K.shown clock.new) ns xs result }
-{
-    let Keys { hold, release } = keys;
-    match hold_step(rt, node, seats, hold) {
-        Err(_) => refused(ApiRefusal::Spent),
-        Ok(reply) => follow_hold(
-            rt, alloc, node, seats, actor, release, ask, reply, store, at, clock,
-        ),
+        other => exchange_held(desk, actor, release, other, n, 0),
     }
 }
 
 /// Serves a request of the actor's state: one Hold, one Lock of version 0 if it writes, one exchange, one Release.
-pub(crate) fn serve_state<R: Wait, L: Dial, K: Clock>(
-    rt: &R,
-    alloc: Global,
-    node: &SidecarNode,
-    seats: &mut Seats,
+pub(crate) fn serve_state<R: Wait, A: Dial, P: Dial, S: Dial, K: Clock>(
+    desk: &mut Desk<'_, R, Links<A, P, S>, K>,
     actor: ActorKey,
     ask: StoreAsk,
-    store: &mut L,
-    at: &Address,
-    clock: &mut K,
 ) -> ApiReply
-    requires { IsSeatsOf node.now seats.old }
-    ensures seats { IsSeatsOf node.now seats.new }
-    ensures served { (ns : List NodeEntry) × (xs : List Exchange) × Acts ns seats.old seats.new
-        × Dialling xs (L.dialled store.old) (L.dialled store.new) (L.dial_faults store.old) (L.dial_faults store.new)
-        × IsStateServed node.now at.now seats.new actor ask (K.shown clock.old) (K.shown clock.new) ns xs result }
+    requires { IsSeatsOf desk.old.node.now desk.old.seats }
+    ensures node { desk.new.node.now ≡ desk.old.node.now }
+    ensures seats { IsSeatsOf desk.old.node.now desk.new.seats }
+    ensures served { (ns : List NodeEntry) × (xs : List Exchange) × Acts ns desk.old.seats desk.new.seats
+        × Dialling xs (S.dialled desk.old.links.store) (S.dialled desk.new.links.store) (S.dial_faults desk.old.links.store) (S.dial_faults desk.new.links.store)
+        × IsStateServed desk.old.node.now desk.old.links.store_at desk.new.seats actor ask (K.shown desk.old.clock) (K.shown desk.new.clock) ns xs result }
+    ensures places { (desk.new.links.app_at ≡ desk.old.links.app_at) × (desk.new.links.store_at ≡ desk.old.links.store_at) }
+    ensures others { (desk.new.links.app ≡ desk.old.links.app) × (desk.new.links.peers ≡ desk.old.links.peers) }
 {
-    match two_keys(alloc, &actor) {
-        Err(_) => refused(ApiRefusal::OutOfMemory),
-        Ok(keys) => hold_state(rt, alloc, node, seats, actor, keys, ask, store, at, clock),
+    match two_keys(desk.alloc, &actor) {
+        Err(_) => ApiReply::Refused {
+            refusal: ApiRefusal::OutOfMemory,
+        },
+        Ok(keys) => {
+            let Keys { hold, release } = keys;
+            let said = hold_step(desk.rt, desk.node, &mut desk.seats, hold);
+            match said {
+                Err(_) => ApiReply::Refused {
+                    refusal: ApiRefusal::Spent,
+                },
+                Ok(reply) => match reply {
+                    PartReply::Held { n } => serve_held(desk, actor, release, ask, n),
+                    other => refused(refusal_of(other)),
+                },
+            }
+        }
     }
 }

@@ -12,7 +12,7 @@ use exchanges::Links;
 use http_edge::{EdgeError, HttpRequest, HttpResponse};
 use http_session::write_sent;
 use lists_and_limits::OutOfMemory;
-use sidecar_node::{Seats, SidecarNode};
+use sidecar_node::Desk;
 use std::alloc::Global;
 use std::sync::Wait;
 
@@ -29,30 +29,22 @@ fn response_of(alloc: Global, side: Side, answer: ApiReply) -> Result<HttpRespon
 
 /// Serves a request, and writes the response of its answer.
 pub(crate) fn take_turn<R: Wait, C: Conn, A: Dial, P: Dial, S: Dial, K: Clock>(
-    rt: &R,
-    alloc: Global,
-    node: &SidecarNode,
-    seats: Seats,
+    desk: &mut Desk<'_, R, Links<A, P, S>, K>,
     side: Side,
     request: &HttpRequest,
     conn: &mut C,
-    links: &mut Links<A, P, S>,
-    clock: &mut K,
-) -> (Seats, Result<(), EdgeError>)
-    requires { IsSeatsOf node.now seats }
-    ensures seats { IsSeatsOf node.now result.0 }
+) -> Result<(), EdgeError>
+    requires { IsSeatsOf desk.old.node.now desk.old.seats }
+    ensures seats { IsSeatsOf desk.new.node.now desk.new.seats }
     ensures turn { (before : List Deed) → (deed : Deed) × Turns (IsAnswered side)
-        (account (standing A.dialled A.dial_faults P.dialled P.dial_faults S.dialled S.dial_faults K.shown node.now seats links.old clock.old) before)
-        (account (standing A.dialled A.dial_faults P.dialled P.dial_faults S.dialled S.dial_faults K.shown node.now result.0 links.new clock.new) (before ++ deed ∷ []))
-        request.now (C.read_traffic conn.old) (C.read_traffic conn.new) result.1 }
-    ensures cause { EdgeCause (C.read_faults conn.old) (C.read_faults conn.new) result.1 }
+        (account (standing A.dialled A.dial_faults P.dialled P.dial_faults S.dialled S.dial_faults K.shown desk.old.node.now desk.old.seats desk.old.links desk.old.clock) before)
+        (account (standing A.dialled A.dial_faults P.dialled P.dial_faults S.dialled S.dial_faults K.shown desk.new.node.now desk.new.seats desk.new.links desk.new.clock) (before ++ deed ∷ []))
+        request.now (C.read_traffic conn.old) (C.read_traffic conn.new) result }
+    ensures cause { EdgeCause (C.read_faults conn.old) (C.read_faults conn.new) result }
 {
-    let (seats, reply) = serve_one(rt, alloc, node, seats, side, request, links, clock);
-    match response_of(alloc, side, reply) {
-        Err(_) => (seats, Err(EdgeError::OutOfMemory)),
-        Ok(response) => {
-            let written = write_sent(alloc, response, request.close, conn);
-            (seats, written)
-        }
+    let reply = serve_one(desk, side, request);
+    match response_of(desk.alloc, side, reply) {
+        Err(_) => Err(EdgeError::OutOfMemory),
+        Ok(response) => write_sent(desk.alloc, response, request.close, conn),
     }
 }

@@ -10,6 +10,7 @@ use crate::watch::WatchEvent;
 use actor_ports::{Clock, Dial};
 use clock_turns::{closing_turn, tick_turn};
 use reminder_turns::reminder_turn;
+use sidecar_node::Desk;
 use std::sync::Wait;
 
 /// Looks whether the lease has ended.
@@ -38,15 +39,24 @@ pub(crate) fn close_idle<R: Wait, A: Dial, P: Dial, N: Dial, K: Clock>(
     ensures leaves { LeavesTables pass.seats result.seats }
 {
     let mut pass = pass;
-    let (seats, _) = closing_turn(
+    let mut desk = Desk {
         rt,
-        service.alloc,
-        service.node,
-        pass.seats,
-        &mut pass.links,
-        &mut pass.clock,
-    );
+        alloc: service.alloc,
+        node: service.node,
+        seats: pass.seats,
+        links: pass.links,
+        clock: pass.clock,
+    };
+    let _ = closing_turn(&mut desk);
+    let Desk {
+        seats,
+        links,
+        clock,
+        ..
+    } = desk;
     pass.seats = seats;
+    pass.links = links;
+    pass.clock = clock;
     pass
 }
 
@@ -61,15 +71,24 @@ pub(crate) fn run_timers<R: Wait, A: Dial, P: Dial, N: Dial, K: Clock>(
     ensures leaves { LeavesTables pass.seats result.seats }
 {
     let mut pass = pass;
-    let (seats, end) = tick_turn(
+    let mut desk = Desk {
         rt,
-        service.alloc,
-        service.node,
-        pass.seats,
-        &mut pass.links,
-        &mut pass.clock,
-    );
+        alloc: service.alloc,
+        node: service.node,
+        seats: pass.seats,
+        links: pass.links,
+        clock: pass.clock,
+    };
+    let end = tick_turn(&mut desk);
+    let Desk {
+        seats,
+        links,
+        clock,
+        ..
+    } = desk;
     pass.seats = seats;
+    pass.links = links;
+    pass.clock = clock;
     tell_timers(service.log, pass.links.app_at, &end);
     pass
 }
@@ -85,15 +104,24 @@ pub(crate) fn run_reminders<R: Wait, A: Dial, P: Dial, N: Dial, K: Clock>(
     ensures leaves { LeavesTables pass.seats result.seats }
 {
     let mut pass = pass;
-    let (seats, end) = reminder_turn(
+    let mut desk = Desk {
         rt,
-        service.alloc,
-        service.node,
-        pass.seats,
-        &mut pass.links,
-        &mut pass.clock,
-    );
+        alloc: service.alloc,
+        node: service.node,
+        seats: pass.seats,
+        links: pass.links,
+        clock: pass.clock,
+    };
+    let end = reminder_turn(&mut desk);
+    let Desk {
+        seats,
+        links,
+        clock,
+        ..
+    } = desk;
     pass.seats = seats;
+    pass.links = links;
+    pass.clock = clock;
     tell_reminders(service.log, pass.links.app_at, pass.links.store_at, &end);
     pass
 }

@@ -6,6 +6,7 @@ use crate::pass::Pass;
 use crate::service::SidecarService;
 use actor_ports::{Clock, Conn, Dial};
 use actors_api::Side;
+use sidecar_node::Desk;
 use sidecar_requests::sidecar_session;
 use std::sync::Wait;
 
@@ -33,16 +34,13 @@ pub(crate) fn serve_at<R: Wait, C: Conn, A: Dial, P: Dial, N: Dial, K: Clock>(
         is_second: _,
     } = pass;
     let mut conn = conn;
-    let mut links = links;
-    let mut clock = clock;
-    let _ended = sidecar_session(
+    let mut desk = Desk {
         rt,
-        service.alloc,
-        service.node,
+        alloc: service.alloc,
+        node: service.node,
         seats,
-        side,
-        &mut conn,
-        &mut links,
-        &mut clock,
-    );
+        links,
+        clock,
+    };
+    let _ended = sidecar_session(&mut desk, side, &mut conn);
 }

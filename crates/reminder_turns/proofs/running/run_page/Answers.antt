@@ -1,30 +1,47 @@
-use Rattle.std.proofs.Common.{◌<◌, ◌≤◌, ◌+◌, List, length, drop}
+use Rattle.std.proofs.Common.{◌<◌, ◌≤◌, ◌∙◌, ◌+◌, refl, List, length, drop}
 use Rattle.frame_wire.specs.declared.store_answer.DueEntry.{DueEntry}
 use Rattle.reminder_turns.proofs.Runs.{drop_here, drop_end, start, run_on, run_over, run_through}
 use Rattle.reminder_turns.proofs.running.run_page.Goals as goal
 
 pub loop-entry-init : goal.loop-entry-init
-loop-entry-init g c = record {
-  seats = c.requires;
-  progress = start c.args.node.now c.args.app_at.now c.args.store_at.now c.args.entries.now (g.K.Clock.shown c.args.clock.now) c.args.seats _ _ _ _;
-}
+loop-entry-init g c =
+    let desk = c.args.desk.now in
+    record {
+      node = refl;
+      seats = c.requires;
+      progress = start desk.node.now desk.links.app_at desk.links.store_at c.args.entries.now (g.K.Clock.shown desk.clock) desk.seats _ _ _ _;
+      places = (refl, refl);
+      peers = refl;
+    }
 
 pub loop-entry-preserved : goal.loop-entry-preserved
 loop-entry-preserved g c =
+    let i = c.loop-entry.invariant in
+    let ran = c.run_one-ran.ensures in
     let xs : List DueEntry = c.args.entries.now in
     let within : c.loop-entry.entry-index < length xs = c.loop-entry-test.true in
     let here = drop_here xs c.loop-entry.entry-index c.entry-item.result within c.entry-item.is in
+    let of_node = rw i.node at ran.runs in
+    let of_app = rw i.places.0 at of_node in
+    let runs = rw i.places.1 at of_app in
     record {
-      seats = c.run_one-next.ensures.seats;
-      progress = run_on (drop (c.loop-entry.entry-index + 1) xs) c.saturating_add-turns.result c.either-faulted.result _ c.loop-entry.invariant.progress here c.run_one-next.ensures.runs c.in-None.is c.saturating_add-turns.ensures c.either-faulted.ensures;
+      node = ran.node ∙ i.node;
+      seats = rw i.node at ran.seats;
+      progress = run_on (drop (c.loop-entry.entry-index + 1) xs) c.saturating_add-turns.result c.either-faulted.result _ i.progress here runs c.in-None.is c.saturating_add-turns.ensures c.either-faulted.ensures;
+      places = (ran.places.0 ∙ i.places.0, ran.places.1 ∙ i.places.1);
+      peers = ran.peers ∙ i.peers;
     }
 
 pub returns-in-Some-clause-runs : goal.returns-in-Some-clause-runs
 returns-in-Some-clause-runs g c =
+    let i = c.loop-entry.invariant in
     let xs : List DueEntry = c.args.entries.now in
     let within : c.loop-entry.entry-index < length xs = c.loop-entry-test.true in
     let here = drop_here xs c.loop-entry.entry-index c.entry-item.result within c.entry-item.is in
-    run_over (drop (c.loop-entry.entry-index + 1) xs) c.saturating_add-turns.result c.either-faulted.result c.in-Some.end _ c.loop-entry.invariant.progress here c.run_one-next.ensures.runs c.in-Some.is c.saturating_add-turns.ensures c.either-faulted.ensures
+    let of_node = rw i.node at c.run_one-ran.ensures.runs in
+    let of_app = rw i.places.0 at of_node in
+    let runs = rw i.places.1 at of_app in
+    run_over (drop (c.loop-entry.entry-index + 1) xs) c.saturating_add-turns.result c.either-faulted.result c.in-Some.end _ i.progress here runs c.in-Some.is c.saturating_add-turns.ensures c.either-faulted.ensures
 
 pub returns-clause-runs : goal.returns-clause-runs
 returns-clause-runs g c =

@@ -1,12 +1,56 @@
-use Rattle.std.proofs.Common.{◌∙◌, subst, [], ◌++◌}
-use Rattle.sidecar_node.proofs.Actings.{acts_then}
-use Rattle.actor_calls.proofs.Acting.{none_kept, none_before}
-use Rattle.sidecar_requests.proofs.Requests.{HandsBackRecord, hands_back_record, answered, recorded, none_after}
+use Rattle.std.proofs.Common.{ap, refl, [], Ok, Err}
+use Rattle.place_table.specs.declared.host.HostInfo.{HostInfo}
+use Rattle.sidecar_node.specs.Entries.{at_part}
+use Rattle.sidecar_node.specs.Nodes.{part_at}
+use Rattle.sidecar_node.proofs.Actings.{acts_none}
+use Rattle.exchanges.proofs.Diallings.{none_made}
+use Rattle.actor_calls.proofs.Acting.{none_kept}
+use Rattle.sidecar_requests.proofs.Requests.{is_record, refusal_follows, record_follows, request_by}
 use Rattle.sidecar_requests.proofs.serving.serve_one.Goals as goal
 
-pub returns-in-Answered-clause-served : goal.returns-in-Answered-clause-served
-returns-in-Answered-clause-served g c =
-    let s = rw c.in-Answered.is at c.serve_call-seats.ensures.served in (
+pub returns-in-Err-clause-served : goal.returns-in-Err-clause-served
+returns-in-Err-clause-served g c =
+    let desk = c.args.desk.now in
+    let clock = c.now_ms-now.ensures in (
+      [],
+      [],
+      [],
+      [],
+      acts_none desk.seats,
+      none_made _ _,
+      none_made _ _,
+      none_made _ _,
+      request_by desk.node.now desk.links.app_at desk.links.store_at c.args.side c.args.request.now desk.seats _ _ _ c.now_ms-now.result _ (Err c.in-Err.refusal) [] [] [] [] _
+          (ap (λ (h : HostInfo). h.member.space) c.host.ensures) clock.never_falls clock.shows c.in-Err.ensures
+          (refusal_follows desk.node.now desk.links.app_at desk.links.store_at c.args.side c.args.request.now desk.seats _ _),
+    )
+
+pub returns-in-None-clause-served : goal.returns-in-None-clause-served
+returns-in-None-clause-served g c =
+    let desk = c.args.desk.now in
+    let clock = c.now_ms-now.ensures in
+    let done = c.serve_invoke in
+    let i = done.ensures.invoked in
+    let ns = at_part (part_at desk.node.now c.in-Invoke.actor) i.0 in (
+      ns,
+      i.1,
+      i.2,
+      [],
+      i.3,
+      i.4,
+      i.5,
+      none_kept g.S.Dial.dialled g.S.Dial.dial_faults desk.links.store done.new.desk.links.store done.ensures.store,
+      request_by desk.node.now desk.links.app_at desk.links.store_at c.args.side c.args.request.now done.new.desk.seats _ _ _ c.now_ms-now.result _ (Ok c.in-Ok.command) ns i.1 i.2 [] _
+          (ap (λ (h : HostInfo). h.member.space) c.host.ensures) clock.never_falls clock.shows c.in-Ok.ensures
+          (rw c.in-Invoke.is (record { store_idle = refl; answered = rw c.in-None.is (record { es = i.0; entries = refl; invoked = i.6 }) })),
+    )
+
+pub returns-in-Invoke-clause-served : goal.returns-in-Invoke-clause-served
+returns-in-Invoke-clause-served g c =
+    let desk = c.args.desk.now in
+    let clock = c.now_ms-now.ensures in
+    let done = c.serve_forwarded in
+    let s = done.ensures.served in (
       s.0,
       s.1,
       s.2,
@@ -14,34 +58,30 @@ returns-in-Answered-clause-served g c =
       s.3,
       s.4,
       s.5,
-      none_kept g.S.Dial.dialled g.S.Dial.dial_faults c.args.links.now.store c.serve_call-seats.new.links.store c.serve_call-seats.ensures.store,
-      answered c.args.node.now c.args.links.now.app_at c.args.side c.args.request.now c.args.links.now.store_at c.serve_call-seats.result.0 _ _ s.0 s.1 s.2 c.in-Answered.reply s.6,
+      none_kept g.S.Dial.dialled g.S.Dial.dial_faults desk.links.store done.new.desk.links.store done.ensures.store,
+      request_by desk.node.now desk.links.app_at desk.links.store_at c.args.side c.args.request.now done.new.desk.seats _ _ _ c.now_ms-now.result _ (Ok c.in-Ok.command) s.0 s.1 s.2 [] _
+          (ap (λ (h : HostInfo). h.member.space) c.host.ensures) clock.never_falls clock.shows c.in-Ok.ensures
+          (rw c.in-Invoke.is (record { store_idle = refl; answered = rw c.in-Some.is s.6 })),
     )
 
 pub serve_record-requires-clause-record_ : goal.serve_record-requires-clause-record_
-serve_record-requires-clause-record_ g c κs within =
-    let s = c.serve_call-seats.ensures.served in
-    subst HandsBackRecord c.in-Other.is (hands_back_record c.args.node.now c.args.links.now.app_at c.args.side c.args.request.now c.serve_call-seats.result.0 _ _ s.0 s.1 s.2 _ s.6)
+serve_record-requires-clause-record_ g c κs within = is_record c.in-Ok.command c.in_default.not-Invoke
 
-pub returns-in-Other-clause-served : goal.returns-in-Other-clause-served
-returns-in-Other-clause-served g c =
-    let s = rw c.in-Other.is at c.serve_call-seats.ensures.served in
-    let r = c.serve_record.ensures.served in
-    let first = c.serve_call-seats.new.links in
-    let last = c.serve_record.new.links in (
-      s.0 ++ r.0,
-      s.1,
-      s.2,
+pub returns-clause-served : goal.returns-clause-served
+returns-clause-served g c =
+    let desk = c.args.desk.now in
+    let clock = c.now_ms-now.ensures in
+    let done = c.serve_record in
+    let r = done.ensures.served in (
+      r.0,
+      [],
+      [],
       r.1,
-      acts_then s.0 r.0 _ _ _ s.3 r.2,
-      none_after g.A.Dial.dialled g.A.Dial.dial_faults first.app last.app c.serve_record.ensures.others.0 s.1 _ _ s.4,
-      none_after g.P.Dial.dialled g.P.Dial.dial_faults first.peers last.peers c.serve_record.ensures.others.1 s.2 _ _ s.5,
-      none_before g.S.Dial.dialled g.S.Dial.dial_faults c.args.links.now.store first.store c.serve_call-seats.ensures.store r.1 _ _ r.3,
-      recorded c.args.node.now c.args.links.now.app_at c.args.side c.args.request.now c.args.links.now.store_at c.serve_record.result.0 c.serve_call-seats.result.0 first.store_at _ _ _ s.0 r.0 s.1 s.2 r.1 c.in-Other.command c.serve_record.result.1
-          c.serve_call-seats.ensures.places.1 s.6 r.4,
+      r.2,
+      none_kept g.A.Dial.dialled g.A.Dial.dial_faults desk.links.app done.new.desk.links.app done.ensures.others.0,
+      none_kept g.P.Dial.dialled g.P.Dial.dial_faults desk.links.peers done.new.desk.links.peers done.ensures.others.1,
+      r.3,
+      request_by desk.node.now desk.links.app_at desk.links.store_at c.args.side c.args.request.now done.new.desk.seats _ _ _ c.now_ms-now.result _ (Ok c.in-Ok.command) r.0 [] [] r.1 _
+          (ap (λ (h : HostInfo). h.member.space) c.host.ensures) clock.never_falls clock.shows c.in-Ok.ensures
+          (record_follows desk.node.now desk.links.app_at desk.links.store_at c.args.side c.args.request.now done.new.desk.seats c.in-Ok.command _ _ r.0 r.1 _ c.in_default.not-Invoke r.4),
     )
-
-pub returns-in-Other-clause-places : goal.returns-in-Other-clause-places
-returns-in-Other-clause-places g c =
-    let one = c.serve_call-seats.ensures.places in
-    let two = c.serve_record.ensures.places in (two.0 ∙ one.0, two.1 ∙ one.1)

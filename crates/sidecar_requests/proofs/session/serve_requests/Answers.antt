@@ -8,7 +8,7 @@ use Rattle.sidecar_requests.proofs.session.serve_requests.Goals as goal
 
 pub loop-requests-init : goal.loop-requests-init
 loop-requests-init g c =
-    let s = standing g.A.Dial.dialled g.A.Dial.dial_faults g.P.Dial.dialled g.P.Dial.dial_faults g.S.Dial.dialled g.S.Dial.dial_faults g.K.Clock.shown c.args.node.now c.args.seats c.args.links.now c.args.clock.now in
+    let s = standing g.A.Dial.dialled g.A.Dial.dial_faults g.P.Dial.dialled g.P.Dial.dial_faults g.S.Dial.dialled g.S.Dial.dial_faults g.K.Clock.shown c.args.desk.now.node.now c.args.desk.now.seats c.args.desk.now.links c.args.desk.now.clock in
     let t = g.C.Source.read_traffic c.args.conn.now in
     let none = account s [] in
     record {
@@ -39,18 +39,18 @@ returns-in-Err-clause-session g c =
     let up = c.loop-requests.invariant.faults in
     let on = read_up (faults c.loop-requests.conn) (faults c.read.new.conn) c.in-Err.error (c.in-Err.ensures.cause p.sound) in
     let under : faults c.args.conn.now ≤ faults c.read.new.conn = omega arith in
-    let ends = c.end_unread-end.ensures.ends (edge_response c.args.side c.in-Err.error) c.edge_response-refusal.ensures in (
+    let ends = c.end_unread.ensures.ends (edge_response c.args.side c.in-Err.error) c.edge_response-refusal.ensures in (
       c.loop-requests.invariant.progress.0,
       ends_unread (IsAnswered c.args.side) (edge_response c.args.side) _ _ _ _ c.loop-requests.reader c.loop-requests.requests p _ c.read.new.self
-          (faults c.args.conn.now) (faults c.read.new.conn) (faults c.end_unread-end.new.conn) _ c.in-Err.error c.end_unread-end.result under (c.in-Err.ensures.reads p.sound) ends,
+          (faults c.args.conn.now) (faults c.read.new.conn) (faults c.end_unread.new.conn) _ c.in-Err.error c.end_unread.result under (c.in-Err.ensures.reads p.sound) ends,
     )
 
 pub returns-in-Err-clause-cause : goal.returns-in-Err-clause-cause
 returns-in-Err-clause-cause g c =
     let p = c.loop-requests.invariant.progress.1 in
     let faults = g.C.Source.read_faults in
-    let ends = c.end_unread-end.ensures.ends (edge_response c.args.side c.in-Err.error) c.edge_response-refusal.ensures in
-    unread_cause (edge_response c.args.side c.in-Err.error) c.in-Err.error c.loop-requests.requests (faults c.args.conn.now) (faults c.loop-requests.conn) (faults c.read.new.conn) (faults c.end_unread-end.new.conn) _ _ c.end_unread-end.result c.loop-requests.invariant.faults (c.in-Err.ensures.cause p.sound) c.end_unread-end.ensures.cause ends
+    let ends = c.end_unread.ensures.ends (edge_response c.args.side c.in-Err.error) c.edge_response-refusal.ensures in
+    unread_cause (edge_response c.args.side c.in-Err.error) c.in-Err.error c.loop-requests.requests (faults c.args.conn.now) (faults c.loop-requests.conn) (faults c.read.new.conn) (faults c.end_unread.new.conn) _ _ c.end_unread.result c.loop-requests.invariant.faults (c.in-Err.ensures.cause p.sound) c.end_unread.ensures.cause ends
 
 pub returns-in-Err-written-clause-session : goal.returns-in-Err-written-clause-session
 returns-in-Err-written-clause-session g c =
@@ -59,13 +59,13 @@ returns-in-Err-written-clause-session g c =
     let traffic = g.C.Source.read_traffic in
     let read = rw c.in-Ok-Some.field-0-is at c.in-Ok-Some.ensures.reads in
     let before = c.loop-requests.invariant.progress.0 in
-    let turn = c.take_turn-next.ensures.turn before in
+    let turn = c.take_turn-written.ensures.turn before in
     let cut = rw c.in-Err-written.is at turn.1 in
-    let old = account (standing g.A.Dial.dialled g.A.Dial.dial_faults g.P.Dial.dialled g.P.Dial.dial_faults g.S.Dial.dialled g.S.Dial.dial_faults g.K.Clock.shown c.args.node.now c.args.seats c.args.links.now c.args.clock.now) [] in
-    let new = account (standing g.A.Dial.dialled g.A.Dial.dial_faults g.P.Dial.dialled g.P.Dial.dial_faults g.S.Dial.dialled g.S.Dial.dial_faults g.K.Clock.shown c.args.node.now c.take_turn-next.result.0 c.take_turn-next.new.links c.take_turn-next.new.clock) (before ++ turn.0 ∷ []) in (
+    let old = account (standing g.A.Dial.dialled g.A.Dial.dial_faults g.P.Dial.dialled g.P.Dial.dial_faults g.S.Dial.dialled g.S.Dial.dial_faults g.K.Clock.shown c.args.desk.now.node.now c.args.desk.now.seats c.args.desk.now.links c.args.desk.now.clock) [] in
+    let new = account (standing g.A.Dial.dialled g.A.Dial.dial_faults g.P.Dial.dialled g.P.Dial.dial_faults g.S.Dial.dialled g.S.Dial.dial_faults g.K.Clock.shown c.take_turn-written.new.desk.node.now c.take_turn-written.new.desk.seats c.take_turn-written.new.desk.links c.take_turn-written.new.desk.clock) (before ++ turn.0 ∷ []) in (
       before ++ turn.0 ∷ [],
-      subst (λ (e : SessionEnd). IsSession (IsAnswered c.args.side) (edge_response c.args.side) old new (traffic c.args.conn.now) (traffic c.take_turn-next.new.conn) (faults c.args.conn.now) (faults c.take_turn-next.new.conn) e) (sym c.cut_end.ensures)
-          (ends_cut (IsAnswered c.args.side) (edge_response c.args.side) _ _ _ _ c.loop-requests.reader c.loop-requests.requests p _ c.read.new.self c.in-Ok-Some.request (read p.sound) _ _ (faults c.args.conn.now) (faults c.take_turn-next.new.conn) c.in-Err-written.error cut),
+      subst (λ (e : SessionEnd). IsSession (IsAnswered c.args.side) (edge_response c.args.side) old new (traffic c.args.conn.now) (traffic c.take_turn-written.new.conn) (faults c.args.conn.now) (faults c.take_turn-written.new.conn) e) (sym c.cut_end.ensures)
+          (ends_cut (IsAnswered c.args.side) (edge_response c.args.side) _ _ _ _ c.loop-requests.reader c.loop-requests.requests p _ c.read.new.self c.in-Ok-Some.request (read p.sound) _ _ (faults c.args.conn.now) (faults c.take_turn-written.new.conn) c.in-Err-written.error cut),
     )
 
 pub returns-in-Err-written-clause-cause : goal.returns-in-Err-written-clause-cause
@@ -75,9 +75,9 @@ returns-in-Err-written-clause-cause g c =
     let up = c.loop-requests.invariant.faults in
     let on : faults c.loop-requests.conn ≤ faults c.read.new.conn = c.in-Ok-Some.ensures.cause p.sound in
     let under : faults c.args.conn.now ≤ faults c.read.new.conn = omega arith in
-    let cause = rw c.in-Err-written.is at c.take_turn-next.ensures.cause in
-    subst (λ (e : SessionEnd). SessionCause (faults c.args.conn.now) (faults c.take_turn-next.new.conn) e) (sym c.cut_end.ensures)
-    (cut_cause c.in-Err-written.error c.loop-requests.requests (faults c.args.conn.now) (faults c.read.new.conn) (faults c.take_turn-next.new.conn) under cause)
+    let cause = rw c.in-Err-written.is at c.take_turn-written.ensures.cause in
+    subst (λ (e : SessionEnd). SessionCause (faults c.args.conn.now) (faults c.take_turn-written.new.conn) e) (sym c.cut_end.ensures)
+    (cut_cause c.in-Err-written.error c.loop-requests.requests (faults c.args.conn.now) (faults c.read.new.conn) (faults c.take_turn-written.new.conn) under cause)
 
 pub returns-then-request-clause-session : goal.returns-then-request-clause-session
 returns-then-request-clause-session g c =
@@ -85,10 +85,10 @@ returns-then-request-clause-session g c =
     let faults = g.C.Source.read_faults in
     let read = rw c.in-Ok-Some.field-0-is at c.in-Ok-Some.ensures.reads in
     let before = c.loop-requests.invariant.progress.0 in
-    let turn = c.take_turn-next.ensures.turn before in
+    let turn = c.take_turn-written.ensures.turn before in
     let whole = rw c.in-Ok.is at turn.1 in (
       before ++ turn.0 ∷ [],
-      ends_closed (IsAnswered c.args.side) (edge_response c.args.side) _ _ _ _ c.loop-requests.reader c.loop-requests.requests p _ c.read.new.self c.in-Ok-Some.request (read p.sound) _ _ (faults c.args.conn.now) (faults c.take_turn-next.new.conn) whole c.if-request.true,
+      ends_closed (IsAnswered c.args.side) (edge_response c.args.side) _ _ _ _ c.loop-requests.reader c.loop-requests.requests p _ c.read.new.self c.in-Ok-Some.request (read p.sound) _ _ (faults c.args.conn.now) (faults c.take_turn-written.new.conn) whole c.if-request.true,
     )
 
 pub returns-then-request-clause-cause : goal.returns-then-request-clause-cause
@@ -97,8 +97,8 @@ returns-then-request-clause-cause g c =
     let faults = g.C.Source.read_faults in
     let up = c.loop-requests.invariant.faults in
     let on : faults c.loop-requests.conn ≤ faults c.read.new.conn = c.in-Ok-Some.ensures.cause p.sound in
-    let more : faults c.read.new.conn ≤ faults c.take_turn-next.new.conn = rw c.in-Ok.is at c.take_turn-next.ensures.cause in
-    (let h : faults c.args.conn.now ≤ faults c.take_turn-next.new.conn = omega arith in h)
+    let more : faults c.read.new.conn ≤ faults c.take_turn-written.new.conn = rw c.in-Ok.is at c.take_turn-written.ensures.cause in
+    (let h : faults c.args.conn.now ≤ faults c.take_turn-written.new.conn = omega arith in h)
 
 pub loop-requests-preserved : goal.loop-requests-preserved
 loop-requests-preserved g c =
@@ -106,17 +106,17 @@ loop-requests-preserved g c =
     let faults = g.C.Source.read_faults in
     let up = c.loop-requests.invariant.faults in
     let on : faults c.loop-requests.conn ≤ faults c.read.new.conn = c.in-Ok-Some.ensures.cause p.sound in
-    let more : faults c.read.new.conn ≤ faults c.take_turn-next.new.conn = rw c.in-Ok.is at c.take_turn-next.ensures.cause in
+    let more : faults c.read.new.conn ≤ faults c.take_turn-written.new.conn = rw c.in-Ok.is at c.take_turn-written.ensures.cause in
     let read = rw c.in-Ok-Some.field-0-is at c.in-Ok-Some.ensures.reads in
     let before = c.loop-requests.invariant.progress.0 in
-    let turn = c.take_turn-next.ensures.turn before in
+    let turn = c.take_turn-written.ensures.turn before in
     let whole = rw c.in-Ok.is at turn.1 in
     record {
       progress = (
         before ++ turn.0 ∷ [],
         goes_on (IsAnswered c.args.side) (edge_response c.args.side) _ _ _ _ c.loop-requests.reader c.loop-requests.requests p _ c.read.new.self c.in-Ok-Some.request (read p.sound) _ _ whole c.if-request.false (c.in-Ok-Some.ensures.failed p.sound),
       );
-      ready = c.take_turn-next.ensures.seats;
+      ready = c.take_turn-written.ensures.seats;
       faults = omega arith;
     }
 
@@ -128,7 +128,7 @@ returns-clause-session g c =
     let low = c.loop-requests.auto.requests-end in
     let high = c.loop-requests-test.false in
     let all : c.loop-requests.requests ≡ 4611686018427387904 = omega arith in
-    let old = account (standing g.A.Dial.dialled g.A.Dial.dial_faults g.P.Dial.dialled g.P.Dial.dial_faults g.S.Dial.dialled g.S.Dial.dial_faults g.K.Clock.shown c.args.node.now c.args.seats c.args.links.now c.args.clock.now) [] in
-    let new = account (standing g.A.Dial.dialled g.A.Dial.dial_faults g.P.Dial.dialled g.P.Dial.dial_faults g.S.Dial.dialled g.S.Dial.dial_faults g.K.Clock.shown c.args.node.now c.loop-requests.seats c.loop-requests.links c.loop-requests.clock) c.loop-requests.invariant.progress.0 in
+    let old = account (standing g.A.Dial.dialled g.A.Dial.dial_faults g.P.Dial.dialled g.P.Dial.dial_faults g.S.Dial.dialled g.S.Dial.dial_faults g.K.Clock.shown c.args.desk.now.node.now c.args.desk.now.seats c.args.desk.now.links c.args.desk.now.clock) [] in
+    let new = account (standing g.A.Dial.dialled g.A.Dial.dial_faults g.P.Dial.dialled g.P.Dial.dial_faults g.S.Dial.dialled g.S.Dial.dial_faults g.K.Clock.shown c.loop-requests.desk.node.now c.loop-requests.desk.seats c.loop-requests.desk.links c.loop-requests.desk.clock) c.loop-requests.invariant.progress.0 in
     let done = subst (λ (n : ℕ). Progress (IsAnswered c.args.side) old new (traffic c.args.conn.now) (traffic c.loop-requests.conn) c.loop-requests.reader n) all p in
     (c.loop-requests.invariant.progress.0, ends_spent (IsAnswered c.args.side) (edge_response c.args.side) _ _ _ _ (faults c.args.conn.now) (faults c.loop-requests.conn) c.loop-requests.reader 4611686018427387904 4611686018427387904 done refl refl)

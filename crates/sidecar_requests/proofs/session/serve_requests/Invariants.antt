@@ -9,9 +9,9 @@ use Rattle.sidecar_requests.proofs.session.serve_requests.Given as goal
 abbrev pub invariant-loop-requests : goal.invariant-loop-requests
 invariant-loop-requests g l = record {
   progress : (deeds : List Deed) × Progress (IsAnswered l.side)
-      (account (standing g.A.Dial.dialled g.A.Dial.dial_faults g.P.Dial.dialled g.P.Dial.dial_faults g.S.Dial.dialled g.S.Dial.dial_faults g.K.Clock.shown l.node l.initial.seats l.initial.links l.initial.clock) [])
-      (account (standing g.A.Dial.dialled g.A.Dial.dial_faults g.P.Dial.dialled g.P.Dial.dial_faults g.S.Dial.dialled g.S.Dial.dial_faults g.K.Clock.shown l.node l.seats l.links l.clock) deeds)
+      (account (standing g.A.Dial.dialled g.A.Dial.dial_faults g.P.Dial.dialled g.P.Dial.dial_faults g.S.Dial.dialled g.S.Dial.dial_faults g.K.Clock.shown l.initial.desk.node.now l.initial.desk.seats l.initial.desk.links l.initial.desk.clock) [])
+      (account (standing g.A.Dial.dialled g.A.Dial.dial_faults g.P.Dial.dialled g.P.Dial.dial_faults g.S.Dial.dialled g.S.Dial.dial_faults g.K.Clock.shown l.desk.node.now l.desk.seats l.desk.links l.desk.clock) deeds)
       (g.C.Source.read_traffic l.initial.conn) (g.C.Source.read_traffic l.conn) l.reader l.requests;
-  ready : IsSeatsOf l.node l.seats;
+  ready : IsSeatsOf l.desk.node.now l.desk.seats;
   faults : g.C.Source.read_faults l.initial.conn ≤ g.C.Source.read_faults l.conn;
 }

@@ -3,12 +3,14 @@ use Rattle.sidecar_requests.proofs.state.serve_held.Goals as goal
 
 pub returns-in_default-clause-served : goal.returns-in_default-clause-served
 returns-in_default-clause-served g c =
-    let x = c.exchange_held.ensures.held in (
+    let desk = c.args.desk.now in
+    let held = c.exchange_held in
+    let x = held.ensures.held in (
       x.0,
       x.1,
       x.2,
       x.3,
-      held_read c.args.node.now c.args.at.now c.exchange_held.new.seats c.args.actor c.args.ask c.args.n (g.K.Clock.shown c.args.clock.now) (g.K.Clock.shown c.exchange_held.new.clock) x.0 x.1 c.exchange_held.result c.in_default.not-Transact x.4,
+      held_read desk.node.now desk.links.store_at held.new.desk.seats c.args.actor c.args.ask c.args.n (g.K.Clock.shown desk.clock) (g.K.Clock.shown held.new.desk.clock) x.0 x.1 held.result c.in_default.not-Transact x.4,
     )
 
 pub returns-in-Transact-clause-served : goal.returns-in-Transact-clause-served

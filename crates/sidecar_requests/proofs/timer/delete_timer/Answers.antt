@@ -9,8 +9,8 @@ use Rattle.sidecar_requests.proofs.timer.delete_timer.Goals as goal
 pub returns-in-Err-clause-served : goal.returns-in-Err-clause-served
 returns-in-Err-clause-served g c = (
   [],
-  acts_none c.args.seats.now,
-  timer_wants c.args.node.now c.args.actor (Delete c.args.actor c.args.name) c.args.seats.now c.refused.result (g.K.Clock.shown c.args.clock.now) c.refused.ensures,
+  acts_none c.args.desk.now.seats,
+  timer_wants c.args.desk.now.node.now c.args.actor (Delete c.args.actor c.args.name) c.args.desk.now.seats c.refused.result (g.K.Clock.shown c.args.desk.now.clock) c.refused.ensures,
 )
 
 pub returns-in-Ok-clause-served : goal.returns-in-Ok-clause-served
@@ -18,5 +18,5 @@ returns-in-Ok-clause-served g c =
     let s = c.hold_timer.ensures.served in (
       s.0,
       s.1,
-      subst (λ (k : ActorKey). IsTimerServed c.args.node.now c.hold_timer.new.seats k (Delete c.args.actor c.args.name) (g.K.Clock.shown c.args.clock.now) (g.K.Clock.shown c.hold_timer.new.clock) s.0 [] c.hold_timer.result) c.in-Ok.ensures.hold s.2,
+      subst (λ (k : ActorKey). IsTimerServed c.args.desk.now.node.now c.hold_timer.new.seats k (Delete c.args.actor c.args.name) (g.K.Clock.shown c.args.desk.now.clock) (g.K.Clock.shown c.hold_timer.new.clock) s.0 [] c.hold_timer.result) c.in-Ok.ensures.hold s.2,
     )
