@@ -8,7 +8,7 @@ use placement_node::{RoomSeen, SeenRooms};
 const MOST_ROOMS: usize = 64;
 
 /// The rooms as they were seen last and when that was, in milliseconds since 1970; of each round that ran then, in order of the
-/// rooms, a moment before it began; and how many members were dropped since.
+/// rooms, a moment before it began, or the first Look if it ran at that; and how many members were dropped since.
 #[derive(Drop)]
 pub(crate) struct Sight {
     rooms: Option<SeenRooms>,
@@ -36,7 +36,12 @@ impl Sight {
     /// The rooms are so now. What has changed is said; of the first ones nothing is.
     pub(crate) fn show(&mut self, log: &EventLog, rooms: SeenRooms) {
         let now_ms = log.now_ms();
-        let mut since = [self.at_ms; MOST_ROOMS];
+        let last_ms = if self.rooms.is_some() {
+            self.at_ms
+        } else {
+            now_ms
+        };
+        let mut since = [last_ms; MOST_ROOMS];
         if let Some(seen) = self.rooms.take() {
             tell_rooms(log, seen.as_slice(), rooms.as_slice(), self.dropped);
             for at in 0..MOST_ROOMS {
