@@ -1,0 +1,11 @@
+pub mod Beginnings
+pub mod Histories
+pub mod Keeps
+pub mod Places
+pub mod Steps
+pub mod Duties
+pub mod Meetings
+pub mod Standing
+pub mod Views
+pub mod Gathering
+pub mod Paying
