@@ -32,14 +32,9 @@ may-draw space node nodes h = go (is_none (node_at space node nodes) && nat_le 6
 
 -- ---- the room for an acceptance
 
-pub room-number : {A B : Type 0} (a : Option A) (b : Option B) → 1 ≤ spare_of a b → is_some a ≡ true
-room-number None b h = absurd (omega arith)
-room-number (Some x) b h = refl
-
-pub room-lane : {A B : Type 0} (a : Option A) (b : Option B) → 1 ≤ spare_of a b → is_some b ≡ true
-room-lane None b h = absurd (omega arith)
-room-lane (Some x) None h = absurd (omega arith)
-room-lane (Some x) (Some y) h = refl
+pub room-lane : {A : Type 0} (a : Option A) → 1 ≤ spare_of a → is_some a ≡ true
+room-lane None h = absurd (omega arith)
+room-lane (Some x) h = refl
 
 pub none-is : {A : Type 0} (o : Option A) → is_some o ≡ false → o ≡ None
 none-is None h = refl

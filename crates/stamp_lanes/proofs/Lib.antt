@@ -1,3 +1,4 @@
+mod KeptFacts
 mod LaneFacts
 mod NodeFacts
 mod Draws

@@ -1,11 +1,7 @@
 -- The numbers that a lane keeps, with their answers, in the order in which they were accepted. Own.
-use Rattle.std.specs.Prelude.{◌≡◌, ℕ, ◌==◌, if◌then◌else◌, List, [], ◌∷◌, Option, None, Some, Box}
-use Rattle.std.specs.declared.alloc.Global.{Global}
+use Rattle.std.specs.Prelude.{◌≡◌, ℕ, ◌==◌, if◌then◌else◌, List, [], ◌∷◌, Option, None, Some}
 use Rattle.stamp_lanes.specs.declared.answer.LaneAnswer.{LaneAnswer}
 use Rattle.stamp_lanes.specs.declared.answer.KeptNumber.{KeptNumber}
-use Rattle.stamp_lanes.specs.declared.kept.Link.{Link}
-use Rattle.stamp_lanes.specs.declared.kept.Link.TheVariants.{End, More}
-use Rattle.stamp_lanes.specs.declared.kept.KeptNode.{KeptNode}
 
 -- the answer that is kept of a number
 abbrev pub kept_answer : ℕ → List KeptNumber → Option LaneAnswer
@@ -17,11 +13,7 @@ abbrev pub Differ : List KeptNumber → Type 0
 Differ [] = Unit {0}
 Differ (k ∷ ks) = (kept_answer k.number ks ≡ None) × Differ ks
 
-abbrev pub link_items : Link → List KeptNumber
-link_items End = []
-link_items (More n) = n.value.kept ∷ n.value.rest
-
 -- the first number is taken off, or there was none
-abbrev pub IsWithoutFirst : List KeptNumber → List KeptNumber → Option (Box KeptNode Global) → Type 0
+abbrev pub IsWithoutFirst : List KeptNumber → List KeptNumber → Option KeptNumber → Type 0
 IsWithoutFirst old new None = (old ≡ []) × (new ≡ [])
-IsWithoutFirst old new (Some n) = old ≡ n.value.kept ∷ new
+IsWithoutFirst old new (Some first) = old ≡ first ∷ new

@@ -2,11 +2,10 @@
 use Rattle.std.specs.Prelude.{ℕ, List, Option, None, Some}
 use Rattle.stamp_lanes.specs.declared.prepared.PreparedBoot.{PreparedBoot}
 
--- room for one acceptance is there if there is a node for its number and one for its lane
-abbrev pub spare_of : {A B : Type 0} → Option A → Option B → ℕ
-spare_of None lane = 0
-spare_of (Some number) None = 0
-spare_of (Some number) (Some lane) = 1
+-- room for one acceptance is there if there is a node for its lane
+abbrev pub spare_of : {A : Type 0} → Option A → ℕ
+spare_of None = 0
+spare_of (Some lane) = 1
 
 -- the node that draws it
 abbrev pub space_of : PreparedBoot → List ℕ

@@ -1,197 +1,117 @@
-// The numbers that a lane keeps, one after another. Each stands in a box of its own, which is made before its command
-// is accepted.
-ghost use Rattle.std.specs.Prelude.{◌≡◌, ◌<◌, ◌≤◌, ◌==◌, [], ◌∷◌, ◌++◌, length, MatchOption, IfOk};
-ghost use Rattle.stamp_lanes.specs.Kept.{kept_answer, link_items, IsWithoutFirst};
+// The numbers that a lane keeps, in a ring whose memory is taken once.
+ghost use Rattle.std.specs.Prelude.{◌≡◌, ◌<◌, ◌≤◌, ◌==◌, [], ◌∷◌, ◌++◌, length, IfOk};
+ghost use Rattle.stamp_lanes.specs.Kept.{kept_answer, IsWithoutFirst};
 
 use crate::answer::{KeptNumber, LaneAnswer};
 use actor_names::OutOfMemory;
 use std::alloc::Global;
+use std::collections::VecDeque;
 use std::marker::Model;
-use std::mem;
 
-/// Numbers and their answers in the order in which they were accepted; contracts see the list of them.
-#[cycle(kept)]
+/// The most numbers that a lane keeps.
+pub const MOST_KEPT: u16 = 256;
+
+/// Numbers and their answers in the order in which they were accepted, at most 256; contracts see the list of them.
 #[derive(Drop)]
 pub struct KeptNumbers {
-    len: u16,
-    top: Link,
-}
-
-#[cycle(kept)]
-#[derive(Drop)]
-pub(crate) enum Link {
-    End,
-    More(Box<KeptNode>),
-}
-
-/// A number, and those that were accepted after it.
-#[cycle(kept)]
-#[derive(Drop)]
-pub(crate) struct KeptNode {
-    pub(crate) kept: KeptNumber,
-    rest: KeptNumbers,
+    ring: VecDeque<KeptNumber>,
 }
 
 impl Model for KeptNumbers {
-    ghost use Rattle.std.specs.Prelude.{◌≡◌, List, length};
+    ghost use Rattle.std.specs.Prelude.{◌≤◌, List, length};
+    ghost use Rattle.std.specs.VecDeque.{deque_capacity};
     ghost use Rattle.stamp_lanes.specs.declared.answer.KeptNumber.{KeptNumber};
 
     ghost Value = { List KeptNumber };
 
-    ghost use Rattle.stamp_lanes.specs.Kept.{link_items};
+    ghost view = { λ a. a.ring.items };
 
-    ghost view = { λ a. link_items a.top };
+    ghost invariant = { λ a. (length a.ring.items ≤ 256) × (256 ≤ deque_capacity a.ring) };
+}
 
-    ghost invariant = { λ a. a.len ≡ length (link_items a.top) };
-
-    ghost size = { length };
-
-    ghost use Rattle.std.proofs.Common.{arith, length-append};
-
-    ghost size_decreases = { λ a h. Prim.grind (arith, length-append) };
+/// The answer that is kept of a number among these.
+pub(crate) fn answer_in(kept: &[KeptNumber], number: u64) -> Option<LaneAnswer>
+    ensures { result ≡ kept_answer number kept.now }
+{
+    for k in kept {
+        if k.number == number {
+            return Some(k.answer);
+        }
+    }
+    None
 }
 
 impl KeptNumbers {
-    /// No number; takes no memory.
-    pub fn new() -> KeptNumbers
-        ensures { result ≡ [] }
+    /// No number yet, and the memory for 256.
+    pub(crate) fn new(alloc: Global) -> Result<KeptNumbers, OutOfMemory>
+        ensures { IfOk result (λ numbers. numbers ≡ []) }
     {
-        KeptNumbers {
-            len: 0,
-            top: Link::End,
-        }
+        let ring = VecDeque::with_capacity(alloc, MOST_KEPT as usize)?;
+        Ok(KeptNumbers { ring })
+    }
+
+    /// These numbers, with memory for 256.
+    pub(crate) fn of(mut kept: Vec<KeptNumber>) -> Result<KeptNumbers, OutOfMemory>
+        requires { length kept.items ≤ 256 }
+        ensures { IfOk result (λ numbers. numbers ≡ kept.items) }
+    {
+        kept.reserve_exact(MOST_KEPT as usize - kept.len())?;
+        let ring = VecDeque::from_vec(kept);
+        Ok(KeptNumbers { ring })
     }
 
     /// How many there are.
     pub fn len(&self) -> u16
         ensures { result ≡ length self.now }
     {
-        self.len
+        self.ring.len() as u16
     }
 
     /// Whether there is none.
     pub fn is_empty(&self) -> bool
         ensures { result ≡ (length self.now == 0) }
     {
-        self.len == 0
+        self.ring.is_empty()
     }
 
-    // The first one, with what is after it.
-    fn open(self) -> Link
-        ensures { link_items result ≡ self }
+    /// All numbers, in two pieces.
+    pub fn as_slices(&self) -> (&[KeptNumber], &[KeptNumber])
+        ensures { self.now ≡ result.0.now ++ result.1.now }
     {
-        self.top
-    }
-
-    /// The first number, and those that were accepted after it; `None` if there is none.
-    pub fn split_first(&self) -> Option<(&KeptNumber, &KeptNumbers)>
-        ensures { MatchOption result (self.now ≡ []) (λ p. self.now ≡ p.0.now ∷ p.1.now) }
-    {
-        match &self.top {
-            Link::End => None,
-            Link::More(node) => Some((&node.kept, &node.rest)),
-        }
+        self.ring.as_slices()
     }
 
     /// The answer that is kept of a number.
     pub fn answer(&self, number: u64) -> Option<LaneAnswer>
         ensures { result ≡ kept_answer number self.now }
     {
-        match &self.top {
-            Link::End => None,
-            Link::More(node) => {
-                if node.kept.number == number {
-                    Some(node.kept.answer)
-                } else {
-                    node.rest.answer(number)
-                }
-            }
+        let (first, second) = self.ring.as_slices();
+        match answer_in(first, number) {
+            Some(answer) => Some(answer),
+            None => answer_in(second, number),
         }
     }
 
-    /// Takes off the first number, in its node.
-    pub(crate) fn take_first(&mut self) -> Option<Box<KeptNode>>
+    /// Takes all numbers out.
+    pub(crate) fn clear(&mut self)
+        ensures { self.new ≡ [] }
+    {
+        self.ring.clear();
+    }
+
+    /// Takes off the first number.
+    pub(crate) fn take_first(&mut self) -> Option<KeptNumber>
         ensures { IsWithoutFirst self.old self.new result }
     {
-        match emptied(self).open() {
-            Link::End => None,
-            Link::More(mut node) => {
-                *self = emptied(&mut node.rest);
-                Some(node)
-            }
-        }
+        self.ring.pop_front()
     }
 
-    /// Puts the number in this node at the end. It takes no memory.
-    pub(crate) fn push(&mut self, mut node: Box<KeptNode>)
-        requires { length self.old < 65535 }
-        ensures { self.new ≡ self.old ++ node.value.kept ∷ [] }
+    /// Puts a number at the end. It takes no memory.
+    pub(crate) fn push(&mut self, kept: KeptNumber)
+        requires { length self.old < 256 }
+        ensures { self.new ≡ self.old ++ kept ∷ [] }
     {
-        match emptied(self).open() {
-            Link::End => {
-                node.rest = KeptNumbers::new();
-                *self = close(node);
-            }
-            Link::More(mut first) => {
-                first.rest.push(node);
-                *self = close(first);
-            }
-        }
+        let KeptNumber { number, answer } = kept;
+        self.ring.push_back_reserved(KeptNumber { number, answer });
     }
-}
-
-// Takes the numbers out of their place and leaves none there.
-fn emptied(numbers: &mut KeptNumbers) -> KeptNumbers
-    ensures taken { result ≡ numbers.old }
-    ensures left { numbers.new ≡ [] }
-{
-    mem::replace(numbers, KeptNumbers::new())
-}
-
-// The numbers from this node on.
-fn close(node: Box<KeptNode>) -> KeptNumbers
-    requires { length node.value.rest < 65535 }
-    ensures { result ≡ node.value.kept ∷ node.value.rest }
-{
-    let len = node.rest.len + 1;
-    KeptNumbers {
-        len,
-        top: Link::More(node),
-    }
-}
-
-/// A node for a number.
-pub(crate) fn kept_node(alloc: Global, kept: KeptNumber) -> Result<Box<KeptNode>, OutOfMemory>
-    ensures { IfOk result (λ node. node.value.kept ≡ kept) }
-{
-    let node = Box::new(
-        alloc,
-        KeptNode {
-            kept,
-            rest: KeptNumbers::new(),
-        },
-    )?;
-    Ok(node)
-}
-
-/// The node with another number in it.
-pub(crate) fn with_kept(mut node: Box<KeptNode>, kept: KeptNumber) -> Box<KeptNode>
-    ensures { result.value.kept ≡ kept }
-{
-    node.kept = kept;
-    node
-}
-
-/// These numbers, each in a node.
-pub(crate) fn linked(alloc: Global, mut kept: Vec<KeptNumber>) -> Result<KeptNumbers, OutOfMemory>
-    requires { length kept.items ≤ 256 }
-    ensures { IfOk result (λ numbers. numbers ≡ kept.items) }
-{
-    let mut numbers = KeptNumbers::new();
-    while let Some(last) = kept.pop() {
-        let mut node = kept_node(alloc, last)?;
-        node.rest = numbers;
-        numbers = close(node);
-    }
-    Ok(numbers)
 }

@@ -10,13 +10,12 @@ ghost use Rattle.stamp_lanes.specs.Prepared.{space_of, node_of};
 
 use crate::answer::{KeptNumber, LaneAnswer, StampLook};
 use crate::error::{BootError, RestoreError, StampError};
-use crate::kept::{KeptNode, with_kept};
 use crate::lane::Lane;
 use crate::node::{MOST_NODES, NodeLanes, bare_leaf, counted, look_in, next_in, with_boot};
 use crate::nodes::{accept_in, put_lane_in};
 use crate::prepared::PreparedBoot;
 use crate::restored::{lane_fault, restored_lane};
-use crate::room::{fill_lane, fill_number};
+use crate::room::fill_lane;
 use crate::standing::{AfterNode, NodePlace};
 use actor_names::{MOST_BOOT, Member, Node, OutOfMemory, Space};
 use search_tree::Tree;
@@ -32,8 +31,7 @@ pub struct StampLanes {
     greatest: u64,
     // How many nodes there are; more than 65,536 count as that many.
     count: u32,
-    // Where the next accepted number will stand, and its lane if there is none yet.
-    number: Option<Box<KeptNode>>,
+    // Where the lane of the next accepted number will stand, if there is none yet.
     lane: Option<Box<search_tree::Node<Lane>>>,
     alloc: Global,
 }
@@ -44,7 +42,7 @@ impl Model for StampLanes {
 
     ghost Value = { LanesState };
 
-    ghost view = { λ a. record { spare = spare_of a.number a.lane; nodes = a.tree } };
+    ghost view = { λ a. record { spare = spare_of a.lane; nodes = a.tree } };
 
     ghost invariant = { λ a. IsSound a.tree a.greatest a.count };
 }
@@ -58,7 +56,6 @@ impl StampLanes {
             tree: Tree::new(),
             greatest: 0,
             count: 0,
-            number: None,
             lane: None,
             alloc,
         }
@@ -158,7 +155,6 @@ impl StampLanes {
         ensures nodes { self.new.nodes ≡ self.old.nodes }
         ensures err { OnErr result (self.new ≡ self.old) }
     {
-        fill_number(self.alloc, &mut self.number)?;
         fill_lane(self.alloc, &mut self.lane)?;
         Ok(())
     }
@@ -170,9 +166,8 @@ impl StampLanes {
         requires room { 1 ≤ self.old.spare }
         ensures { self.new.nodes ≡ after_accept member.now part (record { number = number; answer = answer }) self.old.nodes }
     {
-        let node = self.number.take().unwrap();
         let lane = self.lane.take().unwrap();
-        let kept = with_kept(node, KeptNumber { number, answer });
+        let kept = KeptNumber { number, answer };
         self.lane = accept_in(&mut self.tree, member, part, kept, lane);
     }
 

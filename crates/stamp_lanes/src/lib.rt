@@ -22,8 +22,8 @@ mod standing;
 
 pub use answer::{KeptNumber, LaneAnswer, StampLook};
 pub use error::{BootError, RestoreError, StampError};
-pub use kept::KeptNumbers;
-pub use lane::{Lane, MOST_KEPT};
+pub use kept::{KeptNumbers, MOST_KEPT};
+pub use lane::Lane;
 pub use lanes::StampLanes;
 pub use law::{lane_law, nodes_law, restored_law};
 pub use node::{MOST_NODES, NodeLanes};

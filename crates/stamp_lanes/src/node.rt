@@ -6,10 +6,9 @@ ghost use Rattle.stamp_lanes.specs.Lanes.{new_lane, lane_cmp, lane_of, lane_afte
 ghost use Rattle.std.specs.List.{AllByRecursion as Every};
 ghost use Rattle.stamp_lanes.specs.Stamps.{after_part, bare_node};
 
-use crate::answer::StampLook;
+use crate::answer::{KeptNumber, StampLook};
 use crate::error::StampError;
-use crate::kept::KeptNode;
-use crate::lane::Lane;
+use crate::lane::{Lane, stands};
 use crate::standing::{AfterPart, PartPlace};
 use actor_names::{Node, OutOfMemory, Space};
 use search_tree::{Tree, leaf};
@@ -89,7 +88,7 @@ pub(crate) fn look_in(lanes: &Tree<Lane>, part: u8, number: u64) -> Result<Stamp
     ensures { result ≡ look_lane number (lane_of part lanes.now) }
 {
     match lanes.get(&PartPlace { part }) {
-        None => Lane::new(part).look(number),
+        None => stands(number, 0, None),
         Some(lane) => lane.look(number),
     }
 }
@@ -117,17 +116,14 @@ pub(crate) fn lane_node(
 fn begun(mut room: Box<search_tree::Node<Lane>>, part: u8) -> Box<search_tree::Node<Lane>>
     ensures { result.value.element ≡ new_lane part }
 {
-    let _old = mem::replace(&mut room.element, Lane::new(part));
+    room.element.begin(part);
     room
 }
 
 // The node of a lane after one more number.
-fn longer(
-    mut lane: Box<search_tree::Node<Lane>>,
-    kept: Box<KeptNode>,
-) -> Box<search_tree::Node<Lane>>
+fn longer(mut lane: Box<search_tree::Node<Lane>>, kept: KeptNumber) -> Box<search_tree::Node<Lane>>
     requires { length lane.value.element.kept ≤ 256 }
-    ensures { result.value.element ≡ lane_after lane.value.element kept.value.kept }
+    ensures { result.value.element ≡ lane_after lane.value.element kept }
 {
     lane.element.keep(kept);
     lane
@@ -138,12 +134,12 @@ fn longer(
 pub(crate) fn keep_in(
     lanes: &mut Tree<Lane>,
     part: u8,
-    kept: Box<KeptNode>,
+    kept: KeptNumber,
     room: Box<search_tree::Node<Lane>>,
 ) -> Option<Box<search_tree::Node<Lane>>>
     requires order { Ascends lane_cmp lanes.old }
     requires each { Every IsLane lanes.old }
-    ensures { lanes.new ≡ lanes_after part kept.value.kept lanes.old }
+    ensures { lanes.new ≡ lanes_after part kept lanes.old }
 {
     match lanes.take(&PartPlace { part }) {
         None => {

@@ -5,7 +5,7 @@ ghost use Rattle.std.specs.List.{AllByRecursion as Every};
 ghost use Rattle.stamp_lanes.specs.Stamps.{node_cmp, node_after, after_accept, IsNode};
 ghost use Rattle.stamp_lanes.specs.Restores.{with_lane, after_lane_row};
 
-use crate::kept::KeptNode;
+use crate::answer::KeptNumber;
 use crate::lane::Lane;
 use crate::node::{NodeLanes, keep_in, put_in};
 use crate::standing::NodePlace;
@@ -16,11 +16,11 @@ use search_tree::{Node, Tree};
 fn accepted(
     mut node: Box<Node<NodeLanes>>,
     part: u8,
-    kept: Box<KeptNode>,
+    kept: KeptNumber,
     room: Box<Node<Lane>>,
 ) -> (Box<Node<NodeLanes>>, Option<Box<Node<Lane>>>)
     requires { IsNode node.value.element }
-    ensures { result.0.value.element ≡ node_after part kept.value.kept node.value.element }
+    ensures { result.0.value.element ≡ node_after part kept node.value.element }
 {
     let room = keep_in(&mut node.element.lanes, part, kept, room);
     (node, room)
@@ -41,12 +41,12 @@ pub(crate) fn accept_in(
     tree: &mut Tree<NodeLanes>,
     member: &Member,
     part: u8,
-    kept: Box<KeptNode>,
+    kept: KeptNumber,
     room: Box<Node<Lane>>,
 ) -> Option<Box<Node<Lane>>>
     requires order { Ascends node_cmp tree.old }
     requires each { Every IsNode tree.old }
-    ensures { tree.new ≡ after_accept member.now part kept.value.kept tree.old }
+    ensures { tree.new ≡ after_accept member.now part kept tree.old }
 {
     match tree.take(&NodePlace {
         space: &member.space,

@@ -1,38 +1,25 @@
 // A lane that is read back.
-ghost use Rattle.std.specs.Prelude.{◌≡◌, ◌≤◌, is_some, length, IfOk};
+ghost use Rattle.std.specs.Prelude.{◌≡◌, ◌≤◌, length, IfOk};
 ghost use Rattle.lists_and_limits.specs.Orders.{Ascends};
-ghost use Rattle.stamp_lanes.specs.Kept.{kept_answer};
 ghost use Rattle.stamp_lanes.specs.Lanes.{lane_cmp};
 ghost use Rattle.stamp_lanes.specs.Restores.{number_fault, numbers_fault, lane_fault};
 
 use crate::answer::KeptNumber;
 use crate::error::RestoreError;
-use crate::kept::linked;
-use crate::lane::{Lane, MOST_KEPT};
+use crate::kept::{KeptNumbers, MOST_KEPT, answer_in};
+use crate::lane::Lane;
 use crate::node::lane_node;
 use crate::standing::PartPlace;
 use actor_names::OutOfMemory;
 use search_tree::{Node, Tree};
 use std::alloc::Global;
 
-// Whether a number is one of these.
-fn has_number(kept: &[KeptNumber], number: u64) -> bool
-    ensures { result ≡ is_some (kept_answer number kept.now) }
-{
-    for k in kept {
-        if k.number == number {
-            return true;
-        }
-    }
-    false
-}
-
 // The fault of the first number that comes again.
 fn number_fault(kept: &[KeptNumber]) -> Option<RestoreError>
     ensures { result ≡ number_fault kept.now }
 {
     for (i, k) in kept.iter().enumerate() {
-        if has_number(&kept[i + 1..], k.number) {
+        if answer_in(&kept[i + 1..], k.number).is_some() {
             return Some(RestoreError::SameNumber { number: k.number });
         }
     }
@@ -71,6 +58,6 @@ pub(crate) fn restored_lane(
     requires { length kept.items ≤ 256 }
     ensures { IfOk result (λ node. node.value.element ≡ record { part = part; floor = floor; kept = kept.items }) }
 {
-    let kept = linked(alloc, kept)?;
+    let kept = KeptNumbers::of(kept)?;
     lane_node(alloc, Lane { part, floor, kept })
 }

@@ -1,5 +1,6 @@
 mod Examples
 mod FirstForms
+mod InPieces
 pub mod Acts
 pub mod Written
 pub mod RowLaws

@@ -91,17 +91,25 @@ fn put_number(out: &mut Vec<u8>, kept: &KeptNumber) -> Result<(), OutOfMemory>
     put_answer(out, kept.answer)
 }
 
+// Appends some of a lane's numbers one after another.
+fn put_piece(out: &mut Vec<u8>, numbers: &[KeptNumber]) -> Result<(), OutOfMemory>
+    requires { AllFit (in_any_order kept_number) None numbers.now }
+    ensures { OnOk result (out.new.items ≡ out.old.items ++ spell_all kept_number.spell numbers.now) }
+{
+    for number in numbers {
+        put_number(out, number)?;
+    }
+    Ok(())
+}
+
 // Appends the numbers one after another.
 fn put_number_list(out: &mut Vec<u8>, kept: &KeptNumbers) -> Result<(), OutOfMemory>
     requires { AllFit (in_any_order kept_number) None kept.now }
     ensures { OnOk result (out.new.items ≡ out.old.items ++ spell_all kept_number.spell kept.now) }
 {
-    let mut left = kept;
-    while let Some((first, others)) = left.split_first() {
-        put_number(out, first)?;
-        left = others;
-    }
-    Ok(())
+    let (first, second) = kept.as_slices();
+    put_piece(out, first)?;
+    put_piece(out, second)
 }
 
 /// Appends the numbers of a lane behind their count of two bytes.

@@ -23,11 +23,11 @@ returns-in-None c =
     let none : lane_at c.args.part c.args.lanes.now ≡ None = sym c.in-None.ensures.taken in
     c.put.ensures
     ∙ rw (c.longer-lane.ensures, c.begun.ensures, c.take.ensures.rest)
-    (kept-new c.args.part c.args.lanes.now c.requires.order c.args.kept.value.kept none)
+    (kept-new c.args.part c.args.lanes.now c.requires.order c.args.kept none)
 
 pub returns-in-Some : goal.returns-in-Some
 returns-in-Some c =
     let there : lane_at c.args.part c.args.lanes.now ≡ Some c.in-Some.old.value.element = sym c.in-Some.ensures.taken in
     c.put-in-Some.ensures
     ∙ rw (c.longer-lane-in-Some.ensures, c.take.ensures.rest)
-    (kept-there c.args.part c.args.lanes.now c.requires.order c.args.kept.value.kept c.in-Some.old.value.element there)
+    (kept-there c.args.part c.args.lanes.now c.requires.order c.args.kept c.in-Some.old.value.element there)

@@ -16,11 +16,11 @@ put-requires c = rw c.take.ensures.rest (cut_at c.accepted-node.result.0.value.e
 pub returns-in-None : goal.returns-in-None
 returns-in-None c =
     let none : node_at c.args.member.now.space c.args.member.now.node c.args.tree.now ≡ None = sym c.in-None.ensures.taken in
-    c.take.ensures.rest ∙ accept-none c.args.member.now c.args.part c.args.kept.value.kept c.args.tree.now none
+    c.take.ensures.rest ∙ accept-none c.args.member.now c.args.part c.args.kept c.args.tree.now none
 
 pub returns-in-Some : goal.returns-in-Some
 returns-in-Some c =
     let there : node_at c.args.member.now.space c.args.member.now.node c.args.tree.now ≡ Some c.in-Some.old.value.element = sym c.in-Some.ensures.taken in
     c.put.ensures
     ∙ rw (c.accepted-node.ensures, c.take.ensures.rest)
-    (accept-there c.args.member.now c.args.part c.args.kept.value.kept c.args.tree.now c.in-Some.old.value.element c.requires.order there)
+    (accept-there c.args.member.now c.args.part c.args.kept c.args.tree.now c.in-Some.old.value.element c.requires.order there)

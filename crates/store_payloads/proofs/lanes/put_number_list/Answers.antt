@@ -1,24 +1,24 @@
-use Rattle.std.proofs.Common.{◌≡◌, ℕ, List, ◌∷◌, ◌++◌, Some, sym, ap, subst, ◌∙◌, append_assoc}
+use Rattle.std.proofs.Common.{◌≡◌, ℕ, List, ◌++◌, None, Result, Ok, Err, sym, ap, ◌∙◌, subst, append_assoc}
+use Rattle.std.specs.Result.{OnOk}
 use Rattle.stamp_lanes.specs.declared.answer.KeptNumber.{KeptNumber}
 use Rattle.wire_fields.specs.Fields.{spell_all, in_any_order, AllFit}
 use Rattle.store_payloads.specs.Fields.{kept_number}
+use Rattle.store_payloads.proofs.InPieces.{spell-pieces, first-fits, second-fits}
 use Rattle.store_payloads.proofs.lanes.put_number_list.Goals as goal
 
--- the first number is written, and the others are left
-wrote_first : (left others : List KeptNumber) (first : KeptNumber) (out new total : List ℕ) → left ≡ first ∷ others → new ≡ out ++ kept_number.spell first → out ++ spell_all kept_number.spell left ≡ total → new ++ spell_all kept_number.spell others ≡ total
-wrote_first left others first out new total is wrote so_far =
-    ap (λ (l : List ℕ). l ++ spell_all kept_number.spell others) wrote ∙ append_assoc out (kept_number.spell first) (spell_all kept_number.spell others)
-    ∙ ap (λ (xs : List KeptNumber). out ++ spell_all kept_number.spell xs) (sym is) ∙ so_far
+-- both pieces are written
+wrote_both : {T E : Type 0} (r : Result T E) (first second all : List KeptNumber) (out mid new : List ℕ) → all ≡ first ++ second → mid ≡ out ++ spell_all kept_number.spell first
+    → OnOk r (new ≡ mid ++ spell_all kept_number.spell second) → OnOk r (new ≡ out ++ spell_all kept_number.spell all)
+wrote_both (Ok x) first second all out mid new is wrote written =
+    written ∙ ap (λ (l : List ℕ). l ++ spell_all kept_number.spell second) wrote ∙ append_assoc out (spell_all kept_number.spell first) (spell_all kept_number.spell second)
+    ∙ ap (λ (l : List ℕ). out ++ l) (sym (spell-pieces kept_number.spell first second) ∙ ap (spell_all kept_number.spell) (sym is))
+wrote_both (Err e) first second all out mid new is wrote written = tt
 
-pub put_number-requires : goal.put_number-requires
-put_number-requires c =
-    let fits = c.loop-first.invariant.0 in
-    (subst (λ (xs : List KeptNumber). AllFit (in_any_order kept_number) fits.0 xs) c.in-Some.ensures fits.1).0
+pub put_piece-requires : goal.put_piece-requires
+put_piece-requires c = first-fits kept_number None c.as_slices.result.0.now c.as_slices.result.1.now (subst (AllFit (in_any_order kept_number) None) c.as_slices.ensures c.requires)
 
-pub loop-first-preserved : goal.loop-first-preserved
-loop-first-preserved c =
-    let fits = c.loop-first.invariant.0 in
-    let others = (subst (λ (xs : List KeptNumber). AllFit (in_any_order kept_number) fits.0 xs) c.in-Some.ensures fits.1).1 in (
-      (Some c.in-Some.first.now, others),
-      wrote_first c.loop-first.left.now c.in-Some.others.now c.in-Some.first.now c.loop-first.out.items c.put_number.new.out.items _ c.in-Some.ensures c.in_ok-put_number.ensures c.loop-first.invariant.1,
-    )
+pub put_piece-requires-2 : goal.put_piece-requires-2
+put_piece-requires-2 c = second-fits kept_number None c.as_slices.result.0.now c.as_slices.result.1.now (subst (AllFit (in_any_order kept_number) None) c.as_slices.ensures c.requires)
+
+pub returns : goal.returns
+returns c = wrote_both c.put_piece-2.result c.as_slices.result.0.now c.as_slices.result.1.now c.args.kept.now c.args.out.now.items c.put_piece.new.out.items c.put_piece-2.new.out.items c.as_slices.ensures c.in_ok-put_piece.ensures c.put_piece-2.ensures

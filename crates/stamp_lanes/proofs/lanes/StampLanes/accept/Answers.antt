@@ -10,5 +10,5 @@ invariant_of-self c =
     let tree = c.self.inside.tree in
     let k : KeptNumber = record { number = c.args.number; answer = c.args.answer } in
     let fresh : look c.args.member.now c.args.part c.args.number tree ≡ Ok Fresh = rw (← c.self.view_is) at c.requires.fresh in
-    rw (c.accept_in.ensures, c.with_kept-kept.ensures)
+    rw c.accept_in.ensures
     (sound-accept c.args.member.now c.args.part k tree c.self.inside.greatest c.self.inside.count c.self.invariant fresh)
