@@ -18,3 +18,14 @@ mod Paired
 mod Migrating
 mod Migrated
 mod Whole
+mod ListExamples
+mod Listed
+mod Failing
+mod Chains
+mod Putting
+mod GoingOn
+mod Ahead
+mod Joining
+mod Answering
+mod Faulted
+mod Rooms

@@ -1,5 +1,7 @@
 pub mod Contents
 pub mod Store
+pub mod Lists
+pub mod Listings
 pub mod Compacts
 pub mod Migrations
 pub mod Opens

@@ -8,6 +8,7 @@
 mod compaction;
 mod ending;
 mod events;
+mod guard;
 mod law;
 mod machine;
 mod migration;
@@ -16,5 +17,6 @@ mod staging;
 mod store;
 
 pub use events::{CompactEnd, StoreEvent, StoreOutcome};
+pub use guard::{Guard, Guarded};
 pub use law::store_law;
 pub use store::Store;

@@ -22,9 +22,10 @@ use std::alloc::Global;
 use std::marker::Model;
 use store_payloads::{payload_law, write_command_payload};
 use store_tables::StoreTables;
-use tx_journal::{Journal, JournalError};
+use tx_journal::{Batch, Journal, JournalError};
 
 mod compact;
+mod list;
 
 /// What a store contains, behind a journal of two files. Contracts see the contents and the journal.
 #[derive(Drop)]
@@ -32,6 +33,7 @@ pub struct Store<D: Disk> {
     journal: Journal<D>,
     tables: StoreTables,
     alloc: Global,
+    batch: Option<Batch>,
 }
 
 impl<D: Disk> Model for Store<D> {
@@ -68,6 +70,15 @@ fn reopen() -> StoreAnswer
     ensures fits { AnswerFits result }
 {
     refused(StoreRefusal::Reopen)
+}
+
+// The answer of a command whose batch met a disk fault.
+#[tactic(auto, unfolding(wire_fields::specs::Fields::number64))]
+fn disk_fault() -> StoreAnswer
+    ensures is { result ≡ StoreAnswer.Refused StoreRefusal.DiskFault }
+    ensures fits { AnswerFits result }
+{
+    refused(StoreRefusal::DiskFault)
 }
 
 // What a command is refused for if its record isn't written.
@@ -154,6 +165,7 @@ impl<D: Disk> Store<D> {
                 journal,
                 tables,
                 alloc,
+                batch: None,
             });
         }
         match migrate(alloc, &mut journal, &mut tables) {
@@ -161,6 +173,7 @@ impl<D: Disk> Store<D> {
                 journal,
                 tables,
                 alloc,
+                batch: None,
             }),
             Err(error) => {
                 let (first, second) = close_pair(journal);
