@@ -82,6 +82,10 @@ pub memory_fits : AnswerFits (Refused OutOfMemory)
 unfolding store_refusal number64
 memory_fits = ((lit< tt, refl), (lit< tt, refl))
 
+pub reopen_fits : AnswerFits (Refused Reopen)
+unfolding store_refusal number64
+reopen_fits = ((lit< tt, refl), (lit< tt, refl))
+
 pub many_fits : (n : ℕ) → n ≤ 65535 → AnswerFits (Refused (TooManyOps n))
 unfolding store_refusal number64
 many_fits n few = (omega arith, (lit< tt, refl))

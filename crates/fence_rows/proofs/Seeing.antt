@@ -73,28 +73,22 @@ none_else s actor now answer told one two three = told
 stale_is : (epoch seen : ℕ) → epoch < seen → stale_answer epoch seen ≡ Some (answers.StaleEpoch seen)
 stale_is epoch seen low = grind (arith, nat_tests)
 
-fresh_is : (epoch seen : ℕ) → seen ≤ epoch → stale_answer epoch seen ≡ None
-fresh_is epoch seen least = grind (arith, nat_tests)
-
-many_is : (n : ℕ) → 999 < n → many_answer n ≡ Some (answers.Answer (Refused (TooManyOps n)))
-many_is n many = grind (arith, nat_tests)
-
-few_is : (n : ℕ) → n ≤ 999 → many_answer n ≡ None
-few_is n few = grind (arith, nat_tests)
-
 -- one of an epoch below the actor's
 pub stale_said : (epoch seen : ℕ) (ops : List StateOp) → epoch < seen → tx_answer epoch ops false seen ≡ Some (answers.StaleEpoch seen)
 stale_said epoch seen ops low = ap (λ (o : Option FencedAnswer). first_answer o (first_answer (reserved_answer (reserved_from 0 ops)) (many_answer (length ops)))) (stale_is epoch seen low)
 
-module _ (epoch seen : ℕ) (ops : List StateOp) (least : seen ≤ epoch) where
-  fresh_said : tx_answer epoch ops false seen ≡ first_answer (reserved_answer (reserved_from 0 ops)) (many_answer (length ops))
-  fresh_said = ap (λ (o : Option FencedAnswer). first_answer o (first_answer (reserved_answer (reserved_from 0 ops)) (many_answer (length ops)))) (fresh_is epoch seen least)
+pub none_or : (first later : Option FencedAnswer) → first_answer first later ≡ None → (first ≡ None) × (later ≡ None)
+none_or None later is = (refl, is)
+none_or (Some answer) later is = absurd (let e : Some answer ≡ None = is in cc)
 
-  reserved_said : (op : ℕ) → reserved_from 0 ops ≡ Some op → tx_answer epoch ops false seen ≡ Some (answers.ReservedKey op)
-  reserved_said op is = fresh_said ∙ ap (λ (r : Option ℕ). first_answer (reserved_answer r) (many_answer (length ops))) is
+few_in : (n : ℕ) → many_answer n ≡ None → n ≤ 999
+few_in n is = grind (arith, nat_tests)
 
-  free_said : reserved_from 0 ops ≡ None → tx_answer epoch ops false seen ≡ many_answer (length ops)
-  free_said free = fresh_said ∙ ap (λ (r : Option ℕ). first_answer (reserved_answer r) (many_answer (length ops))) free
+-- one that is the store's has room for the operation that sets the epoch
+pub not_many : (epoch seen : ℕ) (ops : List StateOp) → tx_answer epoch ops false seen ≡ None → length ops ≤ 999
+not_many epoch seen ops is =
+    let later = none_or (stale_answer epoch seen) (first_answer (reserved_answer (reserved_from 0 ops)) (many_answer (length ops))) is in
+    few_in (length ops) (none_or (reserved_answer (reserved_from 0 ops)) (many_answer (length ops)) later.1).1
 
 -- ---- the step of a transaction
 
@@ -118,15 +112,9 @@ module _ (old : StoreState) (now epoch : ℕ) (s : Stamp) (actor : ActorKey) (op
     said_at : tx_answer epoch ops old.journal.is_broken (actor_epoch actor now old.contents) ≡ tx_answer epoch ops false seen
     said_at = ap (λ (b : Bool). tx_answer epoch ops b (actor_epoch actor now old.contents)) works ∙ ap (tx_answer epoch ops false) (sym is)
 
-    pub moves_stale : epoch < seen → MovesTo (answers.StaleEpoch seen) old
-    moves_stale low = by_fence (answers.StaleEpoch seen) (said_at ∙ stale_said epoch seen ops low)
+    pub moves_refused : (answer : FencedAnswer) → tx_answer epoch ops false seen ≡ Some answer → MovesTo answer old
+    moves_refused answer is = by_fence answer (said_at ∙ is)
 
-    pub moves_reserved : seen ≤ epoch → (op : ℕ) → reserved_from 0 ops ≡ Some op → MovesTo (answers.ReservedKey op) old
-    moves_reserved least op there = by_fence (answers.ReservedKey op) (said_at ∙ reserved_said epoch seen ops least op there)
-
-    pub moves_many : seen ≤ epoch → reserved_from 0 ops ≡ None → 999 < length ops → MovesTo (answers.Answer (Refused (TooManyOps (length ops)))) old
-    moves_many least free many = by_fence (answers.Answer (Refused (TooManyOps (length ops)))) (said_at ∙ free_said epoch seen ops least free ∙ many_is (length ops) many)
-
-    pub moves_given : seen ≤ epoch → reserved_from 0 ops ≡ None → length ops ≤ 999 → (given : StoreAnswer) (new : StoreState) → Moves old (given_at (fenced.Tx epoch (Tx s actor ops)) now) given new → MovesTo (answers.Answer given) new
-    moves_given least free few given new moves =
-        inr (subst (λ (o : Option FencedAnswer). Follows o (given_at (fenced.Tx epoch (Tx s actor ops)) now) old (answers.Answer given) new) (sym (said_at ∙ free_said epoch seen ops least free ∙ few_is (length ops) few)) moves)
+    pub moves_given : tx_answer epoch ops false seen ≡ None → (given : StoreAnswer) (new : StoreState) → Moves old (given_at (fenced.Tx epoch (Tx s actor ops)) now) given new → MovesTo (answers.Answer given) new
+    moves_given none given new moves =
+        inr (subst (λ (o : Option FencedAnswer). Follows o (given_at (fenced.Tx epoch (Tx s actor ops)) now) old (answers.Answer given) new) (sym (said_at ∙ none)) moves)

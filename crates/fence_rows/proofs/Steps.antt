@@ -20,9 +20,10 @@ use Rattle.fence_rows.specs.declared.event.FencedEvent.TheVariants.{Command, Com
 use Rattle.fence_rows.specs.declared.event.FencedOutcome.{FencedOutcome}
 use Rattle.fence_rows.specs.declared.event.FencedOutcome.TheVariants.{Answer, CompactIs}
 use Rattle.fence_rows.specs.Epochs.{epoch_entry, actor_epoch}
-use Rattle.fence_rows.specs.Fences.{given_at, first_answer, reopen_answer, stale_answer, reserved_from, reserved_answer, many_answer, tx_answer, fence_answer, RunsOut, IsOfStore, Follows, HasShortEpoch}
+use Rattle.fence_rows.specs.Fences.{given_at, first_answer, reopen_answer, stale_answer, reserved_from, reserved_answer, many_answer, tx_answer, fence_answer, RunsOut, IsOfStore, Follows, FencedMoves, HasShortEpoch}
 use Rattle.fence_rows.specs.Events.{Allows}
 use Rattle.fence_rows.specs.Runs.{IsLasting, FencedHistory, Runs, EpochNeverFalls, about_to_leave, leaves_of, CrashKeepsEpoch}
+use Rattle.fence_rows.proofs.Seeing.{none_or}
 use Rattle.fence_rows.proofs.Settings.{at_key, epoch_at, Leaves, Own, Other, leaves_at, epoch_set, lasts}
 use Rattle.fence_rows.proofs.Contents.{Made, Same, Taken, made_of, compacted_same}
 use Rattle.fence_rows.proofs.Outcomes.{rows_after, accepted_rows}
@@ -34,7 +35,7 @@ Raises b e f = (before : ℕ) → IsLasting before e → IsLasting before f × (
 raises_same : (b : ActorKey) (e f : Option StateEntry) → f ≡ e → Raises b e f
 raises_same b e f same = subst (Raises b e) (sym same) (λ before lasting. (lasting, omega arith))
 
-raises_then : (b : ActorKey) (e f g : Option StateEntry) → Raises b e f → Raises b f g → Raises b e g
+pub raises_then : (b : ActorKey) (e f g : Option StateEntry) → Raises b e f → Raises b f g → Raises b e g
 raises_then b e f g first second before lasting =
     let one : IsLasting before f × (epoch_at before e ≤ epoch_at before f) = first before lasting in
     let two : IsLasting before g × (epoch_at before f ≤ epoch_at before g) = second before one.0 in
@@ -51,10 +52,6 @@ raises_set a b now epoch ops t u short least (Own own set) before lasting =
 raises_set a b now epoch ops t u short least (Other kept) before lasting = raises_same b (epoch_entry b t) (epoch_entry b u) kept before lasting
 
 -- ---- a transaction that isn't refused
-
-none_or : (first later : Option FencedAnswer) → first_answer first later ≡ None → (first ≡ None) × (later ≡ None)
-none_or None later is = (refl, is)
-none_or (Some answer) later is = absurd (let e : Some answer ≡ None = is in cc)
 
 fresh_or : (epoch seen : ℕ) → stale_answer epoch seen ≡ None → seen ≤ epoch
 fresh_or epoch seen is = grind (arith, nat_tests)
@@ -108,11 +105,14 @@ module _ (b : ActorKey) (old new : StoreState) where
   ran_same (fenced.Plain c) answer ran = absurd ran
   ran_same (fenced.Tx epoch c) answer ran = ran.1
 
-  pub allows_raises : (event : FencedEvent) (outcome : FencedOutcome) → Allows old event outcome new → RaisesOn
-  allows_raises (Command command now) (Answer answer) allows = elim allows.0 [
+  pub moves_raises : (command : FencedCommand) (now : ℕ) (answer : FencedAnswer) → FencedMoves old command now answer new → HasShortEpoch command → RaisesOn
+  moves_raises command now answer moves short = elim moves [
     | inl ran ↦ by_contents (ap (λ (s : StoreState). s.contents) (ran_same command answer ran))
-    | inr follows ↦ by_fence command now answer allows.2 (fence_answer command now old) refl follows
+    | inr follows ↦ by_fence command now answer short (fence_answer command now old) refl follows
   ]
+
+  pub allows_raises : (event : FencedEvent) (outcome : FencedOutcome) → Allows old event outcome new → RaisesOn
+  allows_raises (Command command now) (Answer answer) allows = moves_raises command now answer allows.0 allows.2
   allows_raises (Command command now) (CompactIs end) allows = absurd allows
   allows_raises (Compact least now) (Answer answer) allows = absurd allows
   allows_raises (Compact least now) (CompactIs end) allows = by_contents (compacted_same least now old end new allows)

@@ -6,6 +6,8 @@ use Rattle.state_rows.specs.declared.entry.StateEntry.{StateEntry}
 use Rattle.state_rows.specs.declared.op.StateOp.{StateOp}
 use Rattle.state_rows.specs.declared.op.StateOp.TheVariants.{Upsert, Delete}
 use Rattle.state_rows.specs.Entries.{entry_at, value_by}
+use Rattle.frame_wire.specs.declared.store_answer.StoreAnswer.{StoreAnswer}
+use Rattle.frame_wire.specs.declared.store_answer.StoreAnswer.TheVariants.{Value}
 use Rattle.frame_wire.specs.declared.store_command.StoreCommand.{StoreCommand}
 use Rattle.frame_wire.specs.declared.store_command.StoreCommand.TheVariants.{Tx}
 use Rattle.store_tables.specs.Tables.{Tables}
@@ -27,6 +29,11 @@ or_zero (Some epoch) = epoch
 abbrev pub epoch_in : Option (List ℕ) → ℕ
 epoch_in None = 0
 epoch_in (Some value) = or_zero (number_of 18446744073709551615 value)
+
+-- what an answer for the key tells of it
+abbrev pub epoch_told : Option StoreAnswer → ℕ
+epoch_told (Some (Value value)) = epoch_in (Some value)
+epoch_told answer = 0
 
 -- what stands at the key of an actor
 abbrev pub epoch_entry : ActorKey → Tables → Option StateEntry

@@ -14,8 +14,9 @@ ghost use Rattle.fence_rows.specs.Fences.{MayFence, HasShortEpoch, SeesEpoch, Fe
 
 use crate::epoch::{epoch_in, epoch_key};
 use crate::event::{FencedAnswer, FencedCommand};
-use crate::operations::{reserved_op, with_epoch};
+use crate::operations::with_epoch;
 use crate::plain::plain_answer;
+use crate::refusals::{refused, tx_refusal};
 use actor_names::ActorKey;
 use disk_model::Disk;
 use frame_wire::{Stamp, StateOps, StoreAnswer, StoreCommand, StoreRefusal};
@@ -24,13 +25,10 @@ use std::marker::Model;
 use store_core::{CompactEnd, Store};
 use tx_journal::JournalError;
 
-// The most operations of a fenced transaction; its own is one more.
-const MOST_OPS: usize = 999;
-
 /// A store whose transactions carry an epoch. Contracts see what it contains and its journal, as of the store within.
 #[derive(Drop)]
 pub struct Fenced<D: Disk> {
-    store: Store<D>,
+    pub(crate) store: Store<D>,
     alloc: Global,
 }
 
@@ -40,15 +38,6 @@ impl<D: Disk> Model for Fenced<D> {
     ghost Value = { StoreState };
 
     ghost view = { λ f. f.store };
-}
-
-// A refusal with the store's words.
-fn refused(refusal: StoreRefusal) -> FencedAnswer
-    ensures { result ≡ FencedAnswer.Answer (StoreAnswer.Refused refusal) }
-{
-    FencedAnswer::Answer {
-        answer: StoreAnswer::Refused { refusal },
-    }
 }
 
 impl<D: Disk> Fenced<D> {
@@ -138,15 +127,8 @@ impl<D: Disk> Fenced<D> {
             Ok(seen) => seen,
             Err(refusal) => return refused(refusal),
         };
-        if epoch < seen {
-            return FencedAnswer::StaleEpoch { seen };
-        }
-        if let Some(op) = reserved_op(ops.as_slice()) {
-            return FencedAnswer::ReservedKey { op };
-        }
-        let n = ops.as_slice().len();
-        if n > MOST_OPS {
-            return refused(StoreRefusal::TooManyOps { n: n as u64 });
+        if let Some(answer) = tx_refusal(epoch, seen, ops.as_slice()) {
+            return answer;
         }
         let Ok(ops) = with_epoch(self.alloc, ops, epoch) else {
             return refused(StoreRefusal::OutOfMemory);
