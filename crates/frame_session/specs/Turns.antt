@@ -1,9 +1,8 @@
 -- What the parts of a session do: one frame, and one piece of the stream. Own.
-use Rattle.std.specs.Prelude.{◌≡◌, ◌<◌, ◌≤◌, ◌^◌, ℕ, Bool, List, [], ◌∷◌, length, Option, Some, None, Result, Ok, Err}
+use Rattle.std.specs.Prelude.{◌≡◌, ◌<◌, ◌≤◌, ◌^◌, ℕ, Bool, List, [], ◌∷◌, Option, Some, None, Result, Ok, Err}
 use Rattle.actor_ports.specs.declared.port.PortError.{PortError}
 use Rattle.actor_ports.specs.declared.port.PortError.TheVariants as ports
 use Rattle.actor_ports.specs.Traffic.{Traffic}
-use Rattle.step_gate.specs.Gates.{SeatOf, Grows, seen_of}
 use Rattle.http_edge.specs.Carry.{Over, AtEnd, IsFront, nothing}
 use Rattle.frame_wire.specs.declared.error.FrameError.{FrameError}
 use Rattle.frame_wire.specs.declared.frame.Frame.{Frame}
@@ -13,6 +12,7 @@ use Rattle.frame_session.specs.declared.turn.Turn.{Turn}
 use Rattle.frame_session.specs.declared.turn.Turn.TheVariants.{Answered, Cut, Foreign, Spent}
 use Rattle.frame_session.specs.declared.fetch.Fetched.{Fetched}
 use Rattle.frame_session.specs.declared.fetch.Fetched.TheVariants.{Fed, Faulty, Ended}
+use Rattle.frame_session.specs.Exchanges.{Exchange}
 use Rattle.frame_session.specs.Rounds.{Round, IsRound}
 
 -- ---- an answer
@@ -28,29 +28,32 @@ Replies t0 t1 bytes (Err e) = (front : List ℕ) × IsCutAt e front bytes × Ove
 
 -- ---- a frame
 
-module _ {E R : Type 0} (event_of : Frame → ℕ → Option E) (answer_of : R → Option Frame) (breaks : R → Bool) where
-  -- the frame was one step, at the moment that the clock shows now
+-- What was made at a seat, and how many steps it knows, are parameters.
+module _
+    {E R Seat : Type 0} (made : List (Exchange E R) → Seat → Seat → Type 0) (known : Seat → ℕ)
+    (event_of : Frame → ℕ → Option E) (answer_of : R → Option Frame) (breaks : R → Bool) where
+  -- the frame was asked, at the moment that the clock shows now
   pub record Steps
-      {S : Type 0} (frame : Frame) (s0 s1 : SeatOf S E R) (m0 m1 : ℕ) (t0 t1 : Option Traffic)
+      (frame : Frame) (s0 s1 : Seat) (m0 m1 : ℕ) (t0 t1 : Option Traffic)
       (r : Round E R) (written : List ℕ) : Type 0 where
     pub round : IsRound event_of answer_of breaks r
     pub is : r.frame ≡ frame
-    pub made : Grows (r.made ∷ []) s0 s1
-    pub longer : length (seen_of s0) < length (seen_of s1)
-    pub small : length (seen_of s1) ≤ 2 ^ 62
+    pub asked_there : made (r.exchange ∷ []) s0 s1
+    pub longer : known s0 < known s1
+    pub small : known s1 ≤ 2 ^ 62
     pub now : r.now ≡ m1
     pub later : m0 ≤ m1
     pub over : Over t0 t1 (record { read = []; written = written })
 
   -- what came of a frame
-  abbrev pub Turns : {S : Type 0} → Frame → SeatOf S E R → SeatOf S E R → ℕ → ℕ → Option Traffic → Option Traffic → Turn → Type 0
+  abbrev pub Turns : Frame → Seat → Seat → ℕ → ℕ → Option Traffic → Option Traffic → Turn → Type 0
   Turns frame s0 s1 m0 m1 t0 t1 (Answered broken) =
-      (r : Round E R) × Steps frame s0 s1 m0 m1 t0 t1 r (frame_bytes r.answer) × (broken ≡ breaks r.made.entry.reply)
+      (r : Round E R) × Steps frame s0 s1 m0 m1 t0 t1 r (frame_bytes r.answer) × (broken ≡ breaks r.exchange.reply)
   Turns frame s0 s1 m0 m1 t0 t1 (Cut e broken) =
-      (r : Round E R) × (front : List ℕ) × Steps frame s0 s1 m0 m1 t0 t1 r front × IsCutAt e front (frame_bytes r.answer) × (broken ≡ breaks r.made.entry.reply)
+      (r : Round E R) × (front : List ℕ) × Steps frame s0 s1 m0 m1 t0 t1 r front × IsCutAt e front (frame_bytes r.answer) × (broken ≡ breaks r.exchange.reply)
   Turns frame s0 s1 m0 m1 t0 t1 Foreign = (event_of frame m1 ≡ None) × (s1 ≡ s0) × (m0 ≤ m1) × (t1 ≡ t0)
   Turns frame s0 s1 m0 m1 t0 t1 (Spent count) =
-      (e : E) × (event_of frame m1 ≡ Some e) × Grows [] s0 s1 × (length (seen_of s1) ≡ 2 ^ 62) × (count ≡ 2 ^ 62) × (m0 ≤ m1) × (t1 ≡ t0)
+      (e : E) × (event_of frame m1 ≡ Some e) × made [] s0 s1 × (known s1 ≡ 2 ^ 62) × (count ≡ 2 ^ 62) × (m0 ≤ m1) × (t1 ≡ t0)
 
 -- the count of faults rises if a cut comes of the connection
 abbrev pub TurnCause : ℕ → ℕ → Turn → Type 0

@@ -1,9 +1,9 @@
 // A session: the frames of one connection, one after the other.
 ghost use Rattle.std.specs.Prelude.{◌≡◌};
-ghost use Rattle.step_gate.specs.Gates.{IsSeatOf};
 ghost use Rattle.frame_session.specs.Sessions.{IsSession, SessionCause};
 
 use crate::answers::AnswersFrames;
+use crate::asked::Askable;
 use crate::ends::{cut_answer_end, cut_end, end_of_input};
 use crate::fetch::{Fetched, fetch_piece};
 use crate::turn::{Turn, take_turn};
@@ -11,23 +11,21 @@ use actor_ports::{Clock, Conn, SessionEnd};
 use frame_wire::FrameReader;
 use std::alloc::Global;
 use std::sync::Wait;
-use step_gate::{Gate, Machine, Seat};
 
-/// Answers the frames of a connection until it ends. Each frame is one step of the machine, at a moment of the clock,
-/// and its reply is written before the next frame is taken. The frames before a fault are answered. `Broken` comes exactly
-/// if a reply breaks the session off, whether or not it could be written. `requests` is the number of frames whose answers
-/// were written whole.
-pub fn frame_session<R: Wait, M: Machine, A: AnswersFrames<M>, C: Conn, K: Clock>(
+/// Answers the frames of a connection until it ends. Each frame is asked once, at a moment of the clock, and its reply is
+/// written before the next frame is taken. The frames before a fault are answered. `Broken` comes exactly if a reply breaks
+/// the session off, whether or not it could be written. `requests` is the number of frames whose answers were written whole.
+pub fn frame_session<R: Wait, G: Askable, A: AnswersFrames<G>, C: Conn, K: Clock>(
     rt: &R,
     alloc: Global,
-    gate: &Gate<M>,
-    seat: Seat<M>,
+    gate: &G,
+    seat: G::Seat,
     conn: &mut C,
     clock: &mut K,
-) -> (Seat<M>, SessionEnd)
-    requires { IsSeatOf M.moves gate.now seat }
-    ensures seat { IsSeatOf M.moves gate.now result.0 }
-    ensures session { IsSession A.event_of A.answer_of A.breaks_off seat result.0 (K.shown clock.old) (K.shown clock.new) (C.read_traffic conn.old) (C.read_traffic conn.new) result.1 }
+) -> (G::Seat, SessionEnd)
+    requires { G.seats gate.now seat }
+    ensures seat { G.seats gate.now result.0 }
+    ensures session { IsSession G.made G.known A.event_of A.answer_of A.breaks_off seat result.0 (K.shown clock.old) (K.shown clock.new) (C.read_traffic conn.old) (C.read_traffic conn.new) result.1 }
     ensures cause { SessionCause (C.read_faults conn.old) (C.read_faults conn.new) result.1 }
 {
     let mut seat = seat;
@@ -38,7 +36,7 @@ pub fn frame_session<R: Wait, M: Machine, A: AnswersFrames<M>, C: Conn, K: Clock
     let mut requests = 0u64;
     for _ in rt.forever() {
         match reader.next() {
-            Some(frame) => match take_turn::<R, M, A, C, K>(
+            Some(frame) => match take_turn::<R, G, A, C, K>(
                 rt, gate, &mut seat, frame, conn, clock, &mut out,
             ) {
                 Turn::Answered { broken } => {

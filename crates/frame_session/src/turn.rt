@@ -1,7 +1,6 @@
 // One frame of a session.
 ghost use Rattle.std.specs.Prelude.{◌≡◌, ◌≤◌, Some};
 ghost use Rattle.actor_ports.specs.Port.{HasCause};
-ghost use Rattle.step_gate.specs.Gates.{IsSeatOf};
 ghost use Rattle.http_edge.specs.Carry.{Writes};
 ghost use Rattle.frame_wire.specs.declared.frame.Frame.{Frame};
 ghost use Rattle.frame_wire.specs.Frames.{payload, IsFrame, frame_bytes};
@@ -9,11 +8,11 @@ ghost use Rattle.frame_session.specs.Rounds.{IsReply};
 ghost use Rattle.frame_session.specs.Turns.{Replies, Turns, TurnCause};
 
 use crate::answers::AnswersFrames;
+use crate::asked::Askable;
 use actor_ports::{Clock, Conn, PortError};
 use frame_wire::{Frame, write_frame};
 use http_edge::send;
 use std::sync::Wait;
-use step_gate::{Gate, Machine, Seat};
 
 /// What came of a frame.
 #[derive(Clone, Copy, Drop)]
@@ -24,7 +23,7 @@ pub(crate) enum Turn {
     Cut { error: PortError, broken: bool },
     /// It isn't sent to this machine.
     Foreign,
-    /// The gate makes no further step.
+    /// The machine makes no further step.
     Spent { count: u64 },
 }
 
@@ -42,12 +41,12 @@ fn write_answer<C: Conn>(answer: &Frame, conn: &mut C, out: &mut Vec<u8>) -> Res
 }
 
 // Writes the answer of a reply, and says whether the reply breaks the session off.
-fn reply_with<M: Machine, A: AnswersFrames<M>, C: Conn>(
-    reply: M::Reply,
+fn reply_with<G: Askable, A: AnswersFrames<G>, C: Conn>(
+    reply: G::Reply,
     conn: &mut C,
     out: &mut Vec<u8>,
 ) -> (bool, Result<(), PortError>)
-    requires { IsReply M.moves A.event_of reply }
+    requires { IsReply G.may_reply A.event_of reply }
     ensures says { result.0 ≡ A.breaks_off reply }
     ensures replies { (f : Frame) × (A.answer_of reply ≡ Some f) × Replies (C.read_traffic conn.old) (C.read_traffic conn.new) (frame_bytes f) result.1 }
     ensures cause { HasCause (C.read_faults conn.old) (C.read_faults conn.new) result.1 }
@@ -58,20 +57,20 @@ fn reply_with<M: Machine, A: AnswersFrames<M>, C: Conn>(
     (broken, written)
 }
 
-/// Gives a frame to the machine, at a moment of the clock, and writes the answer.
-pub(crate) fn take_turn<R: Wait, M: Machine, A: AnswersFrames<M>, C: Conn, K: Clock>(
+/// Asks a frame of the machine, at a moment of the clock, and writes the answer.
+pub(crate) fn take_turn<R: Wait, G: Askable, A: AnswersFrames<G>, C: Conn, K: Clock>(
     rt: &R,
-    gate: &Gate<M>,
-    seat: &mut Seat<M>,
+    gate: &G,
+    seat: &mut G::Seat,
     frame: Frame,
     conn: &mut C,
     clock: &mut K,
     out: &mut Vec<u8>,
 ) -> Turn
-    requires seat { IsSeatOf M.moves gate.now seat.old }
+    requires seat { G.seats gate.now seat.old }
     requires frame { IsFrame frame }
-    ensures seat { IsSeatOf M.moves gate.now seat.new }
-    ensures turn { Turns A.event_of A.answer_of A.breaks_off frame seat.old seat.new (K.shown clock.old) (K.shown clock.new) (C.read_traffic conn.old) (C.read_traffic conn.new) result }
+    ensures seat { G.seats gate.now seat.new }
+    ensures turn { Turns G.made G.known A.event_of A.answer_of A.breaks_off frame seat.old seat.new (K.shown clock.old) (K.shown clock.new) (C.read_traffic conn.old) (C.read_traffic conn.new) result }
     ensures cause { TurnCause (C.read_faults conn.old) (C.read_faults conn.new) result }
 {
     let now = clock.now_ms();
@@ -79,11 +78,11 @@ pub(crate) fn take_turn<R: Wait, M: Machine, A: AnswersFrames<M>, C: Conn, K: Cl
         None => return Turn::Foreign,
         Some(event) => event,
     };
-    let reply = match gate.call_in(rt, seat, event) {
+    let reply = match gate.ask(rt, seat, event) {
         Err(spent) => return Turn::Spent { count: spent.count },
         Ok(reply) => reply,
     };
-    let (broken, written) = reply_with::<M, A, C>(reply, conn, out);
+    let (broken, written) = reply_with::<G, A, C>(reply, conn, out);
     match written {
         Err(error) => Turn::Cut { error, broken },
         Ok(()) => Turn::Answered { broken },

@@ -76,7 +76,7 @@ impl<D: Disk + Drop + Send, K: Clock, N: Dial> Service<Pass<D, K, N>> for Placem
 
 // How many members a Tick has dropped by this reply; `None` if the node has lost its disk.
 fn dropped_by<D: Disk + Drop + Send>(reply: &NodeReply) -> Option<u32> {
-    if <PlacementFrames as AnswersFrames<PlacementNode<D>>>::breaks(reply) {
+    if <PlacementFrames as AnswersFrames<Gate<PlacementNode<D>>>>::breaks(reply) {
         return None;
     }
     match reply {
