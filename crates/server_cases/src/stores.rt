@@ -1,17 +1,15 @@
 // A store with its fence, in memory.
-ghost use Rattle.step_gate.specs.Gates.{IsSeatOf};
-ghost use Rattle.fence_rows.specs.Events.{Allows};
-
-use crate::sessions::{Link, add_told, gate_of, link_of};
+use crate::sessions::{Link, add_told, link_of};
 use crate::subject::{Disks, Subject};
 use actor_ports::SessionEnd;
 use case_texts::{add, cut};
 use disk_model::MemDisk;
 use fence_rows::Fenced;
+use frame_session::PlacedSeat;
+use group_gate::GroupGate;
 use placement_node::PlacementOpenError;
 use std::alloc::Global;
 use std::sync::Wait;
-use step_gate::{Gate, Seat};
 use store_core::CompactEnd;
 use store_server::store_session;
 use tx_journal::JournalError;
@@ -19,18 +17,22 @@ use tx_journal::JournalError;
 /// A fenced store in memory.
 pub(crate) type Memory = Fenced<MemDisk>;
 
-// The store behind this gate after a session over a connection, and how the session ended.
+// The store after a session over a connection, at the one place of a gate of its own, and how the session ended.
 fn served<R: Wait>(
     rt: &R,
     alloc: Global,
-    gate: Gate<Memory>,
-    seat: Seat<Memory>,
+    store: Memory,
     link: &mut Link,
-) -> (Memory, SessionEnd)
-    requires { IsSeatOf Allows gate seat }
-{
-    let (seat, end) = store_session(rt, alloc, &gate, seat, &mut link.conn, &mut link.clock);
-    (gate.close(rt, seat), end)
+) -> Option<(Memory, SessionEnd)> {
+    let (gate, seat) = GroupGate::new(alloc, store, 1).ok()?;
+    let mut seat = seat;
+    let place = gate.sit(&mut seat)?;
+    let placed = PlacedSeat { seat, place };
+    let (placed, end) = store_session(rt, alloc, &gate, placed, &mut link.conn, &mut link.clock);
+    let PlacedSeat { seat, place } = placed;
+    let mut seat = seat;
+    gate.rise(&mut seat, place);
+    Some((gate.close(rt, seat), end))
 }
 
 /// Serves a session over a connection, and appends how it ended and what it wrote.
@@ -41,8 +43,7 @@ pub(crate) fn serve<R: Wait>(
     link: &mut Link,
     text: &mut String,
 ) -> Option<()> {
-    let (gate, seat) = gate_of(alloc, kept.take()?)?;
-    let (store, end) = served(rt, alloc, gate, seat, link);
+    let (store, end) = served(rt, alloc, kept.take()?, link)?;
     *kept = Some(store);
     add_told(alloc, end, link.conn.written(), text)
 }

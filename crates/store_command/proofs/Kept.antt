@@ -8,14 +8,14 @@ use Rattle.store_tables.specs.Tables.{Tables}
 use Rattle.store_core.specs.Contents.{OpensWith}
 use Rattle.store_core.specs.Store.{StoreState}
 use Rattle.store_core.specs.Opens.{OpensStore, KeepsStore, RefusesStore, IsStoreOpenError}
-use Rattle.store_core.specs.Runs.{Stands, RisksOneCommand}
-use Rattle.fence_rows.specs.Runs.{FencedHistory, Runs, KeepsAcknowledged}
+use Rattle.store_core.specs.Runs.{Stands}
+use Rattle.fence_rows.specs.Groups.{GroupHistory, GroupRuns, FlattensGroups}
 use Rattle.server_ports.specs.Hosts.{Handed, Hands, nothing_handed, back_with}
 use Rattle.server_ports.proofs.Handed.{hands_nothing, hands_both}
 use Rattle.store_command.specs.declared.command.StoreEnd.{StoreEnd}
 use Rattle.store_command.specs.declared.command.StoreEnd.TheVariants as ends
 use Rattle.store_command.specs.Commands.{second_path}
-use Rattle.store_command.specs.Runs.{KeepsAll, ServesStore, sides_told, IsServedEnd, EndsStore, end_of, RefusesPair, RunsPair, RunsFirst, RunsStore, IsUnopened, given_back, first_opened, second_opened}
+use Rattle.store_command.specs.Runs.{ServesStore, sides_told, IsServedEnd, EndsStore, end_of, RefusesPair, RunsPair, RunsFirst, RunsStore, IsUnopened, given_back, first_opened, second_opened}
 
 -- ---- a store that was just opened
 
@@ -33,31 +33,22 @@ opened_stands create before s opened works = record {
 
 -- ---- from there on
 
-pub keeps_all : KeepsAcknowledged → RisksOneCommand → (old new : StoreState) (h : FencedHistory) → Stands old.contents old → Runs old h new → KeepsAll old h new
-keeps_all keeps risks old new h stands leads =
-    let kept = keeps old.contents old new h stands leads in
-    record { kept = kept; each = risks old kept.given }
-
-pub serves : KeepsAcknowledged → RisksOneCommand → (old new : StoreState) (h : FencedHistory) → Stands old.contents old → Runs old h new → ServesStore old (sides_told new.journal)
-serves keeps risks old new h stands leads = record { history = h; last = new; leads = leads; keeps = keeps_all keeps risks old new h stands leads; returned = refl }
-
--- nothing has happened to it
-pub serves_nothing : KeepsAcknowledged → RisksOneCommand → (s : StoreState) → Stands s.contents s → ServesStore s (sides_told s.journal)
-serves_nothing keeps risks s stands = serves keeps risks s s [] stands refl
+pub serves : FlattensGroups → (old new : StoreState) (h : GroupHistory) → Stands old.contents old → GroupRuns old h new → ServesStore old (sides_told new.journal)
+serves flattens old new h stands leads = record { history = h; last = new; leads = leads; keeps = flattens old.contents old new h stands leads; returned = refl }
 
 -- ---- what was handed back of an open store
 
-pub served_with : KeepsAcknowledged → RisksOneCommand → (s last : StoreState) (h : FencedHistory) (end : StoreEnd) (before mid after : Option Handed)
-    → Stands s.contents s → Runs s h last → IsServedEnd end → mid ≡ before → Hands mid (given_back (sides_told last.journal)) after
+pub served_with : FlattensGroups → (s last : StoreState) (h : GroupHistory) (end : StoreEnd) (before mid after : Option Handed)
+    → Stands s.contents s → GroupRuns s h last → IsServedEnd end → mid ≡ before → Hands mid (given_back (sides_told last.journal)) after
     → (back : List (Option DiskState)) × Hands before (given_back back) after × EndsStore s end back
-served_with keeps risks s last h end before mid after stands leads opened same hands =
-    (sides_told last.journal, subst (λ (m : Option Handed). Hands m (given_back (sides_told last.journal)) after) same hands, inl (opened, serves keeps risks s last h stands leads))
+served_with flattens s last h end before mid after stands leads opened same hands =
+    (sides_told last.journal, subst (λ (m : Option Handed). Hands m (given_back (sides_told last.journal)) after) same hands, inl (opened, serves flattens s last h stands leads))
 
 -- it wasn't served
-pub unserved : KeepsAcknowledged → RisksOneCommand → (s : StoreState) (end : StoreEnd) (before mid after : Option Handed)
+pub unserved : FlattensGroups → (s : StoreState) (end : StoreEnd) (before mid after : Option Handed)
     → Stands s.contents s → IsServedEnd end → mid ≡ before → Hands mid (given_back (sides_told s.journal)) after
     → (back : List (Option DiskState)) × Hands before (given_back back) after × EndsStore s end back
-unserved keeps risks s end before mid after stands opened same hands = served_with keeps risks s s [] end before mid after stands refl opened same hands
+unserved flattens s end before mid after stands opened same hands = served_with flattens s s [] end before mid after stands refl opened same hands
 
 -- it is lost with its disks
 pub lost : (s : StoreState) (before after : Option Handed) → after ≡ before → (back : List (Option DiskState)) × Hands before (given_back back) after × EndsStore s ends.OutOfMemory back

@@ -8,22 +8,21 @@ use Rattle.tx_journal.specs.Calls.{Side, JournalState, told, tell_both, first_si
 use Rattle.tx_journal.specs.Pair.{Files}
 use Rattle.store_core.specs.Store.{StoreState}
 use Rattle.store_core.specs.Opens.{OpensStore, KeepsStore, RefusesStore, IsStoreOpenError}
-use Rattle.store_core.specs.Runs.{RisksEach}
-use Rattle.fence_rows.specs.Runs.{FencedHistory, Runs, Keeps}
+use Rattle.fence_rows.specs.Groups.{GroupHistory, GroupRuns, Flattens}
 use Rattle.store_command.specs.Commands.{second_path}
 use Rattle.store_command.specs.declared.command.StoreEnd.{StoreEnd}
 use Rattle.store_command.specs.declared.command.StoreEnd.TheVariants as ends
 
 -- ---- a store that was opened
 
--- What a crash leaves of a store's files while these entries of the fenced store lead from one state to another. They are
--- steps of the store with the commands that the fence gave it, whose acknowledged ones alone lead to the contents, and no
--- stamp is acknowledged twice; at the end a crash leaves the last contents or, after a fault, perhaps those of the command
--- that met it. Whatever a crash leaves at any moment of a step of the store opens with the contents before the step, or
--- with those that it is about to leave; an answer of the fence is no step.
-pub record KeepsAll (old : StoreState) (entries : FencedHistory) (new : StoreState) : Type 0 where
-  pub kept : Keeps old.contents old entries new
-  pub each : RisksEach old kept.given
+-- What a crash leaves of a store's files while these entries of the fenced store, each a list of what was asked with its
+-- answers, lead from one state to another. They come to single steps with the same answers, whose acknowledged commands
+-- alone lead to what was acknowledged, and no stamp is acknowledged twice. At the end a crash leaves that or, after a
+-- fault, perhaps what was ahead: what the command that met it was about to leave, or all of its batch. Whatever a crash
+-- leaves at any moment of a part, which is one event or one batch, opens with the contents before the part, or with those
+-- to which the whole part leads.
+abbrev pub KeepsAll : StoreState → GroupHistory → StoreState → Type 0
+KeepsAll old entries new = Flattens old.contents old entries new
 
 abbrev pub side_told : Option Side → List (Option DiskState)
 side_told None = []
@@ -33,12 +32,12 @@ side_told (Some side) = side.told ∷ []
 abbrev pub sides_told : JournalState → List (Option DiskState)
 sides_told j = (first_side j).told ∷ side_told (second_side j)
 
--- All that happened to an open store was one legal history of the fenced store's steps, and its disks were given back as
--- the last step left them.
+-- All that happened to an open store was one legal history of the fenced store's steps, each by what was asked together,
+-- and its disks were given back as the last step left them.
 pub record ServesStore (s : StoreState) (back : List (Option DiskState)) : Type 0 where
-  pub history : FencedHistory
+  pub history : GroupHistory
   pub last : StoreState
-  pub leads : Runs s history last
+  pub leads : GroupRuns s history last
   pub keeps : KeepsAll s history last
   pub returned : back ≡ sides_told last.journal
 

@@ -12,12 +12,11 @@ use crate::command::StoreEnd;
 use actor_ports::{Clock, Dial, PortError};
 use command_words::ServerWords;
 use event_log::EventLog;
-use fence_rows::{Fenced, fence_law};
+use fence_rows::{Fenced, group_law};
 use server_ports::{Host, ServerEnd};
 use std::alloc::Global;
 use std::sync::Wait;
 use std::thread::Threads;
-use store_core::store_law;
 use store_server::{StoreServed, serve_store};
 
 // How the command ends if the port isn't bound.
@@ -83,8 +82,7 @@ fn serve_bound<R: Threads + Wait + Sync, H: Host, N: Dial, K: Clock>(
     ensures done { result ≡ StoreEnd.Done → (H.open_faults host.new ≡ H.open_faults host.old) × (H.bind_faults host.new ≡ H.bind_faults host.old) × IsSome words.now.sessions }
     ensures ran { (back : List (Option DiskState)) × Hands (H.handed host.old) (given_back back) (H.handed host.new) × EndsStore store result back }
 {
-    store_law();
-    fence_law();
+    group_law();
     let (Ok(net), Ok(clock)) = (net.another(), clock.another()) else {
         host.done_port(port);
         give_back(host, store);
@@ -133,8 +131,7 @@ pub(crate) fn serve_opened<R: Threads + Wait + Sync, H: Host, N: Dial, K: Clock>
     ensures bound { result ≡ StoreEnd.Done → AsksAt (place_of words.now.listen) (H.asked host.old) (H.asked host.new) }
     ensures ran { (back : List (Option DiskState)) × Hands (H.handed host.old) (given_back back) (H.handed host.new) × EndsStore store result back }
 {
-    store_law();
-    fence_law();
+    group_law();
     match host.bind(&words.listen) {
         Ok(port) => serve_bound(rt, alloc, store, port, words, host, net, clock, log),
         Err(error) => {

@@ -1,5 +1,8 @@
 -- A command that a frame asks for may be given to the store, and is answered by what fits.
-use Rattle.std.proofs.Common.{◌≡◌, ◌<◌, ◌^◌, ℕ, List, Some, refl, sym, subst, arith, lit<}
+use Rattle.std.proofs.Common.{◌≡◌, ◌<◌, ◌^◌, inl, inr, ℕ, zero, suc, List, [], ◌∷◌, Some, refl, subst, lit<}
+use mathlib.Core.Option as m
+use lib.ListN.{get_elem?}
+use Rattle.std.specs.List.{AllByRecursion}
 use Rattle.actor_names.specs.declared.actor_key.ActorKey.{ActorKey}
 use Rattle.state_rows.specs.declared.op.StateOp.{StateOp}
 use Rattle.wire_fields.specs.Fields.{number64}
@@ -25,9 +28,11 @@ use Rattle.fence_rows.specs.declared.event.FencedOutcome.{FencedOutcome}
 use Rattle.fence_rows.specs.declared.event.FencedOutcome.TheVariants.{Answer, CompactIs}
 use Rattle.fence_rows.specs.Fences.{FencedAnswerFits}
 use Rattle.fence_rows.specs.Events.{Takes, Allows}
+use Rattle.fence_rows.specs.Together.{OneByOne, SharedFits, AllowsAll}
 use Rattle.frame_session.specs.Rounds.{IsReply}
+use Rattle.frame_session.specs.AtGroupGate.{GroupReplies}
 use Rattle.store_server.specs.Commands.{store_event, fenced_answer}
-use Rattle.store_server.specs.Laws.{IsAnswered}
+use Rattle.store_server.specs.Laws.{IsAnswered, AnswersCommands}
 
 -- ---- what a frame asks for
 
@@ -70,42 +75,65 @@ fenced_fits (fence.ReservedKey op) short = reserved_fits op short
 fenced_fits fence.Unfenced u = unfenced_fits
 
 -- the outcome of a command is an answer that fits
-abbrev pub IsFitting : FencedOutcome → Type 0
-IsFitting (Answer answer) = FencedAnswerFits answer
-IsFitting (CompactIs end) = ⊥
-
-fitting : (old new : StoreState) (c : FencedCommand) (now : ℕ) (r : FencedOutcome) → Allows old (Command c now) r new → IsFitting r
+fitting : (old new : StoreState) (c : FencedCommand) (now : ℕ) (r : FencedOutcome) → Allows old (Command c now) r new → SharedFits r
 fitting old new c now (Answer answer) a = a.1
 fitting old new c now (CompactIs end) a = absurd a
 
-pub command_fitting : (old new : StoreState) (frame : Frame) (now : ℕ) (e : FencedEvent) (r : FencedOutcome) → store_event frame now ≡ Some e → Allows old e r new → IsFitting r
-command_fitting old new (frames.Command c) now e r is a =
-    let same : e ≡ Command (fenced.Plain c) now = cc in
-    fitting old new (fenced.Plain c) now r (subst (λ (x : FencedEvent). Allows old x r new) same a)
-command_fitting old new (frames.FencedTx epoch s actor ops) now e r is a =
-    let same : e ≡ Command (fenced.Tx epoch (Tx s actor ops)) now = cc in
-    fitting old new (fenced.Tx epoch (Tx s actor ops)) now r (subst (λ (x : FencedEvent). Allows old x r new) same a)
-command_fitting old new (frames.Register h) now e r is a = absurd cc
-command_fitting old new (frames.Beat m) now e r is a = absurd cc
-command_fitting old new (frames.Ack m stage version) now e r is a = absurd cc
-command_fitting old new (frames.Leave m) now e r is a = absurd cc
-command_fitting old new (frames.Lock version) now e r is a = absurd cc
-command_fitting old new (frames.Update version hosts) now e r is a = absurd cc
-command_fitting old new (frames.Unlock version) now e r is a = absurd cc
-command_fitting old new frames.Idle now e r is a = absurd cc
-command_fitting old new (frames.Refused refusal) now e r is a = absurd cc
-command_fitting old new frames.Gone now e r is a = absurd cc
-command_fitting old new (frames.Mirror command) now e r is a = absurd cc
-command_fitting old new (frames.Mirrored answer) now e r is a = absurd cc
-command_fitting old new (frames.Answer answer) now e r is a = absurd cc
+-- also one of several events that are given together
+fitting_each : (old new : StoreState) (es : List FencedEvent) (rs : List FencedOutcome) (k : ℕ) (c : FencedCommand) (now : ℕ) (r : FencedOutcome)
+    → OneByOne old es rs new → get_elem? es k ≡ m.some (Command c now) → get_elem? rs k ≡ m.some r → SharedFits r
+fitting_each old new [] rs k c now r each at given = absurd cc
+fitting_each old new (e ∷ es) [] k c now r each at given = absurd cc
+fitting_each old new (e ∷ es) (x ∷ xs) zero c now r each at given =
+    let asked : e ≡ Command c now = cc in
+    let told : x ≡ r = cc in
+    fitting old each.0 c now r (subst (λ (y : FencedOutcome). Allows old (Command c now) y each.0) told (subst (λ (y : FencedEvent). Allows old y x each.0) asked each.1))
+fitting_each old new (e ∷ es) (x ∷ xs) (suc k) c now r each at given = fitting_each each.0 new es xs k c now r each.2 at given
 
-answered_by : (r : FencedOutcome) → IsFitting r → IsAnswered r
+fitting_shared : (rs : List FencedOutcome) (k : ℕ) (r : FencedOutcome) → AllByRecursion SharedFits rs → get_elem? rs k ≡ m.some r → SharedFits r
+fitting_shared [] k r fits given = absurd cc
+fitting_shared (x ∷ xs) zero r fits given = let told : x ≡ r = cc in subst SharedFits told fits.0
+fitting_shared (x ∷ xs) (suc k) r fits given = fitting_shared xs k r fits.1 given
+
+fitting_in : (old new : StoreState) (es : List FencedEvent) (rs : List FencedOutcome) (k : ℕ) (c : FencedCommand) (now : ℕ) (r : FencedOutcome)
+    → AllowsAll old es rs new → get_elem? es k ≡ m.some (Command c now) → get_elem? rs k ≡ m.some r → SharedFits r
+fitting_in old new es rs k c now r (inl each) at given = fitting_each old new es rs k c now r each at given
+fitting_in old new es rs k c now r (inr shared) at given = fitting_shared rs k r shared.fits given
+
+-- the event of a frame is a command
+abbrev IsCommand : FencedEvent → Type 0
+IsCommand e = (c : FencedCommand) × (now : ℕ) × (e ≡ Command c now)
+
+asks_command : (frame : Frame) (now : ℕ) (e : FencedEvent) → store_event frame now ≡ Some e → IsCommand e
+asks_command (frames.Command c) now e is = (fenced.Plain c, now, cc)
+asks_command (frames.FencedTx epoch s actor ops) now e is = (fenced.Tx epoch (Tx s actor ops), now, cc)
+asks_command (frames.Register h) now e is = absurd cc
+asks_command (frames.Beat m) now e is = absurd cc
+asks_command (frames.Ack m stage version) now e is = absurd cc
+asks_command (frames.Leave m) now e is = absurd cc
+asks_command (frames.Lock version) now e is = absurd cc
+asks_command (frames.Update version hosts) now e is = absurd cc
+asks_command (frames.Unlock version) now e is = absurd cc
+asks_command frames.Idle now e is = absurd cc
+asks_command (frames.Refused refusal) now e is = absurd cc
+asks_command frames.Gone now e is = absurd cc
+asks_command (frames.Mirror command) now e is = absurd cc
+asks_command (frames.Mirrored answer) now e is = absurd cc
+asks_command (frames.Answer answer) now e is = absurd cc
+
+pub command_fitting : (old new : StoreState) (es : List FencedEvent) (rs : List FencedOutcome) (frame : Frame) (now k : ℕ) (e : FencedEvent) (r : FencedOutcome)
+    → store_event frame now ≡ Some e → AllowsAll old es rs new → get_elem? es k ≡ m.some e → get_elem? rs k ≡ m.some r → SharedFits r
+command_fitting old new es rs frame now k e r is a at given =
+    let command = asks_command frame now e is in
+    fitting_in old new es rs k command.0 command.1 r a (subst (λ (y : FencedEvent). get_elem? es k ≡ m.some y) command.2 at) given
+
+answered_by : (r : FencedOutcome) → SharedFits r → IsAnswered r
 answered_by (Answer answer) fits = (answer, refl, fenced_fits answer fits)
 answered_by (CompactIs end) none = absurd none
 
-pub command_answered : (old new : StoreState) (frame : Frame) (now : ℕ) (e : FencedEvent) (r : FencedOutcome) → store_event frame now ≡ Some e → Allows old e r new → IsAnswered r
-command_answered old new frame now e r is a = answered_by r (command_fitting old new frame now e r is a)
+pub command_answered : AnswersCommands
+command_answered old new es rs frame now k e r is a at given = answered_by r (command_fitting old new es rs frame now k e r is a at given)
 
 -- an outcome that the store gave to a frame
-pub reply_is_fitting : (r : FencedOutcome) → IsReply Allows store_event r → IsFitting r
-reply_is_fitting r a = command_fitting a.0 a.1 a.2 a.3 a.4 r a.6 a.7
+pub reply_is_fitting : (r : FencedOutcome) → IsReply (GroupReplies AllowsAll) store_event r → SharedFits r
+reply_is_fitting r reply = let step = reply.5 in command_fitting step.0 step.1 step.2 step.3 reply.0 reply.1 step.4 reply.2 r reply.4 step.5 step.6 step.7

@@ -1,11 +1,14 @@
 -- One turn of the compactions: what is asked of the store, and when the next one is due. Own.
 use Rattle.std.specs.Prelude.{◌≡◌, ◌⊎◌, ℕ, ◌+◌, ◌*◌, ◌/◌, Option, None, Some, nat_le, nat_lt, if◌then◌else◌}
+use mathlib.Core.List.{IsPrefix}
 use Rattle.tx_journal.specs.File.{most_bytes}
 use Rattle.tx_journal.specs.declared.error.JournalError.{JournalError}
 use Rattle.tx_journal.specs.declared.error.JournalError.TheVariants as errors
-use Rattle.step_gate.specs.Gates.{SeatOf, Adds, SeesLast}
+use Rattle.group_gate.specs.declared.gate.GroupGate.{GroupGate}
+use Rattle.group_gate.specs.Gates.{SeatOf, seen_of, SitsAt, AnsweredIn, SeesLast}
 use Rattle.store_core.specs.declared.events.CompactEnd.{CompactEnd}
 use Rattle.store_core.specs.declared.events.CompactEnd.TheVariants as ends
+use Rattle.fence_rows.specs.Together.{AllowsAll}
 use Rattle.fence_rows.specs.declared.event.FencedEvent.{FencedEvent}
 use Rattle.fence_rows.specs.declared.event.FencedEvent.TheVariants.{Compact}
 use Rattle.fence_rows.specs.declared.event.FencedOutcome.{FencedOutcome}
@@ -55,12 +58,16 @@ next_least len =
 
 -- ---- a turn
 
+abbrev pub StoreGate : Type 0
+StoreGate = GroupGate StoreState FencedEvent FencedOutcome
+
 abbrev pub StoreSeat : Type 0
 StoreSeat = SeatOf StoreState FencedEvent FencedOutcome
 
--- one compaction was asked for, which came to this; or the gate takes no more events
-abbrev pub Asks : ℕ → ℕ → StoreSeat → StoreSeat → Compaction → Type 0
-Asks least now before after came = ((r : FencedOutcome) × (Adds (Compact least now) r before after × (came ≡ came_of r))) ⊎ ((came ≡ Lost) × SeesLast before after)
+-- one compaction was asked for at the place, which came to this; or the gate takes no more events
+abbrev pub Asks : ℕ → ℕ → ℕ → StoreSeat → StoreSeat → Compaction → Type 0
+Asks place least now before after came =
+    ((r : FencedOutcome) × (AnsweredIn place (Compact least now) r before after × (came ≡ came_of r))) ⊎ ((came ≡ Lost) × SeesLast before after)
 
 -- the least length after a compaction that was made, by what came of the question for its length
 abbrev pub least_by : ℕ → Compaction → Option ℕ
@@ -70,12 +77,28 @@ least_by least (Made rows) = Some least
 least_by least Kept = Some least
 
 -- after one that was made the length of the file is asked for, by a compaction that no file is long enough for
-abbrev pub GoesOn : ℕ → ℕ → Compaction → StoreSeat → StoreSeat → Option ℕ → Type 0
-GoesOn least now (Made rows) before after next = (again : Compaction) × (Asks greatest_least now before after again × (next ≡ least_by least again))
-GoesOn least now (Short len) before after next = (after ≡ before) × (next ≡ Some least)
-GoesOn least now Kept before after next = (after ≡ before) × (next ≡ Some least)
-GoesOn least now Lost before after next = (after ≡ before) × (next ≡ None)
+abbrev pub GoesOn : ℕ → ℕ → ℕ → Compaction → StoreSeat → StoreSeat → Option ℕ → Type 0
+GoesOn place least now (Made rows) before after next = (again : Compaction) × (Asks place greatest_least now before after again × (next ≡ least_by least again))
+GoesOn place least now (Short len) before after next = (after ≡ before) × (next ≡ Some least)
+GoesOn place least now Kept before after next = (after ≡ before) × (next ≡ Some least)
+GoesOn place least now Lost before after next = (after ≡ before) × (next ≡ None)
 
 -- one compaction with this least length, then what follows from it; there is no next one if the store has lost its disk
-abbrev pub IsTurn : ℕ → ℕ → StoreSeat → StoreSeat → Option ℕ → Type 0
-IsTurn least now before after next = (came : Compaction) × (mid : StoreSeat) × (Asks least now before mid came × GoesOn least now came mid after next)
+abbrev pub AsksTwice : ℕ → ℕ → ℕ → StoreSeat → StoreSeat → Option ℕ → Type 0
+AsksTwice place least now before after next =
+    (came : Compaction) × (mid : StoreSeat) × (Asks place least now before mid came × GoesOn place least now came mid after next)
+
+-- A seat that has taken a place, and gives it back. What was asked at the place meanwhile is all that the seat's history
+-- has in the place's name behind what it had there.
+pub record SitsBetween (gate : StoreGate) (place : ℕ) (before sat left after : StoreSeat) : Type 0 where
+  pub sits : SitsAt AllowsAll gate place sat
+  pub still : SitsAt AllowsAll gate place left
+  pub front : IsPrefix (seen_of before) (seen_of sat)
+  pub back : seen_of after ≡ seen_of left
+
+-- no place was free, nothing was asked, and the length stays; or at a place a compaction was asked for, and what follows
+-- from it
+abbrev pub IsTurn : StoreGate → ℕ → ℕ → StoreSeat → StoreSeat → Option ℕ → Type 0
+IsTurn gate least now before after next =
+    (IsPrefix (seen_of before) (seen_of after) × (next ≡ Some least))
+    ⊎ ((place : ℕ) × (sat : StoreSeat) × (left : StoreSeat) × (SitsBetween gate place before sat left after × AsksTwice place least now sat left next))

@@ -1,15 +1,15 @@
 // One turn of the compactions: what is asked of the store, and when the next one is due.
 ghost use Rattle.std.specs.Prelude.{◌≡◌, ◌<◌};
-ghost use Rattle.step_gate.specs.Gates.{IsSeatOf};
-ghost use Rattle.fence_rows.specs.Events.{Allows};
-ghost use Rattle.store_server.specs.Compacting.{came_by, came_of, grown, next_least, Asks, IsTurn};
+ghost use Rattle.group_gate.specs.Gates.{IsSeatOf, SitsAt};
+ghost use Rattle.fence_rows.specs.Together.{AllowsAll};
+ghost use Rattle.store_server.specs.Compacting.{came_by, came_of, grown, next_least, Asks, AsksTwice, IsTurn};
 ghost use Rattle.tx_journal.specs.File.{most_bytes};
 
 use disk_model::Disk;
 use event_log::{EventLog, Notice};
 use fence_rows::{Fenced, FencedEvent, FencedOutcome};
+use group_gate::{GroupGate, GroupSeat, Place};
 use std::sync::Wait;
-use step_gate::{Gate, Seat};
 use store_core::CompactEnd;
 use tx_journal::JournalError;
 
@@ -84,41 +84,41 @@ fn next_least(len: u64) -> u64
 // Asks for one compaction.
 fn ask<R: Wait, D: Disk>(
     rt: &R,
-    gate: &Gate<Fenced<D>>,
-    seat: &mut Seat<Fenced<D>>,
+    gate: &GroupGate<Fenced<D>>,
+    seat: &mut GroupSeat<Fenced<D>>,
+    place: &Place,
     least: u64,
     now: u64,
 ) -> Compaction
-    requires seat { IsSeatOf Allows gate.now seat.old }
+    requires seat { SitsAt AllowsAll gate.now place.now.at seat.old }
     requires early { now < 253370764800000 }
-    ensures seat { IsSeatOf Allows gate.now seat.new }
-    ensures asks { Asks least now seat.old seat.new result }
+    ensures seat { SitsAt AllowsAll gate.now place.now.at seat.new }
+    ensures asks { Asks place.now.at least now seat.old seat.new result }
 {
-    match gate.call_in(rt, seat, FencedEvent::Compact { least, now }) {
+    match gate.call_in(rt, seat, place, FencedEvent::Compact { least, now }) {
         Ok(outcome) => came_of(&outcome),
         Err(_) => Compaction::Lost,
     }
 }
 
-/// One compaction at `now`, in milliseconds since 1970, if the file has at least `least` bytes; one that was made is
-/// followed by a question for the length that it left, and both are said in the log. Returns the least length for the next
-/// turn, or `None` if the store has lost its disk.
-pub(crate) fn compact_turn<R: Wait, D: Disk>(
+// One compaction, and behind one that was made the question for the length that it left.
+fn ask_twice<R: Wait, D: Disk>(
     rt: &R,
-    gate: &Gate<Fenced<D>>,
-    seat: &mut Seat<Fenced<D>>,
+    gate: &GroupGate<Fenced<D>>,
+    seat: &mut GroupSeat<Fenced<D>>,
+    place: &Place,
     least: u64,
     now: u64,
     log: &EventLog,
 ) -> Option<u64>
-    requires seat { IsSeatOf Allows gate.now seat.old }
+    requires seat { SitsAt AllowsAll gate.now place.now.at seat.old }
     requires early { now < 253370764800000 }
-    ensures seat { IsSeatOf Allows gate.now seat.new }
-    ensures turn { IsTurn least now seat.old seat.new result }
+    ensures seat { SitsAt AllowsAll gate.now place.now.at seat.new }
+    ensures asks { AsksTwice place.now.at least now seat.old seat.new result }
 {
-    match ask(rt, gate, seat, least, now) {
+    match ask(rt, gate, seat, place, least, now) {
         Compaction::Lost => None,
-        Compaction::Made { rows } => match ask(rt, gate, seat, u64::MAX, now) {
+        Compaction::Made { rows } => match ask(rt, gate, seat, place, u64::MAX, now) {
             Compaction::Lost => None,
             Compaction::Short { len } => {
                 log.say(Notice::Compacted { rows, len });
@@ -132,4 +132,29 @@ pub(crate) fn compact_turn<R: Wait, D: Disk>(
         }
         Compaction::Short { len: _ } => Some(least),
     }
+}
+
+/// One compaction at `now`, in milliseconds since 1970, if the file has at least `least` bytes; one that was made is
+/// followed by a question for the length that it left, and both are said in the log. If the gate has no free place, nothing
+/// is asked, as if the file were kept. Returns the least length for the next turn, or `None` if the store has lost its disk.
+pub(crate) fn compact_turn<R: Wait, D: Disk>(
+    rt: &R,
+    gate: &GroupGate<Fenced<D>>,
+    seat: &mut GroupSeat<Fenced<D>>,
+    least: u64,
+    now: u64,
+    log: &EventLog,
+) -> Option<u64>
+    requires seat { IsSeatOf AllowsAll gate.now seat.old }
+    requires early { now < 253370764800000 }
+    ensures seat { IsSeatOf AllowsAll gate.now seat.new }
+    ensures turn { IsTurn gate.now least now seat.old seat.new result }
+{
+    let Some(place) = gate.sit(seat) else {
+        log.say_lasting(Notice::NotCompacted);
+        return Some(least);
+    };
+    let next = ask_twice(rt, gate, seat, &place, least, now, log);
+    gate.rise(seat, place);
+    next
 }

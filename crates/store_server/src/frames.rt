@@ -2,20 +2,21 @@
 ghost use Rattle.std.specs.Prelude.{◌≡◌, ◌<◌, Option, IfSome};
 ghost use Rattle.frame_wire.specs.Frames.{IsFrame};
 ghost use Rattle.frame_wire.specs.Store.{AnswerFits};
-ghost use Rattle.step_gate.specs.Gates.{IsSeatOf};
+ghost use Rattle.frame_session.specs.AtGroupGate.{SitsThere, GroupMade, group_steps_seen};
 ghost use Rattle.frame_session.specs.Sessions.{IsSession, SessionCause};
-ghost use Rattle.fence_rows.specs.Events.{Takes, Allows};
+ghost use Rattle.fence_rows.specs.Events.{Takes};
+ghost use Rattle.fence_rows.specs.Together.{AllowsAll};
 ghost use Rattle.fence_rows.specs.Fences.{FencedAnswerFits};
 ghost use Rattle.store_server.specs.Commands.{store_event, fenced_answer, store_answer, answer_breaks, loses_disk, store_breaks};
 
 use actor_ports::{Clock, Conn, SessionEnd};
 use disk_model::Disk;
 use fence_rows::{Fenced, FencedAnswer, FencedCommand, FencedEvent, FencedOutcome};
-use frame_session::{AnswersFrames, frame_session};
+use frame_session::{AnswersFrames, PlacedSeat, frame_session};
 use frame_wire::{Frame, StoreAnswer, StoreCommand, StoreRefusal};
+use group_gate::GroupGate;
 use std::alloc::Global;
 use std::sync::Wait;
-use step_gate::{Gate, Seat};
 
 // What a frame asks of the store; `None` if such a frame isn't sent to it.
 fn store_event(frame: Frame, now: u64) -> Option<FencedEvent>
@@ -89,7 +90,7 @@ fn answer_breaks(answer: &FencedAnswer) -> bool
 /// `Reopen` break a session off.
 pub struct StoreFrames;
 
-impl<D: Disk> AnswersFrames<Fenced<D>> for StoreFrames {
+impl<D: Disk> AnswersFrames<GroupGate<Fenced<D>>> for StoreFrames {
     ghost use Rattle.store_server.specs.Commands.{store_event, store_answer, store_breaks};
 
     ghost event_of = { store_event };
@@ -119,20 +120,21 @@ impl<D: Disk> AnswersFrames<Fenced<D>> for StoreFrames {
     }
 }
 
-/// Answers the commands of a connection until it ends: each is one step of the fenced store at the gate, at a moment of the
-/// clock, and its answer is written before the next frame is taken. The frames before a fault are answered.
+/// Answers the commands of a connection until it ends: each is asked of the fenced store once, at the seat's place, at a
+/// moment of the clock, and shares a step with what others ask then; its answer is written before the next frame is
+/// taken. The frames before a fault are answered.
 pub fn store_session<R: Wait, D: Disk, C: Conn, K: Clock>(
     rt: &R,
     alloc: Global,
-    gate: &Gate<Fenced<D>>,
-    seat: Seat<Fenced<D>>,
+    gate: &GroupGate<Fenced<D>>,
+    seat: PlacedSeat<Fenced<D>>,
     conn: &mut C,
     clock: &mut K,
-) -> (Seat<Fenced<D>>, SessionEnd)
-    requires { IsSeatOf Allows gate.now seat }
-    ensures seat { IsSeatOf Allows gate.now result.0 }
-    ensures session { IsSession store_event store_answer store_breaks seat result.0 (K.shown clock.old) (K.shown clock.new) (C.read_traffic conn.old) (C.read_traffic conn.new) result.1 }
+) -> (PlacedSeat<Fenced<D>>, SessionEnd)
+    requires { SitsThere AllowsAll gate.now seat }
+    ensures seat { SitsThere AllowsAll gate.now result.0 }
+    ensures session { IsSession GroupMade group_steps_seen store_event store_answer store_breaks seat result.0 (K.shown clock.old) (K.shown clock.new) (C.read_traffic conn.old) (C.read_traffic conn.new) result.1 }
     ensures cause { SessionCause (C.read_faults conn.old) (C.read_faults conn.new) result.1 }
 {
-    frame_session::<R, Fenced<D>, StoreFrames, C, K>(rt, alloc, gate, seat, conn, clock)
+    frame_session::<R, GroupGate<Fenced<D>>, StoreFrames, C, K>(rt, alloc, gate, seat, conn, clock)
 }

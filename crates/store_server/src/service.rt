@@ -1,6 +1,6 @@
 // What the store's threads share, and its turns.
-ghost use Rattle.step_gate.specs.Gates.{IsSeatOf};
-ghost use Rattle.fence_rows.specs.Events.{Allows};
+ghost use Rattle.group_gate.specs.Gates.{IsSeatOf};
+ghost use Rattle.fence_rows.specs.Together.{AllowsAll};
 
 use crate::compacting::compact_turn;
 use crate::pass::Pass;
@@ -8,18 +8,20 @@ use actor_ports::{Clock, Dial};
 use disk_model::Disk;
 use event_log::{EventLog, Notice};
 use fence_rows::Fenced;
+use group_gate::GroupGate;
 use server_ports::{Duty, Ending, Service, pause_for};
+use std::alloc::Global;
 use std::sync::Wait;
-use step_gate::Gate;
 
 // How long the server waits between two turns, in milliseconds.
 const PAUSE_MS: u64 = 1_000;
 
-/// What the store's threads share: the gate of the store, the end of the server, how many connections it serves at once, and
-/// its log.
+/// What the store's threads share: where memory is taken, the gate of the store, the end of the server, how many connections
+/// it serves at once, and its log.
 #[derive(Drop)]
 pub(crate) struct StoreService<'a, D: Disk> {
-    pub(crate) gate: &'a Gate<Fenced<D>>,
+    pub(crate) alloc: Global,
+    pub(crate) gate: &'a GroupGate<Fenced<D>>,
     pub(crate) ending: Ending,
     pub(crate) at_once: u64,
     pub(crate) log: &'a EventLog,
@@ -34,7 +36,7 @@ impl<D: Disk> StoreService<'_, D> {
 }
 
 impl<D: Disk + Drop + Send, K: Clock, N: Dial> Service<Pass<D, K, N>> for StoreService<'_, D> {
-    ghost admits = { λ v p. IsSeatOf Allows v.gate.now p.seat };
+    ghost admits = { λ v p. IsSeatOf AllowsAll v.gate.now p.seat };
 
     fn split(&self, pass: Pass<D, K, N>) -> (Pass<D, K, N>, Option<Pass<D, K, N>>) {
         let Ok(clock) = pass.clock.another() else {
@@ -78,8 +80,8 @@ fn compact<R: Wait, D: Disk + Drop + Send, K: Clock, N: Dial>(
     service: &StoreService<'_, D>,
     pass: Pass<D, K, N>,
 ) -> Pass<D, K, N>
-    requires { IsSeatOf Allows service.now.gate.now pass.seat }
-    ensures { IsSeatOf Allows service.now.gate.now result.seat }
+    requires { IsSeatOf AllowsAll service.now.gate.now pass.seat }
+    ensures { IsSeatOf AllowsAll service.now.gate.now result.seat }
 {
     let mut pass = pass;
     let now = pass.clock.now_ms();
@@ -104,8 +106,8 @@ pub(crate) fn do_duty<R: Wait, D: Disk + Drop + Send, K: Clock, N: Dial>(
     duty: Duty,
     pass: Pass<D, K, N>,
 ) -> Pass<D, K, N>
-    requires { IsSeatOf Allows service.now.gate.now pass.seat }
-    ensures { IsSeatOf Allows service.now.gate.now result.seat }
+    requires { IsSeatOf AllowsAll service.now.gate.now pass.seat }
+    ensures { IsSeatOf AllowsAll service.now.gate.now result.seat }
 {
     let mut pass = pass;
     pause_for(&mut pass.clock, duty, PAUSE_MS);

@@ -6,4 +6,4 @@ returns-in-Ok-clause-ran g c = ends_after c.args.store c.serve_bound.result _ _ 
 
 pub returns-in-Err-clause-ran : goal.returns-in-Err-clause-ran
 returns-in-Err-clause-ran g c =
-    unserved c.fence_law.ensures.keeps c.store_law.ensures.risks c.args.store c.unbound.result _ _ _ c.requires.stands c.unbound.ensures.opened c.in-Err.ensures.hands c.give_back.ensures.hands
+    unserved c.group_law.ensures.flattens c.args.store c.unbound.result _ _ _ c.requires.stands c.unbound.ensures.opened c.in-Err.ensures.hands c.give_back.ensures.hands
