@@ -12,6 +12,8 @@ mod disks;
 #[cfg(test)]
 mod gates;
 #[cfg(test)]
+mod groups;
+#[cfg(test)]
 mod hosts;
 #[cfg(test)]
 mod links;
