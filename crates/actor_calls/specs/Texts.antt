@@ -1,4 +1,4 @@
--- The texts of a request's exchanges, of plain values: those of `invoke_request` and of `peer_request`. Own.
+-- The texts of a request's exchanges, of plain values: those of `invoke_text` and of `peer_request`. Own.
 use Rattle.std.specs.Prelude.{ℕ, List, ◌++◌, codes, decimal, Option}
 use Rattle.actor_names.specs.declared.address.Address.{Address}
 use Rattle.actor_names.specs.declared.actor_key.ActorKey.{ActorKey}

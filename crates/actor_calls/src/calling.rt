@@ -12,9 +12,9 @@ use crate::next::Next;
 use crate::peers::peer_next;
 use actor_names::{Address, ChainId};
 use actor_ports::Dial;
-use app_texts::{MethodCall, PeerCall, invoke_request, peer_request};
+use app_texts::{MethodCall, PeerCall, invoke_text, peer_request};
 use call_names::CallName;
-use exchanges::{Links, exchange_at};
+use exchanges::{Links, exchange_at, exchange_text_at};
 use http_edge::{EdgeError, HttpRequest, HttpResponse};
 use place_table::HostInfo;
 use std::alloc::Global;
@@ -30,9 +30,9 @@ fn call_method<L: Dial>(
         × IsHttpExchange (call_text at.now call.now.actor.now call.now.method.now (option_copied call.now.chain) call.now.request.now) (place_at at.now) xs result
         × Dialling xs (L.dialled app.old) (L.dialled app.new) (L.dial_faults app.old) (L.dial_faults app.new) }
 {
-    match invoke_request(alloc, at, call) {
+    match invoke_text(alloc, at, call) {
         Err(_) => Err(EdgeError::OutOfMemory),
-        Ok(asked) => exchange_at(alloc, app, at, &asked),
+        Ok(text) => exchange_text_at(alloc, app, at, text.as_slice()),
     }
 }
 

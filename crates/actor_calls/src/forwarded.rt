@@ -60,8 +60,8 @@ fn known_answer(reply: BookReply) -> ApiReply
 
 // What goes out of a reply, and the same response for the book. If there is no memory for both, nothing goes out, and the
 // book notes a status alone.
-fn go_out(alloc: Global, side: Side, reply: &ApiReply) -> (ApiReply, HttpResponse)
-    ensures sent { GoesOut side reply.now result.0 }
+fn go_out(alloc: Global, side: Side, reply: ApiReply) -> (ApiReply, HttpResponse)
+    ensures sent { GoesOut side reply result.0 }
     ensures noted { result.1 ≡ response_of side result.0 }
 {
     let Ok(response) = write_api(alloc, side, reply) else {
@@ -110,7 +110,7 @@ pub fn serve_forwarded<R: Wait, A: Dial, P: Dial, S: Dial, K: Clock>(
         Ok(reply) => match reply {
             BookReply::New => {
                 let answer = serve_invoke(desk, side, invoke, request);
-                let (sent, noted) = go_out(desk.alloc, side, &answer);
+                let (sent, noted) = go_out(desk.alloc, side, answer);
                 let finish = finish_of(call, noted);
                 let said = node.step_calls(desk.rt, &mut desk.seats, finish);
                 finish_answer(said, sent)

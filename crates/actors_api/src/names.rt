@@ -1,6 +1,7 @@
 // The names in a path and in the fields of a head.
 ghost use Rattle.std.specs.Prelude.{◌≡◌, option_map};
 ghost use Rattle.std.specs.Option.{option_and_then};
+ghost use Rattle.std.specs.Cow.{cow_slice_items};
 ghost use Rattle.std.specs.Str.{is_utf8};
 ghost use Rattle.percent_encoding.specs.Percent.{percent_decode};
 ghost use Rattle.call_names.specs.Readings.{call_reading};
@@ -25,6 +26,7 @@ use lists_and_limits::{LAST_NUMBER, read_decimal};
 use percent_encoding::percent_decode;
 use state_rows::{MOST_KEY_BYTES, StateKey};
 use std::alloc::Global;
+use std::borrow::CowSlice;
 
 const MOST_METHOD_BYTES: usize = 1024;
 
@@ -37,11 +39,18 @@ fn decoded(alloc: Global, part: &[u8]) -> Result<Vec<u8>, Fault>
     Ok(bytes)
 }
 
+// The same bytes, which are copied only if an escape stands among them.
+fn spelled(alloc: Global, part: &[u8]) -> Result<CowSlice<'_, u8, Global>, Fault>
+    ensures { Gives (λ bytes. cow_slice_items bytes) result (Ok (percent_decode part.now)) }
+{
+    Ok(percent_decode(part).into_cow(alloc)?)
+}
+
 fn type_at(alloc: Global, part: &[u8]) -> Result<ActorType, Fault>
     ensures { Gives (λ name. name) result (type_reading part.now) }
 {
-    let text = decoded(alloc, part)?;
-    match read_actor_type(alloc, &text) {
+    let text = spelled(alloc, part)?;
+    match read_actor_type(alloc, text.as_slice()) {
         Ok(name) => Ok(name),
         Err(error) => Err(name_fault(ApiName::Type, error)),
     }
@@ -50,8 +59,8 @@ fn type_at(alloc: Global, part: &[u8]) -> Result<ActorType, Fault>
 fn id_at(alloc: Global, part: &[u8]) -> Result<ActorId, Fault>
     ensures { Gives (λ name. name) result (id_reading part.now) }
 {
-    let text = decoded(alloc, part)?;
-    match read_actor_id(alloc, &text) {
+    let text = spelled(alloc, part)?;
+    match read_actor_id(alloc, text.as_slice()) {
         Ok(name) => Ok(name),
         Err(error) => Err(name_fault(ApiName::Id, error)),
     }
@@ -124,7 +133,8 @@ pub(crate) fn method_at(alloc: Global, rest: &[u8], query: &[u8]) -> Result<Byte
             },
         });
     }
-    let mut method = Vec::from_slice(alloc, rest)?;
+    let mut method = Vec::with_capacity(alloc, rest.len().saturating_add(query.len()))?;
+    method.extend_from_slice(rest)?;
     method.extend_from_slice(query)?;
     Ok(Bytes::from_vec(method))
 }

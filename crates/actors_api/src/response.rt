@@ -1,5 +1,5 @@
 // Writes replies as responses.
-ghost use Rattle.std.specs.Prelude.{◌≡◌, [], ◌∷◌, IfOk, OnOk, option_map, ◌++◌};
+ghost use Rattle.std.specs.Prelude.{◌≡◌, [], ◌∷◌, IfOk, OnOk, codes, option_map, ◌++◌};
 ghost use Rattle.actors_api.specs.Refusals.{refusal_row};
 ghost use Rattle.actors_api.specs.Responses.{field, first_value, field_of, passed_on, json_response, error_body, refusal_word, refusal_response, elsewhere_response, no_content, no_memory, response_of};
 ghost use Rattle.actors_api.specs.Owners.{owner_text};
@@ -10,7 +10,7 @@ use crate::refusal_text::{code_of, status_of, text_of};
 use crate::reply::ApiReply;
 use crate::side::Side;
 use api_bodies::write_reminder;
-use http_edge::{Bytes, HttpField, HttpFields, HttpResponse};
+use http_edge::{Body, Bytes, HttpField, HttpFields, HttpResponse};
 use json_text::{Member, Piece, object_text};
 use lists_and_limits::OutOfMemory;
 use place_table::HostInfo;
@@ -50,18 +50,39 @@ pub(crate) fn first_value<'a>(name: &[u8], fields: &'a [HttpField]) -> Option<&'
     None
 }
 
-// What is passed on of the application's reply.
-fn passed_on(alloc: Global, reply: &HttpResponse) -> Result<HttpResponse, OutOfMemory>
-    ensures { IfOk result (λ response. response ≡ passed_on reply.now) }
+// The first Content-Type of these fields, if there is one, and no other field.
+fn kept_fields(alloc: Global, fields: HttpFields) -> Result<HttpFields, OutOfMemory>
+    ensures { IfOk result (λ kept. kept ≡ field_of (codes "Content-Type") (first_value (codes "Content-Type") fields)) }
 {
-    let mut fields = Vec::new(alloc);
-    if let Some(kind) = first_value(b"Content-Type", reply.fields.as_slice()) {
-        add_field(alloc, &mut fields, b"Content-Type", kind)?;
+    match first_value(b"Content-Type", fields.as_slice()) {
+        None => {
+            let mut fields = fields.into_vec();
+            fields.clear();
+            Ok(HttpFields::from_vec(fields))
+        }
+        Some(kind) => {
+            let kind = field(alloc, b"Content-Type", kind)?;
+            let mut fields = fields.into_vec();
+            fields.clear();
+            fields.push(kind)?;
+            Ok(HttpFields::from_vec(fields))
+        }
     }
-    let body = Bytes::from_slice(alloc, reply.body.as_slice())?;
+}
+
+// What is passed on of the application's reply, whose body isn't copied.
+fn passed_on(alloc: Global, reply: HttpResponse) -> Result<HttpResponse, OutOfMemory>
+    ensures { IfOk result (λ response. response ≡ passed_on reply) }
+{
+    let HttpResponse {
+        status,
+        fields,
+        body,
+    } = reply;
+    let fields = kept_fields(alloc, fields)?;
     Ok(HttpResponse {
-        status: reply.status,
-        fields: HttpFields::from_vec(fields),
+        status,
+        fields,
         body,
     })
 }
@@ -72,7 +93,7 @@ fn no_content(alloc: Global) -> HttpResponse
     HttpResponse {
         status: 204,
         fields: HttpFields::from_vec(Vec::new(alloc)),
-        body: Bytes::from_vec(Vec::new(alloc)),
+        body: Body::from_vec(Vec::new(alloc)),
     }
 }
 
@@ -83,7 +104,7 @@ pub fn no_memory(alloc: Global) -> HttpResponse
     HttpResponse {
         status: 503,
         fields: HttpFields::from_vec(Vec::new(alloc)),
-        body: Bytes::from_vec(Vec::new(alloc)),
+        body: Body::from_vec(Vec::new(alloc)),
     }
 }
 
@@ -112,7 +133,7 @@ pub fn copy_response(alloc: Global, response: &HttpResponse) -> Result<HttpRespo
     ensures { IfOk result (λ copy. copy ≡ response.now) }
 {
     let fields = copy_fields(alloc, response.fields.as_slice())?;
-    let body = Bytes::from_slice(alloc, response.body.as_slice())?;
+    let body = Body::from_slice(alloc, response.body.as_slice())?;
     Ok(HttpResponse {
         status: response.status,
         fields: HttpFields::from_vec(fields),
@@ -129,7 +150,7 @@ fn json_response(alloc: Global, status: u16, body: Vec<u8>) -> Result<HttpRespon
     Ok(HttpResponse {
         status,
         fields: HttpFields::from_vec(fields),
-        body: Bytes::from_vec(body),
+        body: Body::from_vec(body),
     })
 }
 
@@ -177,7 +198,7 @@ fn refusal_response(
     Ok(HttpResponse {
         status: status_of(refusal),
         fields: HttpFields::from_vec(fields),
-        body: Bytes::from_vec(body),
+        body: Body::from_vec(body),
     })
 }
 
@@ -198,7 +219,7 @@ fn elsewhere_response(
     Ok(HttpResponse {
         status: 421,
         fields: HttpFields::from_vec(fields),
-        body: Bytes::from_vec(Vec::new(alloc)),
+        body: Body::from_vec(Vec::new(alloc)),
     })
 }
 
@@ -209,9 +230,10 @@ fn state_response(alloc: Global, value: &[u8]) -> Result<HttpResponse, OutOfMemo
     json_response(alloc, 200, body)
 }
 
-/// The response to a reply. What the reply has of it is copied; a refusal's word and an owner are told to a peer only.
-pub fn write_api(alloc: Global, side: Side, reply: &ApiReply) -> Result<HttpResponse, OutOfMemory>
-    ensures { IfOk result (λ response. response ≡ response_of side reply.now) }
+/// The response to a reply. The body of a reply that is passed on and a response that is made aren't copied; a refusal's word
+/// and an owner are told to a peer only.
+pub fn write_api(alloc: Global, side: Side, reply: ApiReply) -> Result<HttpResponse, OutOfMemory>
+    ensures { IfOk result (λ response. response ≡ response_of side reply) }
 {
     match reply {
         ApiReply::Invoked { reply } => passed_on(alloc, reply),
@@ -222,7 +244,7 @@ pub fn write_api(alloc: Global, side: Side, reply: &ApiReply) -> Result<HttpResp
             ttl,
             payload,
         } => {
-            let body = write_reminder(alloc, due, period, ttl, payload)?;
+            let body = write_reminder(alloc, &due, &period, &ttl, &payload)?;
             json_response(alloc, 200, body)
         }
         ApiReply::TransactionMade
@@ -231,11 +253,9 @@ pub fn write_api(alloc: Global, side: Side, reply: &ApiReply) -> Result<HttpResp
         | ApiReply::ReminderDeleted
         | ApiReply::TimerSet
         | ApiReply::TimerDeleted => Ok(no_content(alloc)),
-        ApiReply::Elsewhere { version, owner } => {
-            elsewhere_response(alloc, side, *version, owner)
-        }
-        ApiReply::Made { response } => copy_response(alloc, response),
+        ApiReply::Elsewhere { version, owner } => elsewhere_response(alloc, side, version, &owner),
+        ApiReply::Made { response } => Ok(response),
         ApiReply::Unanswered => Ok(no_memory(alloc)),
-        ApiReply::Refused { refusal } => refusal_response(alloc, side, refusal),
+        ApiReply::Refused { refusal } => refusal_response(alloc, side, &refusal),
     }
 }

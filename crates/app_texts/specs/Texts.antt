@@ -74,6 +74,13 @@ first_value name (f ∷ fs) = if is_same_word f.name name then Some f.value else
 abbrev pub message : List ℕ → List ℕ → List ℕ → List ℕ → List ℕ
 message method target lines body = method ++ codes " " ++ target ++ codes " HTTP/1.1\r\n" ++ lines ++ codes "Content-Length: " ++ decimal (length body) ++ codes "\r\n\r\n" ++ body
 
+-- the parts of a message before and behind the lines of its fields
+abbrev pub message_start : List ℕ → List ℕ → List ℕ
+message_start method target = method ++ codes " " ++ target ++ codes " HTTP/1.1\r\n"
+
+abbrev pub sized : List ℕ → List ℕ
+sized body = codes "Content-Length: " ++ decimal (length body) ++ codes "\r\n\r\n" ++ body
+
 -- the lines of a call: a Content-Type if there is one, a chain if the type is reentrant
 abbrev pub call_lines : Address → Option (List ℕ) → Option (List ℕ) → List ℕ
 call_lines app content chain = host_line app ++ line_if (codes "Content-Type") content ++ line_if (codes "Dapr-Reentrancy-Id") chain ++ close_line

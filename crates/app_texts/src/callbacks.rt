@@ -9,7 +9,7 @@ use crate::escaping::{add_escaped, add_method_path};
 use crate::lines::call_fields;
 use crate::requests::request_of;
 use actor_names::{ActorKey, Address, ChainId, RecordName};
-use http_edge::{Bytes, HttpRequest};
+use http_edge::{Body, HttpRequest};
 use json_text::{Member, Piece, object_text};
 use lists_and_limits::OutOfMemory;
 use std::alloc::Global;
@@ -42,7 +42,7 @@ fn data_piece<'a>(payload: Option<&'a [u8]>) -> Piece<'a>
 
 // What the callback of a reminder is given.
 #[tactic(auto, using(crate::proofs::Bodies::three_members))]
-fn reminder_body(alloc: Global, callback: &Callback<'_>) -> Result<Bytes, OutOfMemory>
+fn reminder_body(alloc: Global, callback: &Callback<'_>) -> Result<Body, OutOfMemory>
     ensures { IfOk result (λ body. body ≡ reminder_body callback.now) }
 {
     let members = [
@@ -60,12 +60,12 @@ fn reminder_body(alloc: Global, callback: &Callback<'_>) -> Result<Bytes, OutOfM
         },
     ];
     let text = object_text(alloc, members.as_slice())?;
-    Ok(Bytes::from_vec(text))
+    Ok(Body::from_vec(text))
 }
 
 // What the callback of a timer is given.
 #[tactic(auto, using(crate::proofs::Bodies::four_members))]
-fn timer_body(alloc: Global, method: &str, callback: &Callback<'_>) -> Result<Bytes, OutOfMemory>
+fn timer_body(alloc: Global, method: &str, callback: &Callback<'_>) -> Result<Body, OutOfMemory>
     ensures { IfOk result (λ body. body ≡ timer_body method.now callback.now) }
 {
     let members = [
@@ -87,7 +87,7 @@ fn timer_body(alloc: Global, method: &str, callback: &Callback<'_>) -> Result<By
         },
     ];
     let text = object_text(alloc, members.as_slice())?;
-    Ok(Bytes::from_vec(text))
+    Ok(Body::from_vec(text))
 }
 
 // The method of a callback: `remind/` or `timer/`, and the name.
@@ -105,7 +105,7 @@ fn callback_request(
     kind: &[u8],
     app: &Address,
     callback: &Callback<'_>,
-    body: Bytes,
+    body: Body,
 ) -> Result<HttpRequest, OutOfMemory>
     ensures { IfOk result (λ q. request_text q ≡ callback_text kind.now app.now callback.now body) }
 {

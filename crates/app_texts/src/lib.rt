@@ -22,11 +22,12 @@ mod peer;
 mod peer_reply;
 mod plain;
 mod requests;
+mod text;
 mod treatment;
 mod word;
 
 pub use callbacks::{Callback, reminder_request, timer_request};
-pub use calls::{MethodCall, invoke_request};
+pub use calls::{MethodCall, invoke_text};
 pub use config::{AppConfig, read_config};
 pub use config_error::{ConfigError, KeyText};
 pub use fields::first_value;

@@ -38,7 +38,7 @@ fn add_ip(ip: u32, into: &mut Vec<u8>) -> Result<(), OutOfMemory>
 }
 
 #[tactic(auto, unfolding(crate::specs::Texts::address_text))]
-fn add_address(at: &Address, into: &mut Vec<u8>) -> Result<(), OutOfMemory>
+pub(crate) fn add_address(at: &Address, into: &mut Vec<u8>) -> Result<(), OutOfMemory>
     ensures { OnOk result (into.new.items ≡ into.old.items ++ address_text at.now) }
 {
     add_ip(at.ip, into)?;

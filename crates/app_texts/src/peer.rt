@@ -9,7 +9,7 @@ use crate::lines::{add_close, add_host};
 use crate::requests::request_of;
 use actor_names::Address;
 use call_names::{CallName, add_call};
-use http_edge::{Bytes, HttpField, HttpFields, HttpRequest};
+use http_edge::{Body, HttpField, HttpFields, HttpRequest};
 use itoa::Buffer;
 use lists_and_limits::OutOfMemory;
 use std::alloc::Global;
@@ -80,6 +80,6 @@ pub fn peer_request(
 {
     let target = Vec::from_slice(alloc, call.request.target.as_slice())?;
     let fields = peer_fields(alloc, peer, call)?;
-    let body = Bytes::from_slice(alloc, call.request.body.as_slice())?;
+    let body = Body::from_slice(alloc, call.request.body.as_slice())?;
     request_of(alloc, call.request.method.as_slice(), target, fields, body)
 }

@@ -8,7 +8,7 @@ use crate::fields::add;
 use crate::lines::plain_fields;
 use crate::requests::request_of;
 use actor_names::{ActorKey, Address};
-use http_edge::{Bytes, HttpRequest};
+use http_edge::{Body, HttpRequest};
 use lists_and_limits::OutOfMemory;
 use std::alloc::Global;
 
@@ -24,7 +24,7 @@ pub fn deactivate_request(
     let mut target = Vec::new(alloc);
     add_actor_path(alloc, actor, &mut target)?;
     let fields = plain_fields(alloc, app)?;
-    let body = Bytes::from_vec(Vec::new(alloc));
+    let body = Body::from_vec(Vec::new(alloc));
     request_of(alloc, b"DELETE", target, fields, body)
 }
 
@@ -36,6 +36,6 @@ pub fn config_request(alloc: Global, app: &Address) -> Result<HttpRequest, OutOf
     let mut target = Vec::new(alloc);
     add(b"/dapr/config", &mut target)?;
     let fields = plain_fields(alloc, app)?;
-    let body = Bytes::from_vec(Vec::new(alloc));
+    let body = Body::from_vec(Vec::new(alloc));
     request_of(alloc, b"GET", target, fields, body)
 }

@@ -3,7 +3,7 @@ ghost use Rattle.std.specs.Prelude.{◌≡◌, IfOk};
 ghost use Rattle.http_edge.specs.Texts.{field_lines, request_text};
 ghost use Rattle.app_texts.specs.Texts.{message};
 
-use http_edge::{Bytes, HttpFields, HttpRequest};
+use http_edge::{Body, Bytes, HttpFields, HttpRequest};
 use lists_and_limits::OutOfMemory;
 use std::alloc::Global;
 
@@ -14,7 +14,7 @@ pub(crate) fn request_of(
     method: &[u8],
     target: Vec<u8>,
     fields: HttpFields,
-    body: Bytes,
+    body: Body,
 ) -> Result<HttpRequest, OutOfMemory>
     ensures { IfOk result (λ q. request_text q ≡ message method.now target.items (field_lines fields) body) }
 {

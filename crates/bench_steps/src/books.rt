@@ -7,7 +7,7 @@
 // there were beyond these.
 use actor_names::{Member, read_member};
 use call_book::{BookEvent, BookReply, CallBook};
-use http_edge::{Bytes, HttpFields, HttpResponse};
+use http_edge::{Body, HttpFields, HttpResponse};
 use std::alloc::Global;
 
 const KEPT: u64 = 4_096;
@@ -37,7 +37,7 @@ fn finish(alloc: Global, origin: &Member, number: u64) -> Option<BookEvent> {
     let response = HttpResponse {
         status: 200,
         fields: HttpFields::from_vec(Vec::new(alloc)),
-        body: Bytes::from_slice(alloc, &BODY).ok()?,
+        body: Body::from_slice(alloc, &BODY).ok()?,
     };
     Some(BookEvent::Finish {
         origin: origin.copy(),

@@ -74,7 +74,7 @@ fn answer_routed(alloc: Global, request: HttpRequest, conn: &mut MemConn) -> Opt
         fields: content_type(alloc)?,
         body: request.body,
     };
-    let response = write_api(alloc, Side::Caller, &ApiReply::Invoked { reply }).ok()?;
+    let response = write_api(alloc, Side::Caller, ApiReply::Invoked { reply }).ok()?;
     write_response(alloc, &response, conn).ok()
 }
 

@@ -2,7 +2,7 @@
 ghost use Rattle.std.specs.Prelude.{◌≡◌, IfOk};
 
 use actor_names::OutOfMemory;
-use http_edge::{Bytes, HttpField, HttpFields, HttpResponse};
+use http_edge::{Body, Bytes, HttpField, HttpFields, HttpResponse};
 use std::alloc::Global;
 
 // A copy of a field.
@@ -33,7 +33,7 @@ pub(crate) fn copy_response(
     ensures { IfOk result (λ copy. copy ≡ response.now) }
 {
     let fields = copy_fields(alloc, response.fields.as_slice())?;
-    let body = Bytes::from_slice(alloc, response.body.as_slice())?;
+    let body = Body::from_slice(alloc, response.body.as_slice())?;
     Ok(HttpResponse {
         status: response.status,
         fields: HttpFields::from_vec(fields),

@@ -12,7 +12,7 @@ use http_edge::{EdgeError, HttpRequest, HttpResponse, exchange};
 use std::alloc::Global;
 
 // Dials the address; the link waits so, or as the dialler's links do.
-fn dial_at<L: Dial>(
+pub(crate) fn dial_at<L: Dial>(
     dialler: &mut L,
     at: &Address,
     waits: Option<Waits>,

@@ -4,7 +4,7 @@ use actor_names::{ChainId, default_space, read_address, read_app_id, read_member
 use actors_api::{ApiCommand, ApiName, ApiRefusal, ApiReply, Side, read_api, write_api};
 use call_names::{CallName, add_call};
 use case_texts::{cut, escaped_bytes};
-use http_edge::{Bytes, HttpField, HttpRequest};
+use http_edge::{Body, Bytes, HttpField, HttpRequest};
 use place_table::{ActorTypes, HostInfo};
 use schedule_text::ScheduleError;
 use std::alloc::Global;
@@ -18,7 +18,7 @@ pub(crate) fn request(alloc: Global, text: &str) -> Option<HttpRequest> {
     let method = bytes(alloc, method)?;
     let target = bytes(alloc, target)?;
     let fields = one_field(alloc, name, value)?;
-    let body = Bytes::from_vec(escaped_bytes(alloc, body)?);
+    let body = Body::from_vec(escaped_bytes(alloc, body)?);
     Some(HttpRequest {
         method,
         target,
@@ -85,7 +85,7 @@ fn command_text(alloc: Global, command: &ApiCommand) -> Option<Vec<u8>> {
 
 // The body that tells a refusal.
 fn refused(alloc: Global, side: Side, refusal: ApiRefusal) -> Option<String> {
-    let response = write_api(alloc, side, &ApiReply::Refused { refusal }).ok()?;
+    let response = write_api(alloc, side, ApiReply::Refused { refusal }).ok()?;
     shown(alloc, response.body.as_slice())
 }
 
@@ -109,7 +109,7 @@ pub(crate) fn forwarded(alloc: Global, list: &str) -> Option<String> {
         method: bytes(alloc, "POST")?,
         target: bytes(alloc, "/v1.0/actors/order/42/method/m")?,
         fields: fields(alloc, list)?,
-        body: bytes(alloc, "")?,
+        body: Body::from_vec(Vec::new(alloc)),
         close: false,
     };
     read_as(alloc, Side::Peer, &request)
@@ -247,7 +247,7 @@ fn refusal_of(text: &str) -> Option<ApiRefusal> {
 /// `STATUS BODY`
 pub(crate) fn told(alloc: Global, text: &str) -> Option<String> {
     let refusal = refusal_of(text)?;
-    let response = write_api(alloc, Side::Caller, &ApiReply::Refused { refusal }).ok()?;
+    let response = write_api(alloc, Side::Caller, ApiReply::Refused { refusal }).ok()?;
     let body = shown(alloc, response.body.as_slice())?;
     let status = response.status;
     format!(in alloc; "{status} {body}").ok()
@@ -264,7 +264,7 @@ fn last_words(alloc: Global, fields: &[HttpField]) -> Option<String> {
 /// `COUNT NAME VALUE`: how many fields another sidecar is told, and the last one.
 pub(crate) fn told_peer(alloc: Global, text: &str) -> Option<String> {
     let refusal = refusal_of(text)?;
-    let response = write_api(alloc, Side::Peer, &ApiReply::Refused { refusal }).ok()?;
+    let response = write_api(alloc, Side::Peer, ApiReply::Refused { refusal }).ok()?;
     let count = response.fields.as_slice().len();
     let last = last_words(alloc, response.fields.as_slice())?;
     format!(in alloc; "{count} {last}").ok()
@@ -291,7 +291,7 @@ pub(crate) fn elsewhere(alloc: Global, text: &str) -> Option<String> {
     let (version, rest) = text.split_once(' ')?;
     let version = version.parse::<u64>().ok()?;
     let owner = owner_of(alloc, rest)?;
-    let response = write_api(alloc, Side::Peer, &ApiReply::Elsewhere { version, owner }).ok()?;
+    let response = write_api(alloc, Side::Peer, ApiReply::Elsewhere { version, owner }).ok()?;
     let status = response.status;
     let count = response.fields.as_slice().len();
     let value = shown(alloc, response.fields.as_slice().last()?.value.as_slice())?;

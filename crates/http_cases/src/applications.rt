@@ -6,11 +6,11 @@ use actor_names::{
 use actor_ports::MemConn;
 use app_texts::{
     AppConfig, Callback, MethodCall, PeerCall, PeerReply, config_request, deactivate_request,
-    invoke_request, peer_request, read_config, read_peer_reply, reminder_request, timer_request,
+    invoke_text, peer_request, read_config, read_peer_reply, reminder_request, timer_request,
 };
 use call_names::read_call;
 use case_texts::cut;
-use http_edge::{Bytes, HttpFields, HttpRequest, HttpResponse, exchange};
+use http_edge::{Body, HttpFields, HttpRequest, HttpResponse, exchange, exchange_text};
 use std::alloc::Global;
 
 // An address and an actor, and the text behind both.
@@ -35,7 +35,7 @@ fn request(alloc: Global, list: &str, body: &str) -> Option<HttpRequest> {
     let method = bytes(alloc, "POST")?;
     let target = bytes(alloc, "/v1.0/actors/order/42/method/add?x=1")?;
     let fields = fields(alloc, list)?;
-    let body = bytes(alloc, body)?;
+    let body = Body::from_slice(alloc, body.as_bytes()).ok()?;
     Some(HttpRequest {
         method,
         target,
@@ -45,17 +45,26 @@ fn request(alloc: Global, list: &str, body: &str) -> Option<HttpRequest> {
     })
 }
 
-/// The text that an exchange writes of a request, in quotation marks, with its line ends escaped.
-pub(crate) fn text_of(alloc: Global, request: &HttpRequest) -> Option<String> {
-    let reply = b"HTTP/1.1 200 OK\r\nContent-Length: 0\r\n\r\n";
-    let mut conn = MemConn::new(alloc, reply, &[]).ok()?;
-    let _reply = exchange(alloc, request, &mut conn).ok()?;
-    let text = String::from_utf8(Vec::from_slice(alloc, conn.written()).ok()?).ok()?;
+// A connection on which a reply without a body waits.
+fn answered(alloc: Global) -> Option<MemConn> {
+    MemConn::new(alloc, b"HTTP/1.1 200 OK\r\nContent-Length: 0\r\n\r\n", &[]).ok()
+}
+
+// What was written, in quotation marks, with its line ends escaped.
+fn quoted(alloc: Global, written: &[u8]) -> Option<String> {
+    let text = String::from_utf8(Vec::from_slice(alloc, written).ok()?).ok()?;
     format!(in alloc; "{text:?}").ok()
 }
 
+/// The text that an exchange writes of a request.
+pub(crate) fn text_of(alloc: Global, request: &HttpRequest) -> Option<String> {
+    let mut conn = answered(alloc)?;
+    let _reply = exchange(alloc, request, &mut conn).ok()?;
+    quoted(alloc, conn.written())
+}
+
 /// `APP|ACTOR|METHOD|CHAIN|FIELDS|BODY`
-pub(crate) fn call(alloc: Global, text: &str) -> Option<HttpRequest> {
+pub(crate) fn call(alloc: Global, text: &str) -> Option<String> {
     let (app, actor, rest) = app_and_actor(alloc, text)?;
     let (method, rest) = cut(rest, '|');
     let (named, rest) = cut(rest, '|');
@@ -68,7 +77,10 @@ pub(crate) fn call(alloc: Global, text: &str) -> Option<HttpRequest> {
         chain: chain.as_ref(),
         request: &request,
     };
-    invoke_request(alloc, &app, &call).ok()
+    let text = invoke_text(alloc, &app, &call).ok()?;
+    let mut conn = answered(alloc)?;
+    let _reply = exchange_text(alloc, text.as_slice(), &mut conn).ok()?;
+    quoted(alloc, conn.written())
 }
 
 /// `OWNER|LEAST|CALL|FIELDS|BODY`
@@ -210,7 +222,7 @@ fn reply(alloc: Global, word: &str, owner: &str) -> Option<HttpResponse> {
     Some(HttpResponse {
         status: 421,
         fields: HttpFields::from_vec(fields),
-        body: Bytes::from_vec(Vec::new(alloc)),
+        body: Body::from_vec(Vec::new(alloc)),
     })
 }
 

@@ -22,7 +22,7 @@ pub(crate) fn answer(alloc: Global, line: &str) -> Option<String> {
         "config" => applications::config(alloc, rest.as_bytes()),
         "many" => applications::config(alloc, applications::many_types(alloc, rest)?.as_bytes()),
         "app-reply" => applications::reply_words(alloc, rest),
-        "call" => applications::text_of(alloc, &applications::call(alloc, rest)?),
+        "call" => applications::call(alloc, rest),
         "app-reminder" => applications::text_of(alloc, &applications::reminder(alloc, rest)?),
         "app-timer" => applications::text_of(alloc, &applications::timer(alloc, rest)?),
         "end" => applications::text_of(alloc, &applications::end(alloc, rest)?),

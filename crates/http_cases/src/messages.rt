@@ -4,7 +4,7 @@ use crate::parts::{add_many, bytes, fields, one_field, shown};
 use actor_ports::MemConn;
 use case_texts::{add, add_escaped, escaped_bytes};
 use http_edge::{
-    EdgeError, HttpField, HttpRequest, HttpResponse, RequestReader, exchange, write_response,
+    Body, EdgeError, HttpField, HttpRequest, HttpResponse, RequestReader, exchange, write_response,
 };
 use std::alloc::Global;
 
@@ -72,7 +72,7 @@ fn call(alloc: Global, body: &str) -> Option<HttpRequest> {
     let target = bytes(alloc, "/actors/order/42/method/add")?;
     let list = "Host:127.0.0.1:3000,Dapr-Reentrancy-Id:n1.1.0.1,Connection:close";
     let fields = fields(alloc, list)?;
-    let body = bytes(alloc, body)?;
+    let body = Body::from_slice(alloc, body.as_bytes()).ok()?;
     Some(HttpRequest {
         method,
         target,
@@ -174,7 +174,7 @@ fn response_of(alloc: Global, text: &str) -> Option<HttpResponse> {
     let (value, body) = rest.split_once('|')?;
     let status = status.parse::<u16>().ok()?;
     let fields = one_field(alloc, name, value)?;
-    let body = bytes(alloc, body)?;
+    let body = Body::from_slice(alloc, body.as_bytes()).ok()?;
     Some(HttpResponse {
         status,
         fields,

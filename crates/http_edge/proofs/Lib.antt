@@ -8,6 +8,7 @@ pub mod Extended
 pub mod Filled
 pub mod Chunked
 pub mod Replied
+pub mod Behind
 pub mod Formed
 pub mod Left
 pub mod Excluded

@@ -1,7 +1,7 @@
 // The bytes of a reply as they come.
-ghost use Rattle.std.specs.Prelude.{◌≡◌, ◌≤◌, ◌<◌, ◌+◌, length, vec_len};
+ghost use Rattle.std.specs.Prelude.{◌≡◌, ◌≤◌, ◌<◌, ◌+◌, length, drop, take, vec_len};
 ghost use Rattle.http_edge.specs.Arrivals.{Arrived, nothing_arrived, skipped, Fetches};
-ghost use Rattle.http_edge.specs.Fields.{most_head};
+ghost use Rattle.http_edge.specs.Fields.{most_head, most_body};
 ghost use Rattle.http_edge.specs.Requests.{EdgeCause};
 
 use crate::carry::receive;
@@ -29,7 +29,7 @@ impl Model for Arrivals {
 
     ghost view = { λ a. record { rest = drop a.at a.bytes.items; taken = a.before } };
 
-    ghost invariant = { λ a. (a.at ≤ vec_len a.bytes) × (vec_len a.bytes ≤ most_head) };
+    ghost invariant = { λ a. (a.at ≤ vec_len a.bytes) × (vec_len a.bytes ≤ most_head) × (a.at ≤ a.before) };
 }
 
 impl Arrivals {
@@ -56,6 +56,25 @@ impl Arrivals {
         ensures { result ≡ self.now.taken }
     {
         self.before
+    }
+
+    // The bytes that aren't taken yet, at most the first `most` of them, behind so many others that were taken.
+    pub(crate) fn into_front(self, most: usize) -> (usize, Vec<u8>)
+        requires { most ≤ most_body }
+        ensures front { drop result.0 result.1.items ≡ take most self.rest }
+        ensures within { result.0 ≤ vec_len result.1 }
+        ensures behind { result.0 ≤ length result.1.items }
+        ensures short { vec_len result.1 ≤ most_head }
+        ensures taken { result.0 ≤ self.taken }
+    {
+        let Arrivals {
+            bytes,
+            at,
+            before: _,
+        } = self;
+        let mut bytes = bytes;
+        bytes.truncate(at + most);
+        (at, bytes)
     }
 
     // Takes the next n bytes.

@@ -1,13 +1,14 @@
 // The body of a reply.
-ghost use Rattle.std.specs.Prelude.{◌≡◌, ◌≤◌, ◌+◌, ◌++◌, [], length, take, min, IfOk, vec_len};
+ghost use Rattle.std.specs.Prelude.{◌≡◌, ◌≤◌, ◌+◌, ◌++◌, [], List, ℕ, length, take, min, IfOk, vec_len};
 ghost use Rattle.http_edge.specs.Arrivals.{skipped};
-ghost use Rattle.http_edge.specs.declared.form.BodyForm.TheVariants.{ByChunks, ToEnd};
+ghost use Rattle.http_edge.specs.declared.form.BodyForm.TheVariants.{BySize, ByChunks, ToEnd};
 ghost use Rattle.http_edge.specs.Content.{TakesData, ReadsData, ReadsChunk, ReadsBody};
 ghost use Rattle.http_edge.specs.Fields.{most_head, most_body};
 ghost use Rattle.http_edge.specs.Replies.{IsSmallForm};
 ghost use Rattle.http_edge.specs.Requests.{EdgeCause};
 
 use crate::arrivals::Arrivals;
+use crate::body::Body;
 use crate::carry::receive;
 use crate::error::{EdgeError, edge_error};
 use crate::form::BodyForm;
@@ -15,6 +16,7 @@ use crate::parts::{Part, await_part};
 use crate::reader::read_rest;
 use actor_ports::Conn;
 use lists_and_limits::OutOfMemory;
+use std::alloc::Global;
 
 const MOST_BODY: usize = 4_194_304;
 
@@ -169,22 +171,67 @@ fn read_to_end<C: Conn>(
     })
 }
 
+// Reads a body of `size` bytes: those that have come, and then more as they come, behind them.
+fn read_sized<C: Conn>(arrivals: Arrivals, conn: &mut C, size: usize) -> Result<Body, EdgeError>
+    requires small { size ≤ most_body }
+    requires taken { arrivals.taken ≤ most_head }
+    ensures reads { (body : List ℕ) × ReadsBody (BySize size) arrivals body (C.read_traffic conn.old) (C.read_traffic conn.new) result × IfOk result (λ b. b ≡ body) }
+    ensures cause { EdgeCause (C.read_faults conn.old) (C.read_faults conn.new) result }
+{
+    let taken = arrivals.taken() as usize;
+    let (at, front) = arrivals.into_front(size);
+    let mut bytes = front;
+    let whole = at + size;
+    if bytes.reserve(size).is_err() {
+        return Err(EdgeError::OutOfMemory);
+    }
+    match read_rest(conn, &mut bytes, taken - at, whole) {
+        Err(error) => Err(error),
+        Ok(()) => Ok(Body::behind(at, bytes)),
+    }
+}
+
+// Reads a body of chunks.
+fn read_chunked<C: Conn>(alloc: Global, arrivals: Arrivals, conn: &mut C) -> Result<Body, EdgeError>
+    requires taken { arrivals.taken ≤ most_head }
+    ensures reads { (body : List ℕ) × ReadsBody ByChunks arrivals body (C.read_traffic conn.old) (C.read_traffic conn.new) result × IfOk result (λ b. b ≡ body) }
+    ensures cause { EdgeCause (C.read_faults conn.old) (C.read_faults conn.new) result }
+{
+    let mut arrivals = arrivals;
+    let mut body = Vec::new(alloc);
+    match read_chunks(&mut arrivals, conn, &mut body) {
+        Err(error) => Err(error),
+        Ok(()) => Ok(Body::from_vec(body)),
+    }
+}
+
+// Reads a body that ends with the input.
+fn read_ended<C: Conn>(alloc: Global, arrivals: Arrivals, conn: &mut C) -> Result<Body, EdgeError>
+    ensures reads { (body : List ℕ) × ReadsBody ToEnd arrivals body (C.read_traffic conn.old) (C.read_traffic conn.new) result × IfOk result (λ b. b ≡ body) }
+    ensures cause { EdgeCause (C.read_faults conn.old) (C.read_faults conn.new) result }
+{
+    let mut body = Vec::new(alloc);
+    match read_to_end(&arrivals, conn, &mut body) {
+        Err(error) => Err(error),
+        Ok(()) => Ok(Body::from_vec(body)),
+    }
+}
+
 // Reads the body behind a head, in this form.
 pub(crate) fn read_body<C: Conn>(
+    alloc: Global,
     form: BodyForm,
-    arrivals: &mut Arrivals,
+    arrivals: Arrivals,
     conn: &mut C,
-    body: &mut Vec<u8>,
-) -> Result<(), EdgeError>
-    requires empty { body.old.items ≡ [] }
+) -> Result<Body, EdgeError>
     requires small { IsSmallForm form }
-    requires taken { arrivals.old.taken ≤ most_head }
-    ensures reads { ReadsBody form arrivals.old body.new.items (C.read_traffic conn.old) (C.read_traffic conn.new) result }
+    requires taken { arrivals.taken ≤ most_head }
+    ensures reads { (body : List ℕ) × ReadsBody form arrivals body (C.read_traffic conn.old) (C.read_traffic conn.new) result × IfOk result (λ b. b ≡ body) }
     ensures cause { EdgeCause (C.read_faults conn.old) (C.read_faults conn.new) result }
 {
     match form {
-        BodyForm::BySize(size) => take_data(arrivals, conn, body, size),
-        BodyForm::ByChunks => read_chunks(arrivals, conn, body),
-        BodyForm::ToEnd => read_to_end(arrivals, conn, body),
+        BodyForm::BySize(size) => read_sized(arrivals, conn, size),
+        BodyForm::ByChunks => read_chunked(alloc, arrivals, conn),
+        BodyForm::ToEnd => read_ended(alloc, arrivals, conn),
     }
 }

@@ -11,9 +11,8 @@ use crate::content::read_body;
 use crate::error::EdgeError;
 use crate::message::{HttpRequest, HttpResponse};
 use crate::replies::await_reply;
-use crate::writing::write_request;
+use crate::writing::{write_request, write_text};
 use actor_ports::Conn;
-use lists_and_limits::Bytes;
 use std::alloc::Global;
 
 // Reads a reply to its end.
@@ -27,13 +26,12 @@ fn read_reply<C: Conn>(alloc: Global, conn: &mut C) -> Result<HttpResponse, Edge
         Ok(head) => head,
     };
     arrivals.skip(head.len);
-    let mut body = Vec::new(alloc);
-    match read_body(head.form, &mut arrivals, conn, &mut body) {
+    match read_body(alloc, head.form, arrivals, conn) {
         Err(error) => Err(error),
-        Ok(()) => Ok(HttpResponse {
+        Ok(body) => Ok(HttpResponse {
             status: head.status,
             fields: head.fields,
-            body: Bytes::from_vec(body),
+            body,
         }),
     }
 }
@@ -54,6 +52,22 @@ pub fn exchange<C: Conn>(
     ensures cause { EdgeCause (C.read_faults conn.old) (C.read_faults conn.new) result }
 {
     if let Err(error) = write_request(alloc, request, conn) {
+        return Err(error);
+    }
+    read_reply(alloc, conn)
+}
+
+/// Writes the text of a request, and reads its reply to the end as `exchange` does. The text isn't looked at.
+pub fn exchange_text<C: Conn>(
+    alloc: Global,
+    text: &[u8],
+    conn: &mut C,
+) -> Result<HttpResponse, EdgeError>
+    ensures exchanges { Exchanges text.now (C.read_traffic conn.old) (C.read_traffic conn.new) result }
+    ensures decides { IfSome (C.read_traffic conn.old) (λ t. Decides t.left result) }
+    ensures cause { EdgeCause (C.read_faults conn.old) (C.read_faults conn.new) result }
+{
+    if let Err(error) = write_text(text, conn) {
         return Err(error);
     }
     read_reply(alloc, conn)

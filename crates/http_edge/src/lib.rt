@@ -5,6 +5,7 @@
 #![tactic(auto)]
 
 mod arrivals;
+mod body;
 mod carry;
 mod content;
 mod error;
@@ -19,9 +20,10 @@ mod reader;
 mod replies;
 mod writing;
 
+pub use body::Body;
 pub use carry::{receive, send};
 pub use error::EdgeError;
-pub use exchanging::exchange;
+pub use exchanging::{exchange, exchange_text};
 pub use law::{reply_law, request_law};
 pub use lists_and_limits::Bytes;
 pub use message::{HttpField, HttpFields, HttpRequest, HttpResponse};

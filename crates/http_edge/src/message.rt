@@ -1,6 +1,7 @@
 // Messages and their fields.
 ghost use Rattle.std.specs.Prelude.{◌≡◌};
 
+use crate::body::Body;
 use lists_and_limits::Bytes;
 use std::marker::Model;
 
@@ -56,7 +57,7 @@ pub struct HttpRequest {
     pub method: Bytes,
     pub target: Bytes,
     pub fields: HttpFields,
-    pub body: Bytes,
+    pub body: Body,
     pub close: bool,
 }
 
@@ -65,5 +66,5 @@ pub struct HttpRequest {
 pub struct HttpResponse {
     pub status: u16,
     pub fields: HttpFields,
-    pub body: Bytes,
+    pub body: Body,
 }

@@ -6,14 +6,16 @@ ghost use Rattle.http_edge.specs.Inputs.{IsAnswerTo};
 ghost use Rattle.http_edge.specs.Requests.{ReadsNext, EdgeCause, ReaderState, new_reader, pair_of};
 ghost use Rattle.http_edge.specs.Steps.{IsHeadOf, AwaitsHead, FillsOver, EndsAt};
 
+use crate::body::Body;
 use crate::carry::receive;
 use crate::error::{EdgeError, edge_error};
 use crate::head::{Head, look_at_head};
 use crate::message::HttpRequest;
 use actor_ports::Conn;
-use lists_and_limits::{Bytes, OutOfMemory};
+use lists_and_limits::OutOfMemory;
 use std::alloc::Global;
 use std::marker::Model;
+use std::mem;
 
 const MOST_HEAD: usize = 16_384;
 
@@ -148,50 +150,37 @@ pub(crate) fn read_rest<C: Conn>(
     Ok(())
 }
 
-// Keeps only the bytes behind the first n.
-fn keep_rest(kept: &mut Vec<u8>, n: usize)
-    requires { n ≤ vec_len kept.old }
-    ensures { kept.new.items ≡ drop n kept.old.items }
-{
-    drop(kept.drain(..n));
-}
-
-// The request of a head and a body.
-fn with_body(head: Head, body: Vec<u8>) -> HttpRequest
+// The request of a head and the bytes of its message, the head's among them.
+fn with_body(head: Head, bytes: Vec<u8>) -> HttpRequest
+    requires { head.len ≤ vec_len bytes }
     ensures parts { (result.method ≡ head.method) × (result.target ≡ head.target) × (result.fields ≡ head.fields) × (result.close ≡ head.close) }
-    ensures body { result.body ≡ body.items }
+    ensures body { result.body ≡ drop head.len bytes.items }
 {
     HttpRequest {
         method: head.method,
         target: head.target,
         fields: head.fields,
-        body: Bytes::from_vec(body),
+        body: Body::behind(head.len, bytes),
         close: head.close,
     }
 }
 
-// Takes as much of a body of `size` bytes as is kept behind a head of `len` bytes; what is behind the body stays kept.
-fn split_body(
-    alloc: Global,
-    kept: &mut Vec<u8>,
-    len: usize,
-    size: usize,
-) -> Result<Vec<u8>, OutOfMemory>
-    requires { len ≤ vec_len kept.old }
-    ensures body { IfOk result (λ body. body.items ≡ take size (drop len kept.old.items)) }
-    ensures rest { OnOk result (kept.new.items ≡ drop size (drop len kept.old.items)) }
+// Takes the bytes of a message of `whole` bytes, as many as are kept; what is behind them stays kept.
+fn split_message(alloc: Global, kept: &mut Vec<u8>, whole: usize) -> Result<Vec<u8>, OutOfMemory>
+    ensures message { IfOk result (λ message. message.items ≡ take whole kept.old.items) }
+    ensures rest { OnOk result (kept.new.items ≡ drop whole kept.old.items) }
     ensures short { vec_len kept.new ≤ vec_len kept.old }
 {
-    let Ok(mut body) = Vec::with_capacity(alloc, size) else {
+    let have = whole.min(kept.len());
+    let Ok(rest) = Vec::from_slice(alloc, &kept.as_slice()[have..]) else {
         return Err(OutOfMemory);
     };
-    let behind = &kept.as_slice()[len..];
-    let have = size.min(behind.len());
-    if body.extend_from_slice(&behind[..have]).is_err() {
+    let mut message = mem::replace(kept, rest);
+    message.truncate(have);
+    if message.reserve(whole - have).is_err() {
         return Err(OutOfMemory);
     }
-    keep_rest(kept, len + have);
-    Ok(body)
+    Ok(message)
 }
 
 // Reads the request whose head is at the start of what is kept.
@@ -207,12 +196,13 @@ fn take_body<C: Conn>(
     ensures short { vec_len kept.new ≤ most_head }
     ensures cause { EdgeCause (C.read_faults conn.old) (C.read_faults conn.new) result }
 {
-    let Ok(mut body) = split_body(alloc, kept, head.len, head.size) else {
+    let whole = head.len + head.size;
+    let Ok(mut message) = split_message(alloc, kept, whole) else {
         return Err(EdgeError::OutOfMemory);
     };
-    match read_rest(conn, &mut body, head.len, head.size) {
+    match read_rest(conn, &mut message, 0, whole) {
         Err(error) => Err(error),
-        Ok(()) => Ok(Some(with_body(head, body))),
+        Ok(()) => Ok(Some(with_body(head, message))),
     }
 }
 

@@ -13,6 +13,9 @@ use itoa::Buffer;
 use lists_and_limits::OutOfMemory;
 use std::alloc::Global;
 
+// Room for a status line, whose longest phrase has 31 bytes.
+const MOST_STATUS_LINE: usize = 64;
+
 fn add(bytes: &[u8], into: &mut Vec<u8>) -> Result<(), OutOfMemory>
     ensures { OnOk result (into.new.items ≡ into.old.items ++ bytes.now) }
 {
@@ -123,6 +126,31 @@ fn add_request(request: &HttpRequest, into: &mut Vec<u8>) -> Result<(), OutOfMem
     add_sized(request.body.as_slice(), into)
 }
 
+// Room for a message with these fields, whose first line has at most `first` bytes, and this body.
+fn room_for(first: usize, fields: &[HttpField], body: &[u8]) -> usize {
+    let mut room = first.saturating_add(body.len()).saturating_add(64);
+    for field in fields {
+        let line = field
+            .name
+            .as_slice()
+            .len()
+            .saturating_add(field.value.as_slice().len());
+        room = room.saturating_add(line).saturating_add(4);
+    }
+    room
+}
+
+// Writes a text.
+pub(crate) fn write_text<C: Conn>(text: &[u8], conn: &mut C) -> Result<(), EdgeError>
+    ensures writes { WritesText (C.read_traffic conn.old) (C.read_traffic conn.new) text.now result }
+    ensures cause { EdgeCause (C.read_faults conn.old) (C.read_faults conn.new) result }
+{
+    match send(conn, text) {
+        Ok(()) => Ok(()),
+        Err(error) => Err(edge_error(error)),
+    }
+}
+
 // Writes a request.
 pub(crate) fn write_request<C: Conn>(
     alloc: Global,
@@ -136,10 +164,7 @@ pub(crate) fn write_request<C: Conn>(
     if add_request(request, &mut text).is_err() {
         return Err(EdgeError::OutOfMemory);
     }
-    match send(conn, text.as_slice()) {
-        Ok(()) => Ok(()),
-        Err(error) => Err(edge_error(error)),
-    }
+    write_text(text.as_slice(), conn)
 }
 
 /// Writes a response: its status line, its fields in their order except Content-Length and Transfer-Encoding, and
@@ -153,12 +178,13 @@ pub fn write_response<C: Conn>(
     ensures writes { WritesText (C.read_traffic conn.old) (C.read_traffic conn.new) (response_text response.now) result }
     ensures cause { EdgeCause (C.read_faults conn.old) (C.read_faults conn.new) result }
 {
-    let mut text = Vec::new(alloc);
+    let fields = response.fields.as_slice();
+    let room = room_for(MOST_STATUS_LINE, fields, response.body.as_slice());
+    let Ok(mut text) = Vec::with_capacity(alloc, room) else {
+        return Err(EdgeError::OutOfMemory);
+    };
     if add_response(response, &mut text).is_err() {
         return Err(EdgeError::OutOfMemory);
     }
-    match send(conn, text.as_slice()) {
-        Ok(()) => Ok(()),
-        Err(error) => Err(edge_error(error)),
-    }
+    write_text(text.as_slice(), conn)
 }

@@ -24,6 +24,7 @@ use Rattle.placement_node.specs.Node.{NodeState, NodeMoves, NodeAllows, Works, s
 use Rattle.placement_node.specs.Ranges.{ReplyFits}
 use Rattle.placement_node.specs.Replies.{event_space, reply_of, outcome_of}
 use Rattle.frame_session.specs.Rounds.{IsReply}
+use Rattle.frame_session.specs.AtStepGate.{StepReplies}
 use Rattle.placement_sessions.specs.Placements.{place_event, node_event}
 
 -- a reply of the placement that is a frame of the node
@@ -194,8 +195,8 @@ node_asks frame now e is = go (place_event frame) refl is
         subst (λ (x : NodeEvent). IsAsked x.event) here (frame_asks frame event found)
 
 -- a reply that the node gave to a frame is a message that may be sent
-pub reply_is_message : (r : NodeReply) → IsReply NodeAllows node_event r → IsMessage r × ReplyFits r
-reply_is_message r a = (moved_message a.0 a.4 r a.1 (node_asks a.2 a.3 a.4 a.6) a.7.0, a.7.1)
+pub reply_is_message : (r : NodeReply) → IsReply (StepReplies NodeAllows) node_event r → IsMessage r × ReplyFits r
+reply_is_message r a = let moves = a.5.2 in (moved_message a.5.0 a.2 r a.5.1 (node_asks a.0 a.1 a.2 a.4) moves.0, moves.1)
 
 message_frame : (r : NodeReply) → IsMessage r → ReplyFits r → (answer : Frame) × (r ≡ Message answer) × payload.Fits answer
 message_frame (Message frame) is fits = (frame, refl, fits)

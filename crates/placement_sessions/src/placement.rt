@@ -2,6 +2,7 @@
 ghost use Rattle.std.specs.Prelude.{◌≡◌, Option, IfSome};
 ghost use Rattle.frame_wire.specs.Frames.{IsFrame};
 ghost use Rattle.step_gate.specs.Gates.{IsSeatOf};
+ghost use Rattle.frame_session.specs.AtStepGate.{StepsMade, steps_seen};
 ghost use Rattle.frame_session.specs.Sessions.{IsSession, SessionCause};
 ghost use Rattle.placement_node.specs.Node.{NodeAllows};
 ghost use Rattle.placement_node.specs.Ranges.{EventFits};
@@ -51,7 +52,7 @@ fn loses_disk(refusal: &Refusal) -> bool
 /// `Reopen` break a session off.
 pub struct PlacementFrames;
 
-impl<D: Disk> AnswersFrames<PlacementNode<D>> for PlacementFrames {
+impl<D: Disk> AnswersFrames<Gate<PlacementNode<D>>> for PlacementFrames {
     ghost use Rattle.placement_sessions.specs.Placements.{node_event, node_answer, node_breaks};
 
     ghost event_of = { node_event };
@@ -97,8 +98,10 @@ pub fn placement_session<R: Wait, D: Disk, C: Conn, K: Clock>(
 ) -> (Seat<PlacementNode<D>>, SessionEnd)
     requires { IsSeatOf NodeAllows gate.now seat }
     ensures seat { IsSeatOf NodeAllows gate.now result.0 }
-    ensures session { IsSession node_event node_answer node_breaks seat result.0 (K.shown clock.old) (K.shown clock.new) (C.read_traffic conn.old) (C.read_traffic conn.new) result.1 }
+    ensures session { IsSession StepsMade steps_seen node_event node_answer node_breaks seat result.0 (K.shown clock.old) (K.shown clock.new) (C.read_traffic conn.old) (C.read_traffic conn.new) result.1 }
     ensures cause { SessionCause (C.read_faults conn.old) (C.read_faults conn.new) result.1 }
 {
-    frame_session::<R, PlacementNode<D>, PlacementFrames, C, K>(rt, alloc, gate, seat, conn, clock)
+    frame_session::<R, Gate<PlacementNode<D>>, PlacementFrames, C, K>(
+        rt, alloc, gate, seat, conn, clock,
+    )
 }

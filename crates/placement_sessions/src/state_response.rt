@@ -11,7 +11,7 @@ use crate::text::state_text;
 use actor_names::Space;
 use actors_api::{ApiRefusal, ApiReply, Side, write_api};
 use frame_wire::{Frame, Refusal};
-use http_edge::{Bytes, HttpField, HttpFields, HttpResponse};
+use http_edge::{Body, Bytes, HttpField, HttpFields, HttpResponse};
 use lists_and_limits::OutOfMemory;
 use placement_node::{NodeReply, RoomSeen};
 use std::alloc::Global;
@@ -76,7 +76,7 @@ fn json_response(alloc: Global, body: Vec<u8>) -> Result<HttpResponse, OutOfMemo
     Ok(HttpResponse {
         status: 200,
         fields: HttpFields::from_vec(fields),
-        body: Bytes::from_vec(body),
+        body: Body::from_vec(body),
     })
 }
 
@@ -110,7 +110,7 @@ pub(crate) fn refused_with(
     ensures { IfOk result (λ made. made ≡ closing closes (refused_with refusal)) }
 {
     let reply = ApiReply::Refused { refusal };
-    let response = write_api(alloc, Side::Caller, &reply)?;
+    let response = write_api(alloc, Side::Caller, reply)?;
     closing(alloc, closes, response)
 }
 

@@ -19,7 +19,7 @@ pub(crate) fn edge_response(
         None => Ok(None),
         Some(refusal) => {
             let reply = ApiReply::Refused { refusal };
-            let response = write_api(alloc, side, &reply)?;
+            let response = write_api(alloc, side, reply)?;
             Ok(Some(response))
         }
     }

@@ -23,7 +23,7 @@ fn response_of(alloc: Global, side: Side, answer: ApiReply) -> Result<HttpRespon
     match answer {
         ApiReply::Made { response } => Ok(response),
         ApiReply::Unanswered => Err(OutOfMemory),
-        other => write_api(alloc, side, &other),
+        other => write_api(alloc, side, other),
     }
 }
 
