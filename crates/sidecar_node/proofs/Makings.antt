@@ -14,7 +14,7 @@ use Rattle.part_model.specs.Receipts.{PartReply}
 use Rattle.part_model.specs.declared.event.Reply.TheVariants as replies
 use Rattle.part_model.specs.Rooms.{PartView}
 use Rattle.sidecar_node.specs.Entries.{Entry, PartEntry, Makes, Steps, told}
-use Rattle.sidecar_node.specs.Turns.{Said, Polls, AfterAsk, Either, asks_again}
+use Rattle.sidecar_node.specs.Turns.{Said, Polls, AfterAsk, AfterFirst, BeginsBy, Either, asks_again}
 
 module _ {E R : Type 0} where
   told_append : (ms ns : List (Made E R)) → map told (ms ++ ns) ≡ map told ms ++ map told ns
@@ -108,3 +108,30 @@ wait_ends asks answers call s t (Err spent) is again done x e =
 pub asked_other : (reply : PartReply) → ((call place : ℕ) → reply ≡ replies.Waits call place → ⊥) → AfterAsk reply [] (Ok reply)
 asked_other (replies.Waits call place) h = absurd (h call place refl)
 asked_other reply h = (refl, refl)
+
+-- what follows what came of an Ask
+pub first_spent : (first : Said) (spent : Spent) → first ≡ Err spent → AfterFirst first [] (Err spent)
+first_spent first spent is = subst (λ (f : Said). AfterFirst f [] (Err spent)) (sym is) (refl, tt)
+
+pub first_other : (first : Said) (reply : PartReply) → first ≡ Ok reply → ((call place : ℕ) → reply ≡ replies.Waits call place → ⊥) → AfterFirst first [] (Ok reply)
+first_other first reply is h = subst (λ (f : Said). AfterFirst f [] (Ok reply)) (sym is) (asked_other reply h)
+
+pub first_waits : (first : Said) (reply : PartReply) (call place : ℕ) (es : List PartEntry) (said : Said)
+    → first ≡ Ok reply → reply ≡ replies.Waits call place → Polls call es said → AfterFirst first es said
+first_waits first reply call place es said is waits p =
+    subst (λ (f : Said). AfterFirst f es said) (sym is) (subst (λ (r : PartReply). AfterAsk r es said) (sym waits) p)
+
+-- an Ask, and what followed it
+pub asked_then : (ask : PartEvent) (first said : Said) (s t u : OnPartSeat) (es : List PartEntry)
+    → IfOk first (λ r. Adds ask r s t) → IfErr first (λ e. (e.count ≡ 2 ^ 62) × SeesLast s t) → Makes es t u → AfterFirst first es said
+    → (fs : List PartEntry) × Makes fs s u × BeginsBy ask fs said
+asked_then ask (Ok reply) said s t u es added last makes follows =
+    let one : PartEntry = record { event = ask; reply = reply } in
+    (one ∷ es, makes_then s t u (one ∷ []) es (makes_once s t ask reply added) makes, (refl, follows))
+asked_then ask (Err spent) said s t u es added last makes follows =
+    ([], subst (λ (fs : List PartEntry). Makes fs s u) follows.0 (makes_then s t u [] es (makes_spent s t last.1) makes), follows.1)
+
+-- where the gate took no Ask, the seat has seen all of its entries
+pub full_of : (first : Said) (s t : OnPartSeat) → IfErr first (λ e. (e.count ≡ 2 ^ 62) × SeesLast s t) → IfErr first (λ e. (e.count ≡ 2 ^ 62) × (length (seen_of t) ≡ 2 ^ 62))
+full_of (Ok reply) s t e = e
+full_of (Err spent) s t e = (e.0, e.1.full)

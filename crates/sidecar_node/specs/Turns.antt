@@ -41,6 +41,11 @@ abbrev pub AfterAsk : PartReply → List PartEntry → Said → Type 0
 AfterAsk (replies.Waits call place) es said = Polls call es said
 AfterAsk reply es said = (es ≡ []) × (said ≡ Ok reply)
 
+-- what follows what came of it
+abbrev pub AfterFirst : Said → List PartEntry → Said → Type 0
+AfterFirst (Ok reply) es said = AfterAsk reply es said
+AfterFirst (Err spent) es said = (es ≡ []) × IsSpent said
+
 -- one such event, and what follows its reply; with no entry, the gate took none
 abbrev pub BeginsBy : PartEvent → List PartEntry → Said → Type 0
 BeginsBy ask [] said = IsSpent said

@@ -5,7 +5,7 @@ ghost use Rattle.step_gate.specs.Gates.{IsSeatOf, seen_of};
 ghost use Rattle.part_model.specs.Machine.{PartAllows};
 ghost use Rattle.part_model.specs.Rooms.{IsInRange};
 ghost use Rattle.sidecar_node.specs.Entries.{PartEntry, Makes};
-ghost use Rattle.sidecar_node.specs.Turns.{Begins, BeginsBy, AfterAsk, Polls, Ends, ask_of, asks_again};
+ghost use Rattle.sidecar_node.specs.Turns.{Begins, AfterFirst, Polls, Ends, ask_of, asks_again};
 ghost use Rattle.sidecar_node.specs.Nodes.{part_at, IsSeatsOf, ActsAt, SpentAt};
 
 use crate::node::{Seats, SidecarNode};
@@ -77,41 +77,25 @@ fn poll_turn<R: Wait>(
     )
 }
 
-// What follows the reply to an Ask.
+// What follows what came of an Ask.
 fn wait_turn<R: Wait>(
     rt: &R,
     gate: &Gate<Part>,
     seat: Seat<Part>,
-    reply: PartReply,
-) -> (Seat<Part>, Result<PartReply, Spent>)
-    requires { IsSeatOf PartAllows gate.now seat }
-    ensures seat { IsSeatOf PartAllows gate.now result.0 }
-    ensures follows { (es : List PartEntry) × Makes es seat result.0 × AfterAsk reply es result.1 }
-    ensures full { IfErr result.1 (λ e. (e.count ≡ 2 ^ 62) × (length (seen_of result.0) ≡ 2 ^ 62)) }
-{
-    match reply {
-        PartReply::Waits { call, place: _ } => poll_turn(rt, gate, seat, call),
-        last => (seat, Ok(last)),
-    }
-}
-
-// The Ask, and what follows its reply.
-fn ask_turn<R: Wait>(
-    rt: &R,
-    gate: &Gate<Part>,
-    seat: Seat<Part>,
-    ask: PartEvent,
+    first: Result<PartReply, Spent>,
 ) -> (Seat<Part>, Result<PartReply, Spent>)
     requires seat { IsSeatOf PartAllows gate.now seat }
-    requires range { IsInRange ask }
+    requires full { IfErr first (λ e. (e.count ≡ 2 ^ 62) × (length (seen_of seat) ≡ 2 ^ 62)) }
     ensures seat { IsSeatOf PartAllows gate.now result.0 }
-    ensures begins { (es : List PartEntry) × Makes es seat result.0 × BeginsBy ask es result.1 }
+    ensures follows { (es : List PartEntry) × Makes es seat result.0 × AfterFirst first es result.1 }
     ensures full { IfErr result.1 (λ e. (e.count ≡ 2 ^ 62) × (length (seen_of result.0) ≡ 2 ^ 62)) }
 {
-    let (seat, first) = gate.call(rt, seat, ask);
     match first {
         Err(spent) => (seat, Err(spent)),
-        Ok(reply) => wait_turn(rt, gate, seat, reply),
+        Ok(reply) => match reply {
+            PartReply::Waits { call, place: _ } => poll_turn(rt, gate, seat, call),
+            last => (seat, Ok(last)),
+        },
     }
 }
 
@@ -139,8 +123,10 @@ pub fn begin_turn<R: Wait, K: Clock>(
     match ask_event(alloc, key, chain, least, now) {
         Err(_) => Ok(PartReply::OutOfMemory),
         Ok(ask) => {
-            let seat = seats.parts.remove(part);
-            let (seat, said) = ask_turn(rt, &node.parts[part], seat, ask);
+            let gate = &node.parts[part];
+            let mut seat = seats.parts.remove(part);
+            let first = gate.call_in(rt, &mut seat, ask);
+            let (seat, said) = wait_turn(rt, gate, seat, first);
             put_at(&mut seats.parts, part, seat);
             said
         }
