@@ -4,7 +4,8 @@
        store_load redis PORT CLIENTS SECONDS         SET of such a value
 
    Each client is a thread with a connection of its own, and sends the next command once the one before was answered. It
-   prints how many were answered in the time, and the seconds of processor time that the clients took. */
+   prints how many were answered in the time, the seconds of processor time that the clients took, and the microseconds
+   within which half of the commands were answered, and 99 of 100. */
 #define _GNU_SOURCE
 #include <arpa/inet.h>
 #include <netinet/in.h>
@@ -28,7 +29,8 @@ static pthread_barrier_t start;
 
 struct client {
     int part;
-    unsigned long count;
+    unsigned long count, room;
+    float *waits;
     pthread_t thread;
 };
 
@@ -41,6 +43,21 @@ static double now(void) {
     struct timespec t;
     clock_gettime(CLOCK_MONOTONIC, &t);
     return t.tv_sec + t.tv_nsec / 1e9;
+}
+
+/* How long the client waited for an answer, in microseconds. */
+static void note(struct client *me, double wait) {
+    if (me->count == me->room) {
+        me->room = me->room * 2 + 1024;
+        me->waits = realloc(me->waits, me->room * sizeof *me->waits);
+        if (!me->waits) fail("no memory");
+    }
+    me->waits[me->count++] = (float)(wait * 1e6);
+}
+
+static int by_size(const void *a, const void *b) {
+    float x = *(const float *)a, y = *(const float *)b;
+    return (x > y) - (x < y);
 }
 
 static int dial(void) {
@@ -120,11 +137,15 @@ static void *work(void *given) {
         length = transaction(message, me->part, &number);
     }
     pthread_barrier_wait(&start);
-    for (double end = now() + seconds; now() < end; me->count++) {
+    double asked = now(), end = asked + seconds;
+    while (asked < end) {
         if (number) put(number, me->count + 1, 8);
         send_all(link, message, length);
         read_all(link, answer, wanted);
         if (memcmp(answer, good, wanted) != 0) fail("another answer");
+        double answered = now();
+        note(me, answered - asked);
+        asked = answered;
     }
     close(link);
     return NULL;
@@ -152,6 +173,15 @@ int main(int words, char **word) {
         count += client[i].count;
     }
     getrusage(RUSAGE_SELF, &used);
-    printf("%lu %.3f\n", count, used.ru_utime.tv_sec + used.ru_stime.tv_sec + (used.ru_utime.tv_usec + used.ru_stime.tv_usec) / 1e6);
+    float *waits = malloc((count + 1) * sizeof *waits);
+    if (!waits || count == 0) fail("no answers");
+    unsigned long filled = 0;
+    for (int i = 0; i < clients; i++) {
+        memcpy(waits + filled, client[i].waits, client[i].count * sizeof *waits);
+        filled += client[i].count;
+    }
+    qsort(waits, count, sizeof *waits, by_size);
+    double took = used.ru_utime.tv_sec + used.ru_stime.tv_sec + (used.ru_utime.tv_usec + used.ru_stime.tv_usec) / 1e6;
+    printf("%lu %.3f %.0f %.0f\n", count, took, waits[count / 2], waits[count * 99 / 100]);
     return 0;
 }
