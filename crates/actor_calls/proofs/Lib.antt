@@ -3,6 +3,7 @@ pub mod Servings
 pub mod Routings
 mod OwnerTexts
 mod PeerReads
+mod Shown
 mod Causes
 mod Completed
 pub mod Acting

@@ -6,14 +6,18 @@ use Rattle.part_model.specs.declared.event.PartEvent.{PartEvent}
 use Rattle.part_model.specs.declared.event.PartEvent.TheVariants as events
 use Rattle.part_model.specs.Receipts.{PartReply}
 use Rattle.part_model.specs.Part.{PartState, PartStep, is_stopped, running_step, step_at, part_step, ring_owner}
-use Rattle.part_model.specs.Rooms.{PartView, Gives, GivesEnded, GivesInMemory, GivesRunning, GivesStep}
+use Rattle.part_model.specs.Rooms.{PartView, Gives, GivesEnded, GivesInMemory, GivesStep}
 use Rattle.std.proofs.lemmas.Bool.{true≢false}
 
-pub not_stopped : (s : Stage) → (s ≡ Stopped → ⊥) → is_stopped s ≡ false
-not_stopped Locked n = refl
-not_stopped Updated n = refl
-not_stopped Open n = refl
-not_stopped Stopped n = absurd (n refl)
+-- what a step gives in a part that has not stopped
+abbrev pub GivesRunning : PartEvent → PartReply → PartState → PartView → Type 0
+GivesRunning (events.Ask key chain now) reply old new = GivesInMemory (running_step ring_owner old (events.Ask key chain now)) reply old new
+GivesRunning (events.AskAt key chain least now) reply old new = GivesInMemory (running_step ring_owner old (events.AskAt key chain least now)) reply old new
+GivesRunning (events.Poll call) reply old new = GivesInMemory (running_step ring_owner old (events.Poll call)) reply old new
+GivesRunning (events.TakeClosing now) reply old new = GivesInMemory (running_step ring_owner old (events.TakeClosing now)) reply old new
+GivesRunning (events.Tick now) reply old new = GivesEnded (running_step ring_owner old (events.Tick now)) reply new
+GivesRunning events.StopPart reply old new = GivesEnded (running_step ring_owner old events.StopPart) reply new
+GivesRunning event reply old new = Gives (running_step ring_owner old event) reply new
 
 pub running : (p : PartState) (event : PartEvent) → is_stopped p.stage ≡ false → running_step ring_owner p event ≡ part_step ring_owner p event
 running p event r = go p.stage r

@@ -1,12 +1,11 @@
 -- What each step of a part keeps and reports, by what it gives.
-use Rattle.std.proofs.Common.{◌≡◌, ℕ, ◌≤◌, ◌&&◌, true, ap, arith}
-use Rattle.std.proofs.lemmas.Bool.{and_parts, cond_both, false≢true}
+use Rattle.std.proofs.Common.{ℕ, ◌≤◌, ap, arith}
 use Rattle.part_model.specs.declared.event.PartEvent.{PartEvent}
 use Rattle.part_model.specs.declared.event.PartEvent.TheVariants as events
 use Rattle.part_model.specs.Receipts.{PartReply}
 use Rattle.part_model.specs.declared.event.Reply.TheVariants as replies
 use Rattle.part_model.specs.Part.{PartState, part_step, ring_owner}
-use Rattle.part_core.specs.Quiet.{IsQuietUntil, lowered, quiet_after, quiet_next, is_early, gives_none}
+use Rattle.part_core.specs.Quiet.{IsQuietUntil, lowered, quiet_after}
 use Rattle.part_model.specs.Rooms.{PartView, Gives, GivesEnded, GivesInMemory, GivesStep, IsInRange}
 use Rattle.part_model.specs.Sound.{IsPartSound, AreVersionsWithin, OwnsWhenOpen, TellsState}
 use Rattle.part_model.proofs.PartTables.{part_stepped}
@@ -65,13 +64,5 @@ step_good reply old new s events.StopPart g = by_ended reply old new s events.St
 
 -- ---- until when no actor may be idle
 
--- an event that asks too early leaves the moment
-early_left : (old : PartState) (event : PartEvent) (q : ℕ) → is_early event q ≡ true → q ≤ lowered old.kinds event q
-early_left old (events.TakeClosing now) q t = omega arith
-early_left old _ q t = absurd (false≢true t)
-
-pub quiet_stays : (old : PartState) (event : PartEvent) (reply : PartReply) (new : PartState) (q : ℕ) → IsQuietUntil old q → IsGoodStep old event reply new → IsQuietUntil new (quiet_next old event reply new q)
-quiet_stays old event reply new q quiet g =
-    cond_both (is_early event q && gives_none old) q (quiet_after new reply (lowered old.kinds event q)) (λ (r : ℕ). IsQuietUntil new r)
-    (λ t. g.quiet q q quiet (early_left old event q (and_parts (is_early event q) (gives_none old) t).0))
-    (λ _. quiet_then new reply (lowered old.kinds event q) (g.quiet q (lowered old.kinds event q) quiet (omega arith)))
+pub quiet_found : (old : PartState) (event : PartEvent) (reply : PartReply) (new : PartState) (q : ℕ) → IsQuietUntil old q → IsGoodStep old event reply new → IsQuietUntil new (quiet_after new reply (lowered old.kinds event q))
+quiet_found old event reply new q quiet g = quiet_then new reply (lowered old.kinds event q) (g.quiet q (lowered old.kinds event q) quiet (omega arith))

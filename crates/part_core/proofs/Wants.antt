@@ -21,7 +21,7 @@ use Rattle.part_model.specs.declared.event.PartEvent.TheVariants as events
 use Rattle.part_model.specs.Receipts.{PartReply}
 use Rattle.part_model.specs.declared.event.Reply.TheVariants as replies
 use Rattle.part_model.specs.Part.{PartState, PartStep, is_spent, most_drawn, is_open, is_stopped, is_full, found_or_first, call_chain, asked_step, ask_cell, ask_owned, ask_here, ask_part, owner_reply, polled_step, poll_cell, poll_part, first_to_close, close_cell, take_closing, stopped_step, running_step, part_step, ring_owner}
-use Rattle.part_model.specs.Rooms.{ask_takes, hands_out, RunsOutFor, RunsOutRunning, RunsOutRightly}
+use Rattle.part_model.specs.Rooms.{ask_takes, hands_out, RunsOutFor, RunsOutRightly}
 use Rattle.part_core.proofs.Runnings.{running}
 
 -- ---- an Ask that the first tests let go on
@@ -71,6 +71,14 @@ pub closing_hands : (p : PartState) (now : ℕ) (c : ActorCell) → first_to_clo
 closing_hands p now c found = ap (λ (f : Option ActorCell). hands_out (close_cell ring_owner p f).reply) found
 
 -- ---- any part
+
+-- where memory may run out in a part that has not stopped
+abbrev pub RunsOutRunning : PartEvent → PartReply → PartState → Type 0
+RunsOutRunning (events.Ask key chain now) reply old = RunsOutFor ask_takes (running_step ring_owner old (events.Ask key chain now)) reply
+RunsOutRunning (events.AskAt key chain least now) reply old = RunsOutFor ask_takes (running_step ring_owner old (events.AskAt key chain least now)) reply
+RunsOutRunning (events.Poll call) reply old = RunsOutFor hands_out (running_step ring_owner old (events.Poll call)) reply
+RunsOutRunning (events.TakeClosing now) reply old = RunsOutFor hands_out (running_step ring_owner old (events.TakeClosing now)) reply
+RunsOutRunning event reply old = Unit {0}
 
 module _ (reply : PartReply) (old : PartState) where
   at_step : (takes : PartReply → Bool) (event : PartEvent) → is_stopped old.stage ≡ false → RunsOutFor takes (running_step ring_owner old event) reply → RunsOutFor takes (part_step ring_owner old event) reply

@@ -85,8 +85,3 @@ gives_none_at p Stopped = false
 
 abbrev pub gives_none : PartState → Bool
 gives_none p = gives_none_at p p.stage
-
--- The moment after a step from one part to another with this reply. A part that is asked too early, and has no active
--- actor to give up, looks at nothing.
-abbrev pub quiet_next : PartState → PartEvent → PartReply → PartState → ℕ → ℕ
-quiet_next old event reply new q = if is_early event q && gives_none old then q else quiet_after new reply (lowered old.kinds event q)

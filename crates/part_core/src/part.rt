@@ -7,6 +7,7 @@ ghost use Rattle.part_model.specs.Sound.{NoIdleWaiter, IsPartSound, AreVersionsW
 
 use crate::actors::Actors;
 use crate::receipt::PartReply;
+use crate::resting::is_early;
 use crate::shard::Shard;
 use crate::standing::Standing;
 use actor_names::OutOfMemory;
@@ -84,7 +85,14 @@ impl Part {
         ensures owns { OwnsWhenOpen ring_owner self.new.state }
         ensures tells { IfSome (receipt_in result) (λ r. r ≡ receipt_of ring_owner self.new.state) }
     {
-        self.shard.step_until(event, &mut self.quiet)
+        if is_early(&event, self.quiet) && self.shard.gives_none() {
+            self.shard.forget();
+            return PartReply::NoneClosing;
+        }
+        let left = self.shard.lowered(&event, self.quiet);
+        let reply = self.shard.step(event);
+        self.quiet = self.shard.quiet_after(&reply, left);
+        reply
     }
 
     /// The calls whose turns the last step began or, for Tick and StopPart, ended: actors in order of key (space, type,

@@ -1,9 +1,6 @@
 // Until when no actor may be idle: before that moment a part answers at once that it has no actor to deactivate.
 ghost use Rattle.std.specs.Prelude.{◌≡◌};
-ghost use Rattle.part_model.specs.Part.{ring_owner};
-ghost use Rattle.part_core.specs.Quiet.{idle_from, least_idle, rest_moment, lowered, rest_end, first_idle, quiet_after, quiet_next, is_early, gives_none, IsQuietUntil};
-ghost use Rattle.part_model.specs.Rooms.{GivesStep, RunsOutRightly, IsInRange};
-ghost use Rattle.part_model.specs.Sound.{IsPartSound, OwnsWhenOpen};
+ghost use Rattle.part_core.specs.Quiet.{idle_from, least_idle, rest_moment, lowered, rest_end, first_idle, quiet_after, is_early, gives_none};
 
 use crate::holding::is_resting;
 use crate::receipt::PartReply;
@@ -48,7 +45,7 @@ fn rest_moment(event: &PartEvent) -> Option<u64>
 }
 
 /// Whether the event asks for an actor to deactivate before this moment.
-fn is_early(event: &PartEvent, quiet: u64) -> bool
+pub(crate) fn is_early(event: &PartEvent, quiet: u64) -> bool
     ensures { result ≡ is_early event.now quiet }
 {
     match event {
@@ -85,7 +82,7 @@ impl Shard {
     }
 
     /// Whether it runs, and has no active actor to give up to another owner.
-    fn gives_none(&self) -> bool
+    pub(crate) fn gives_none(&self) -> bool
         ensures { result ≡ gives_none self.now.state }
     {
         match self.standing.stage {
@@ -95,7 +92,7 @@ impl Shard {
     }
 
     /// What the event leaves of a moment before which no actor may be idle.
-    fn lowered(&self, event: &PartEvent, quiet: u64) -> u64
+    pub(crate) fn lowered(&self, event: &PartEvent, quiet: u64) -> u64
         ensures { result ≡ lowered self.now.state.kinds event.now quiet }
     {
         match rest_moment(event) {
@@ -105,33 +102,12 @@ impl Shard {
     }
 
     /// The moment before which no actor may be idle, after a step with this reply that left the moment `quiet`.
-    fn quiet_after(&self, reply: &PartReply, quiet: u64) -> u64
+    pub(crate) fn quiet_after(&self, reply: &PartReply, quiet: u64) -> u64
         ensures { result ≡ quiet_after self.now.state reply.now quiet }
     {
         match reply {
             PartReply::NoneClosing => self.first_idle(),
             _ => quiet,
         }
-    }
-
-    /// One step of a part in which no actor may be idle before the moment `quiet`. It is set to such a moment after the
-    /// step.
-    pub(crate) fn step_until(&mut self, event: PartEvent, quiet: &mut u64) -> PartReply
-        requires range { IsInRange event }
-        requires sound { IsPartSound ring_owner self.old.state }
-        requires owns { OwnsWhenOpen ring_owner self.old.state }
-        requires quiet { IsQuietUntil self.old.state quiet.old }
-        ensures gives { GivesStep event result self.old.state self.new }
-        ensures memory { RunsOutRightly event result self.old.state }
-        ensures quiet { quiet.new ≡ quiet_next self.old.state event result self.new.state quiet.old }
-    {
-        if is_early(&event, *quiet) && self.gives_none() {
-            self.actors.forget();
-            return PartReply::NoneClosing;
-        }
-        let left = self.lowered(&event, *quiet);
-        let reply = self.step(event);
-        *quiet = self.quiet_after(&reply, left);
-        reply
     }
 }

@@ -1,13 +1,13 @@
 // A part as a state machine: what it is, and its actors.
-ghost use Rattle.std.specs.Prelude.{◌≡◌, ◌≤◌, ◌^◌, false, true, []};
-ghost use Rattle.part_model.specs.Part.{is_stopped, unchanged, lock_part, update_part, unlock_part, tick_part, stop_part, closed_part, running_step, stopped_step, part_step, receipt_of, ring_owner};
-ghost use Rattle.part_model.specs.Rooms.{Gives, GivesEnded, GivesRunning, GivesStep, RunsOutRunning, RunsOutRightly, IsInRange};
+ghost use Rattle.std.specs.Prelude.{◌≡◌, ◌≤◌, ◌^◌, []};
+ghost use Rattle.part_model.specs.Part.{unchanged, lock_part, update_part, unlock_part, tick_part, stop_part, closed_part, stopped_step, receipt_of, ring_owner};
+ghost use Rattle.part_model.specs.Rooms.{Gives, GivesEnded, GivesStep, RunsOutRightly, IsInRange};
 ghost use Rattle.part_model.specs.Sound.{IsPartSound, OwnsWhenOpen};
 
 use crate::actors::Actors;
 use crate::closing::{gives_up, is_closed};
 use crate::receipt::{PartReply, Receipt};
-use crate::stage::{is_locked, is_updated};
+use crate::stage::{is_locked, is_stopped, is_updated};
 use crate::standing::Standing;
 use actor_names::ActorKey;
 use part_model::{PartEvent, Stage};
@@ -38,6 +38,13 @@ impl Shard {
         ensures { result.now ≡ self.now.recent }
     {
         self.actors.calls()
+    }
+
+    /// Forgets the calls of the last step.
+    pub(crate) fn forget(&mut self)
+        ensures { self.new ≡ record self.old { recent = [] } }
+    {
+        self.actors.forget();
     }
 
     /// The receipt of the part.
@@ -172,15 +179,17 @@ impl Shard {
         }
     }
 
-    /// One step of a part that has not stopped.
-    fn run(&mut self, event: PartEvent) -> PartReply
-        requires running { is_stopped self.old.state.stage ≡ false }
+    /// One step of the part.
+    pub(crate) fn step(&mut self, event: PartEvent) -> PartReply
         requires range { IsInRange event }
         requires sound { IsPartSound ring_owner self.old.state }
         requires owns { OwnsWhenOpen ring_owner self.old.state }
-        ensures gives { GivesRunning event result self.old.state self.new }
-        ensures memory { RunsOutRunning event result self.old.state }
+        ensures gives { GivesStep event result self.old.state self.new }
+        ensures memory { RunsOutRightly event result self.old.state }
     {
+        if is_stopped(&self.standing.stage) {
+            return self.stopped(event);
+        }
         match event {
             PartEvent::Ask { key, chain, .. } => self.actors.ask(&self.standing, key, chain, 0),
             PartEvent::AskAt {
@@ -201,20 +210,6 @@ impl Shard {
             PartEvent::TakeClosing { now } => self.actors.take_closing(&self.standing, now),
             PartEvent::Closed { key } => self.closed(&key),
             PartEvent::StopPart => self.stop(),
-        }
-    }
-
-    /// One step of the part.
-    pub(crate) fn step(&mut self, event: PartEvent) -> PartReply
-        requires range { IsInRange event }
-        requires sound { IsPartSound ring_owner self.old.state }
-        requires owns { OwnsWhenOpen ring_owner self.old.state }
-        ensures gives { GivesStep event result self.old.state self.new }
-        ensures memory { RunsOutRightly event result self.old.state }
-    {
-        match self.standing.stage {
-            Stage::Stopped => self.stopped(event),
-            _ => self.run(event),
         }
     }
 }

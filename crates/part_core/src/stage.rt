@@ -1,6 +1,6 @@
 // Which stage a part is in.
 ghost use Rattle.std.specs.Prelude.{◌≡◌};
-ghost use Rattle.part_model.specs.Part.{is_locked, is_updated};
+ghost use Rattle.part_model.specs.Part.{is_locked, is_updated, is_stopped};
 
 use part_model::Stage;
 
@@ -20,6 +20,16 @@ pub(crate) fn is_updated(stage: &Stage) -> bool
 {
     match stage {
         Stage::Updated => true,
+        _ => false,
+    }
+}
+
+/// Whether it is Stopped.
+pub(crate) fn is_stopped(stage: &Stage) -> bool
+    ensures { result ≡ is_stopped stage.now }
+{
+    match stage {
+        Stage::Stopped => true,
         _ => false,
     }
 }

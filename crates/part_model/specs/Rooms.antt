@@ -5,7 +5,7 @@ use Rattle.part_model.specs.declared.event.PartEvent.TheVariants as events
 use Rattle.part_model.specs.Receipts.{PartReply}
 use Rattle.part_model.specs.declared.event.Reply.TheVariants as replies
 use Rattle.part_model.specs.Marks.{begun_calls, ended_calls}
-use Rattle.part_model.specs.Part.{PartState, PartStep, is_stopped, running_step, part_step, ring_owner}
+use Rattle.part_model.specs.Part.{PartState, PartStep, is_stopped, part_step, ring_owner}
 
 -- the state, and the calls that the last step began or, for Tick and StopPart, ended
 pub record PartView : Type 0 where
@@ -25,17 +25,7 @@ abbrev pub GivesInMemory : PartStep → PartReply → PartState → PartView →
 GivesInMemory step replies.OutOfMemory old new = (new ≡ record { state = old; recent = [] }) × (is_stopped old.stage ≡ false)
 GivesInMemory step reply old new = Gives step reply new
 
--- Only Ask, AskAt, Poll and TakeClosing may run out of memory. Here the part has not stopped.
-abbrev pub GivesRunning : PartEvent → PartReply → PartState → PartView → Type 0
-GivesRunning (events.Ask key chain now) reply old new = GivesInMemory (running_step ring_owner old (events.Ask key chain now)) reply old new
-GivesRunning (events.AskAt key chain least now) reply old new = GivesInMemory (running_step ring_owner old (events.AskAt key chain least now)) reply old new
-GivesRunning (events.Poll call) reply old new = GivesInMemory (running_step ring_owner old (events.Poll call)) reply old new
-GivesRunning (events.TakeClosing now) reply old new = GivesInMemory (running_step ring_owner old (events.TakeClosing now)) reply old new
-GivesRunning (events.Tick now) reply old new = GivesEnded (running_step ring_owner old (events.Tick now)) reply new
-GivesRunning events.StopPart reply old new = GivesEnded (running_step ring_owner old events.StopPart) reply new
-GivesRunning event reply old new = Gives (running_step ring_owner old event) reply new
-
--- the same for any part
+-- only Ask, AskAt, Poll and TakeClosing may run out of memory
 abbrev pub GivesStep : PartEvent → PartReply → PartState → PartView → Type 0
 GivesStep (events.Ask key chain now) reply old new = GivesInMemory (part_step ring_owner old (events.Ask key chain now)) reply old new
 GivesStep (events.AskAt key chain least now) reply old new = GivesInMemory (part_step ring_owner old (events.AskAt key chain least now)) reply old new
@@ -65,15 +55,7 @@ hands_out reply = false
 abbrev pub RunsOutFor : (PartReply → Bool) → PartStep → PartReply → Type 0
 RunsOutFor takes step reply = reply ≡ replies.OutOfMemory → takes step.reply ≡ true
 
--- the same for the four events that may run out of memory, here in a part that has not stopped
-abbrev pub RunsOutRunning : PartEvent → PartReply → PartState → Type 0
-RunsOutRunning (events.Ask key chain now) reply old = RunsOutFor ask_takes (running_step ring_owner old (events.Ask key chain now)) reply
-RunsOutRunning (events.AskAt key chain least now) reply old = RunsOutFor ask_takes (running_step ring_owner old (events.AskAt key chain least now)) reply
-RunsOutRunning (events.Poll call) reply old = RunsOutFor hands_out (running_step ring_owner old (events.Poll call)) reply
-RunsOutRunning (events.TakeClosing now) reply old = RunsOutFor hands_out (running_step ring_owner old (events.TakeClosing now)) reply
-RunsOutRunning event reply old = Unit {0}
-
--- and for any part
+-- the same for the four events that may run out of memory
 abbrev pub RunsOutRightly : PartEvent → PartReply → PartState → Type 0
 RunsOutRightly (events.Ask key chain now) reply old = RunsOutFor ask_takes (part_step ring_owner old (events.Ask key chain now)) reply
 RunsOutRightly (events.AskAt key chain least now) reply old = RunsOutFor ask_takes (part_step ring_owner old (events.AskAt key chain least now)) reply

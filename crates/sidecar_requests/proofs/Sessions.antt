@@ -6,7 +6,11 @@ use Rattle.lists_and_limits.specs.declared.memory.OutOfMemory.{OutOfMemory}
 use Rattle.actor_ports.specs.declared.session.SessionEnd.{SessionEnd}
 use Rattle.actor_ports.specs.Traffic.{Traffic}
 use Rattle.http_edge.specs.declared.message.HttpResponse.{HttpResponse}
-use Rattle.http_session.specs.Rounds.{Round, AreRounds}
+use Rattle.http_edge.specs.declared.error.EdgeError.{EdgeError}
+use Rattle.http_edge.specs.declared.error.EdgeError.TheVariants as edge
+use Rattle.http_edge.specs.declared.message.HttpRequest.{HttpRequest}
+use Rattle.std.specs.declared.result.Result.TheVariants.{Ok, Err}
+use Rattle.http_session.specs.Rounds.{Round, AreRounds, Turns}
 use Rattle.http_session.specs.Sessions.{IsSession}
 use Rattle.actors_api.specs.declared.reply.ApiReply.{ApiReply}
 use Rattle.actors_api.specs.declared.reply.ApiReply.TheVariants.{Made, Unanswered}
@@ -16,7 +20,7 @@ use Rattle.sidecar_node.specs.Nodes.{Acts}
 use Rattle.sidecar_node.proofs.Actings.{acts_none, acts_then}
 use Rattle.exchanges.specs.Exchanges.{Exchange}
 use Rattle.exchanges.proofs.Diallings.{none_made, dialling_then}
-use Rattle.sidecar_requests.specs.Sessions.{Dialler, Standing, Stays, Exchanged, Deed, Account, account, all_of, edge_response, Does, Sends, IsAnswered, SessionDoes}
+use Rattle.sidecar_requests.specs.Sessions.{Dialler, Standing, Stays, Exchanged, Deed, Account, account, all_of, edge_response, Does, Sends, IsSent, IsAnswered, SessionDoes}
 
 -- ---- one request
 
@@ -27,10 +31,28 @@ sends_other side Unanswered got made none h = absurd (none refl)
 sends_other side answer got made none h = h
 
 -- a request was served, and noted behind those before it
-pub is_answered :
+is_answered :
     (side : Side) (s t : Standing) (before : List Deed) (d : Deed) (got : Result HttpResponse OutOfMemory)
     → Does side s d t → Sends side d.answer got → IsAnswered side (account s before) d.request got (account t (before ++ d ∷ []))
 is_answered side s t before d got does response = record { deed = d; asked = refl; does = does; noted = refl; response = response }
+
+-- what is known of an answer holds of the turn in which it was sent
+turns_as :
+    {S T : Type 0} (p : S → HttpRequest → Result HttpResponse OutOfMemory → S → Type 0) (q : T → HttpRequest → Result HttpResponse OutOfMemory → T → Type 0) (s0 s1 : S) (t0 t1 : T) (request : HttpRequest)
+    → ((got : Result HttpResponse OutOfMemory) → p s0 request got s1 → q t0 request got t1)
+    → (before after : Option Traffic) (written : Result (Unit {0}) EdgeError) → Turns p s0 s1 request before after written → Turns q t0 t1 request before after written
+turns_as p q s0 s1 t0 t1 request h before after (Ok x) w = (w.0, h (Ok w.0) w.1, w.2)
+turns_as p q s0 s1 t0 t1 request h before after (Err edge.ConnFault) w = (w.0, w.1, h (Ok w.0) w.2, w.3, w.4)
+turns_as p q s0 s1 t0 t1 request h before after (Err edge.OutOfMemory) w = (w.0, h w.0 w.1, w.2)
+turns_as p q s0 s1 t0 t1 request h before after (Err error) w = absurd w
+
+-- a request was served, and its answer sent
+pub is_turn :
+    (side : Side) (s t : Standing) (before : List Deed) (d : Deed) (t0 t1 : Option Traffic) (written : Result (Unit {0}) EdgeError)
+    → Does side s d t → IsSent side d.answer d.request t0 t1 written → Turns (IsAnswered side) (account s before) (account t (before ++ d ∷ [])) d.request t0 t1 written
+is_turn side s t before d t0 t1 written does sent =
+    turns_as (λ (x : Unit {0}) (asked : HttpRequest) (got : Result HttpResponse OutOfMemory) (y : Unit {0}). Sends side d.answer got) (IsAnswered side) tt tt (account s before) (account t (before ++ d ∷ [])) d.request
+    (λ got sends. is_answered side s t before d got does sends) t0 t1 written sent
 
 -- ---- requests add up
 
@@ -92,7 +114,7 @@ module _ (side : Side) where
           store = done_exchanges (λ (d : Deed). d.store) (λ (u : Standing). u.store) (λ a b d m. m.store) deeds s t done;
         }
 
-    pub session_does : IsSession (IsAnswered side) (edge_response side) (account s []) (account t deeds) t0 t1 f0 f1 end → SessionDoes side s t t0 t1 f0 f1 end
+    session_does : IsSession (IsAnswered side) (edge_response side) (account s []) (account t deeds) t0 t1 f0 f1 end → SessionDoes side s t t0 t1 f0 f1 end
     session_does (inl h) = let r = rounds_done h.0 (account s []) (account t deeds) h.2.each in whole (inl h) r.0 r.2 r.1
     session_does (inr (inl h)) = let r = rounds_done h.0 (account s []) (account t deeds) h.4.each in whole (inr (inl h)) r.0 r.2 r.1
     session_does (inr (inr h)) =
@@ -100,3 +122,6 @@ module _ (side : Side) where
         let r = rounds_done h.0 (account s []) cut.server cut.each in
         let one = cut.answered in
         whole (inr (inr h)) (r.0 ++ one.deed ∷ []) (one.noted ∙ ap (λ (l : List Deed). l ++ one.deed ∷ []) r.2) (done_more r.0 one.deed s cut.server.at t r.1 one.does)
+
+  pub adds_up : (s t : Standing) (t0 t1 : Option Traffic) (f0 f1 : ℕ) (end : SessionEnd) → (deeds : List Deed) × IsSession (IsAnswered side) (edge_response side) (account s []) (account t deeds) t0 t1 f0 f1 end → SessionDoes side s t t0 t1 f0 f1 end
+  adds_up s t t0 t1 f0 f1 end h = session_does s t t0 t1 f0 f1 end h.0 h.1

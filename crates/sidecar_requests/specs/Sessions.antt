@@ -8,6 +8,7 @@ use Rattle.actor_ports.specs.declared.session.SessionEnd.{SessionEnd}
 use Rattle.http_edge.specs.declared.message.HttpRequest.{HttpRequest}
 use Rattle.http_edge.specs.declared.message.HttpResponse.{HttpResponse}
 use Rattle.http_edge.specs.declared.error.EdgeError.{EdgeError}
+use Rattle.http_session.specs.Rounds.{Turns}
 use Rattle.http_session.specs.Sessions.{IsSession}
 use Rattle.actors_api.specs.declared.refusal.ApiRefusal.{ApiRefusal}
 use Rattle.actors_api.specs.declared.reply.ApiReply.{ApiReply}
@@ -115,6 +116,11 @@ module _ (side : Side) where
   Sends (Made response) got = got ≡ Ok response
   Sends Unanswered got = IsErr got
   Sends answer got = IfOk got (λ r. r ≡ response_of side answer)
+
+  -- what goes out of the answer to this request was written, or its front
+  abbrev pub IsSent : ApiReply → HttpRequest → Option Traffic → Option Traffic → Result (Unit {0}) EdgeError → Type 0
+  IsSent answer request before after written =
+      Turns (λ (s : Unit {0}) (asked : HttpRequest) (got : Result HttpResponse OutOfMemory) (t : Unit {0}). Sends answer got) tt tt request before after written
 
   -- a request was served and noted, and what goes out is that of its answer
   pub record IsAnswered (s : Account) (request : HttpRequest) (got : Result HttpResponse OutOfMemory) (t : Account) : Type 0 where

@@ -11,6 +11,7 @@
 // `frame_wire`, `part_model`, `part_core`, `timer_book`, `http_edge` and `actor_ports`.
 #![tactic(auto)]
 
+mod answering;
 mod ask;
 mod asking;
 mod edge;
@@ -23,7 +24,6 @@ mod session;
 mod state;
 mod stepping;
 mod timer;
-mod turn;
 
 pub use ask::{StoreAsk, Wanted};
 pub use law::{record_law, request_law};

@@ -1,8 +1,8 @@
 // Steps at a gate: one, or as many as it takes until the awaited reply comes.
-ghost use Rattle.std.specs.Prelude.{◌≡◌, ◌^◌, [], ◌∷◌, List, length, IfOk, IfErr};
+ghost use Rattle.std.specs.Prelude.{◌≡◌, ◌^◌, List, length, IfOk, IfErr};
 ghost use Rattle.std.specs.Fn.{FnReturnsAt};
 ghost use Rattle.step_gate.specs.declared.view.Made.{Made};
-ghost use Rattle.step_gate.specs.Gates.{gate_id, seen_of, IsSeatOf, Adds, SeesLast};
+ghost use Rattle.step_gate.specs.Gates.{seen_of, IsSeatOf, Adds, SeesLast};
 ghost use Rattle.step_gate.specs.Waiting.{Tries, Succeeds};
 
 use crate::gate::{Gate, Seat, Spent};
@@ -13,16 +13,6 @@ use std::snapshot::Snapshot;
 use std::sync::Wait;
 
 impl<M: Machine> Gate<M> {
-    // Makes one step on the value that the seat holds.
-    fn step(&self, seat: &mut Seat<M>, event: M::Event) -> M::Reply
-        requires seat { (seat.old.table_id ≡ gate_id self.now) × ((x : M) × (seat.old.me.1 ≡ (0, x) ∷ [])) }
-        requires event { M.takes event }
-        ensures seat { (seat.new.table_id ≡ seat.old.table_id) × (seat.new.me.0 ≡ seat.old.me.0) }
-        ensures value { (x : M) × (y : M) × (seat.old.me.1 ≡ (0, x) ∷ []) × M.moves x event result y × (seat.new.me.1 ≡ (0, y) ∷ []) }
-    {
-        seat.slot_mut(&self.table.shared, 0).step(event)
-    }
-
     // Makes one step, but wakes none of the calls that its reply is news for.
     fn make_step<R: Wait>(
         &self,
@@ -42,7 +32,7 @@ impl<M: Machine> Gate<M> {
             return Err(Spent { count: 1 << 62 });
         }
         let said = Snapshot::of(&event);
-        let reply = self.step(seat, event);
+        let reply = seat.slot_mut(&self.table.shared, 0).step(event);
         self.release::<Brand>(seat, at, &said, &reply);
         Ok(reply)
     }

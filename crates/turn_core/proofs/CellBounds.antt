@@ -5,12 +5,14 @@ use Rattle.std.proofs.lemmas.Bool.{cond_both, cond-true, cond-false, or_parts}
 use Rattle.std.proofs.lemmas.List.{append-nil}
 use Rattle.turn_core.specs.declared.cell.Turn.{Turn}
 use Rattle.turn_core.specs.declared.cell.Waiter.{Waiter}
+use Rattle.std.specs.declared.result.Result.TheVariants.{Ok}
+use Rattle.turn_core.specs.declared.answer.Asked.TheVariants as asked
 use Rattle.turn_core.specs.declared.answer.CellEnd.TheVariants as ending
 use Rattle.turn_core.specs.declared.answer.CellPoll.TheVariants as polled
-use Rattle.turn_core.specs.Cell.{CellState, EndStep, PollStep, longest_queue, is_in_cell, is_free, is_open_chain, kept_chain, has_turn, without_turn, waiter_of, without_waiter, first_unmoved, without_first_unmoved, all_moved, begun_turns, begun_next, next_call, call_of, without_call, not_open, cell_end, poll_waiter, cell_poll}
+use Rattle.turn_core.specs.Cell.{CellState, AskStep, admit_call, EndStep, PollStep, longest_queue, is_in_cell, is_free, is_open_chain, kept_chain, has_turn, without_turn, waiter_of, without_waiter, first_unmoved, without_first_unmoved, all_moved, begun_turns, begun_next, next_call, call_of, without_call, not_open, cell_end, poll_waiter, cell_poll}
 use Rattle.turn_core.specs.CellSound.{FitsDepth, IsCellSound, IsCellKept}
 use Rattle.turn_core.proofs.Elements.{In-without_waiter}
-use Rattle.turn_core.proofs.CellSteps.{kept_chain-fits}
+use Rattle.turn_core.proofs.CellSteps.{kept_chain-fits, ask_cases}
 use Rattle.turn_core.proofs.CellKeeps.{queue_sound, turn_begins, enters_beside, enters_free, waits_sound, without_call_sound, next_begins, moves_keep}
 use Rattle.turn_core.proofs.Once.{begun_once, waits_once, ended_once, taken_once, next_once, moved_once}
 use Rattle.turn_core.proofs.Places.{of_waiter, waiter_of-found, waiter_of-missed, without_waiter-found, place_of-found}
@@ -85,7 +87,7 @@ begun_kept c turns queue k free p q =
 
 -- ---- ask
 
-pub asked_kept : (c : CellState) (call : ℕ) (chain kept : Option (List ℕ)) (turns : List Turn) → IsCellKept c → is_in_cell call c ≡ false → (0 < c.depth → IsSome chain) → kept ≡ kept_chain c chain
+asked_kept : (c : CellState) (call : ℕ) (chain kept : Option (List ℕ)) (turns : List Turn) → IsCellKept c → is_in_cell call c ≡ false → (0 < c.depth → IsSome chain) → kept ≡ kept_chain c chain
     → is_open_chain c kept ≡ true → length c.turns < c.depth → turns ≡ c.turns ++ record { call = call; chain = kept } ∷ [] → IsCellKept (record c { turns = turns })
 asked_kept c call chain kept turns k absent given same o l p =
     let fits : FitsDepth c.depth kept = subst (λ (z : Option (List ℕ)). FitsDepth c.depth z) (sym same) (kept_chain-fits c chain given) in
@@ -94,7 +96,7 @@ asked_kept c call chain kept turns k absent given same o l p =
     (record { sound = begun.sound; once = begun_once c call kept k.once absent; depth_fits = k.depth_fits; queue_fits = k.queue_fits; holds_fit = k.holds_fit })
 
 -- the same for a call that begins in a free cell
-pub freed_kept : (c : CellState) (call : ℕ) (chain kept : Option (List ℕ)) (turns : List Turn) → IsCellKept c → is_in_cell call c ≡ false → (0 < c.depth → IsSome chain) → kept ≡ kept_chain c chain
+freed_kept : (c : CellState) (call : ℕ) (chain kept : Option (List ℕ)) (turns : List Turn) → IsCellKept c → is_in_cell call c ≡ false → (0 < c.depth → IsSome chain) → kept ≡ kept_chain c chain
     → c.turns ≡ [] → turns ≡ c.turns ++ record { call = call; chain = kept } ∷ [] → IsCellKept (record c { turns = turns })
 freed_kept c call chain kept turns k absent given same free p =
     let fits : FitsDepth c.depth kept = subst (λ (z : Option (List ℕ)). FitsDepth c.depth z) (sym same) (kept_chain-fits c chain given) in
@@ -102,7 +104,7 @@ freed_kept c call chain kept turns k absent given same free p =
     subst (λ (ts : List Turn). IsCellKept (record c { turns = ts })) (sym p)
     (record { sound = begun.sound; once = begun_once c call kept k.once absent; depth_fits = k.depth_fits; queue_fits = k.queue_fits; holds_fit = k.holds_fit })
 
-pub waits_kept : (c : CellState) (call : ℕ) (chain kept : Option (List ℕ)) (queue : List Waiter) → IsCellKept c → is_in_cell call c ≡ false → (0 < c.depth → IsSome chain) → kept ≡ kept_chain c chain
+waits_kept : (c : CellState) (call : ℕ) (chain kept : Option (List ℕ)) (queue : List Waiter) → IsCellKept c → is_in_cell call c ≡ false → (0 < c.depth → IsSome chain) → kept ≡ kept_chain c chain
     → length c.queue < longest_queue → queue ≡ c.queue ++ record { call = call; chain = kept; moved = false } ∷ [] → IsCellKept (record c { queue = queue })
 waits_kept c call chain kept queue k absent given same l p =
     let fits : FitsDepth c.depth kept = subst (λ (z : Option (List ℕ)). FitsDepth c.depth z) (sym same) (kept_chain-fits c chain given) in
@@ -114,6 +116,30 @@ waits_kept c call chain kept queue k absent given same l p =
       queue_fits = (let q : length (c.queue ++ record { call = call; chain = kept; moved = false } ∷ []) ≡ length c.queue + 1 = simp length-append in omega arith);
       holds_fit = k.holds_fit;
     })
+
+-- the call begins, as it may
+pub begins_kept : (c : CellState) (call : ℕ) (chain kept : Option (List ℕ)) (may_begin : Bool) (turns : List Turn) → IsCellKept c → is_in_cell call c ≡ false → (0 < c.depth → IsSome chain) → kept ≡ kept_chain c chain
+    → (admit_call c call chain may_begin).answer ≡ Ok asked.Begun → turns ≡ c.turns ++ record { call = call; chain = kept } ∷ [] → IsCellKept (record c { turns = turns })
+begins_kept c call chain kept may_begin turns k absent given same begun p =
+    ask_cases c call chain may_begin (λ (s : AskStep). s.answer ≡ Ok asked.Begun → IsCellKept (record c { turns = turns }))
+    (λ o l e. asked_kept c call chain kept turns k absent given same (ap (λ (z : Option (List ℕ)). is_open_chain c z) same ∙ o) l p)
+    (λ e. absurd (cc))
+    (λ free m e. freed_kept c call chain kept turns k absent given same free p)
+    (λ l e. absurd (cc))
+    (λ e. absurd (cc))
+    begun
+
+-- the call joins the queue, as it may
+pub joins_kept : (c : CellState) (call : ℕ) (chain kept : Option (List ℕ)) (may_begin : Bool) (queue : List Waiter) (place : ℕ) → IsCellKept c → is_in_cell call c ≡ false → (0 < c.depth → IsSome chain) → kept ≡ kept_chain c chain
+    → (admit_call c call chain may_begin).answer ≡ Ok (asked.Waits place) → queue ≡ c.queue ++ record { call = call; chain = kept; moved = false } ∷ [] → IsCellKept (record c { queue = queue })
+joins_kept c call chain kept may_begin queue place k absent given same waits p =
+    ask_cases c call chain may_begin (λ (s : AskStep). s.answer ≡ Ok (asked.Waits place) → IsCellKept (record c { queue = queue }))
+    (λ o l e. absurd (cc))
+    (λ e. absurd (cc))
+    (λ free m e. absurd (cc))
+    (λ l e. waits_kept c call chain kept queue k absent given same l p)
+    (λ e. absurd (cc))
+    waits
 
 -- ---- end
 

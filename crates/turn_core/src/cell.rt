@@ -9,7 +9,7 @@ use crate::queue::{
     begin_first, count_unmoved, end_in_queue, is_waiting, join_queue, move_queue, take_at,
     waiter_place,
 };
-use crate::turns::{carry_chain, chain_at, end_turn, is_open, list_calls, open_turn};
+use crate::turns::{carry_chain, chain_at, copy_chain, end_turn, is_open, list_calls};
 use actor_names::ChainId;
 use std::alloc::Global;
 use std::collections::VecDeque;
@@ -87,29 +87,19 @@ impl Cell {
         requires chained { 0 < self.old.depth → IsSome chain }
         ensures { GivesStep result self.old self.new (admit_call self.old call (option_copied chain.entry) may_begin) }
     {
-        let chain = chain_at(self.depth, chain);
-        if self.depth > 0 && carry_chain(&self.turns, chain) {
-            if self.turns.len() >= self.depth as usize {
-                return Err(CellError::Depth {
-                    turns: self.turns.len() as u64,
-                });
+        match self.admission(chain, may_begin)? {
+            Asked::Begun => {
+                let chain = copy_chain(alloc, chain_at(self.depth, chain))?;
+                let Ok(()) = self.turns.push(Turn { call, chain }) else {
+                    return Err(CellError::OutOfMemory);
+                };
+                Ok(Asked::Begun)
             }
-            open_turn(alloc, &mut self.turns, call, chain)?;
-            return Ok(Asked::Begun);
+            Asked::Waits { place } => {
+                join_queue(alloc, &mut self.queue, call, chain_at(self.depth, chain))?;
+                Ok(Asked::Waits { place })
+            }
         }
-        if self.turns.is_empty() && may_begin {
-            open_turn(alloc, &mut self.turns, call, chain)?;
-            return Ok(Asked::Begun);
-        }
-        if self.queue.len() >= LONGEST_QUEUE {
-            return Err(CellError::QueueFull {
-                n: self.queue.len() as u64,
-            });
-        }
-        join_queue(alloc, &mut self.queue, call, chain)?;
-        Ok(Asked::Waits {
-            place: self.queue.len() as u64,
-        })
     }
 
     /// How a call of this chain would be answered now, apart from want of memory. Nothing changes.
@@ -117,18 +107,18 @@ impl Cell {
         ensures { (call : ℕ) → result ≡ (admit_call self.now call (option_copied chain.entry) may_begin).answer }
     {
         let chain = chain_at(self.depth, chain);
-        if carry_chain(&self.turns, chain) && self.depth > 0 {
-            if self.depth as usize <= self.turns.len() {
+        if self.depth > 0 && carry_chain(&self.turns, chain) {
+            if self.turns.len() >= self.depth as usize {
                 return Err(CellError::Depth {
                     turns: self.turns.len() as u64,
                 });
             }
             return Ok(Asked::Begun);
         }
-        if may_begin && self.turns.is_empty() {
+        if self.turns.is_empty() && may_begin {
             return Ok(Asked::Begun);
         }
-        if LONGEST_QUEUE <= self.queue.len() {
+        if self.queue.len() >= LONGEST_QUEUE {
             return Err(CellError::QueueFull {
                 n: self.queue.len() as u64,
             });

@@ -1,5 +1,5 @@
 // The open turns of a cell.
-ghost use Rattle.std.specs.Prelude.{◌≡◌, ◌+◌, ◌<◌, ◌≤◌, ◌==◌, if◌then◌else◌, position, [], ◌∷◌, ◌++◌, IfOk, OnOk, IfErr, length, vec_len, vec_capacity};
+ghost use Rattle.std.specs.Prelude.{◌≡◌, ◌+◌, ◌<◌, ◌≤◌, ◌==◌, if◌then◌else◌, position, [], ◌∷◌, ◌++◌, IfOk, IfErr, length, vec_len, vec_capacity};
 ghost use Rattle.std.specs.Option.{option_copied};
 ghost use Rattle.turn_core.specs.Cell.{same_chain, is_first_chain, has_turn, without_turn, turn_calls};
 
@@ -67,24 +67,6 @@ pub(crate) fn is_open(turns: &[Turn], call: u64) -> bool
     match turn_place(turns, call) {
         None => false,
         Some(_) => true,
-    }
-}
-
-/// Opens a turn of the call, with a copy of the chain.
-pub(crate) fn open_turn(
-    alloc: Global,
-    turns: &mut Vec<Turn>,
-    call: u64,
-    chain: Option<&ChainId>,
-) -> Result<(), CellError>
-    ensures ok { OnOk result (turns.new.items ≡ turns.old.items ++ record { call = call; chain = option_copied chain.entry } ∷ []) }
-    ensures err { IfErr result (λ e. (e ≡ CellError.OutOfMemory) × (turns.new.items ≡ turns.old.items)) }
-    ensures room { vec_capacity turns.old ≤ vec_capacity turns.new }
-{
-    let chain = copy_chain(alloc, chain)?;
-    match turns.push(Turn { call, chain }) {
-        Ok(()) => Ok(()),
-        Err(_) => Err(CellError::OutOfMemory),
     }
 }
 
