@@ -9,7 +9,7 @@ use Rattle.group_gate.specs.declared.view.Done.{Done}
 use Rattle.group_gate.specs.declared.view.GroupEntry.{GroupEntry}
 use Rattle.group_gate.specs.History.{asked}
 use Rattle.group_gate.specs.Gates.{SitsAt, seen_of, mine_of}
-use Rattle.group_gate.proofs.Beginnings.{prefix_self, prefix_trans, prefix_length}
+use Rattle.step_gate.proofs.Beginnings.{prefix_self, prefix_trans, prefix_length}
 use Rattle.frame_session.specs.declared.at_group_gate.PlacedSeat.{PlacedSeat}
 use Rattle.frame_session.specs.Exchanges.{Exchange}
 

@@ -36,10 +36,7 @@ impl<M: Grouped> Askable for GroupGate<M> {
         seat: &mut PlacedSeat<M>,
         event: M::Ask,
     ) -> Result<M::Answer, Spent> {
-        match self.call_in(rt, &mut seat.seat, &seat.place, event) {
-            Ok(answer) => Ok(answer),
-            Err(spent) => Err(Spent { count: spent.count }),
-        }
+        self.call_in(rt, &mut seat.seat, &seat.place, event)
     }
 
     ghost none_made = { none_asked };

@@ -18,7 +18,7 @@ use Rattle.group_gate.specs.declared.view.Turn.TheVariants.{Leads, Owes}
 use Rattle.group_gate.specs.declared.view.View.{View}
 use Rattle.group_gate.specs.History.{asked, asks_in, entry, done, made_in, made_at}
 use Rattle.group_gate.specs.Kept.{Stage, taken, owed, answered, Facts, DeskIs, Waiting, Apart, IsApartOf, Collected, Owing, dones, InPlace, InTurn, Seated, Kept, holding, collected, recorded, answered_at}
-use Rattle.group_gate.proofs.Beginnings.{prefix_more}
+use Rattle.step_gate.proofs.Beginnings.{prefix_more}
 use Rattle.group_gate.proofs.Histories.{leads_snoc, made_snoc, made_hit, made_miss}
 use Rattle.group_gate.proofs.Keeps.{changed, changed_here, changed_else, facts_at, Leaves, desk_moved, unmoved, views_stay, place_left, place_there, is_asked}
 use Rattle.group_gate.proofs.Steps.{not_in_turn}

@@ -19,7 +19,7 @@ use Rattle.group_gate.specs.declared.view.Turn.TheVariants.{Idle, Leads, Owes, S
 use Rattle.group_gate.specs.declared.view.View.{View}
 use Rattle.group_gate.specs.History.{HistoryLeadsTo, made_at}
 use Rattle.group_gate.specs.Kept.{Stage, free, owned, asking, taken, owed, answered, Facts, IsReady, AtHome, DeskIs, Waiting, Collected, Owing, InPlace, InTurn, Seated, Kept, Sees, seeing, sat}
-use Rattle.group_gate.proofs.Beginnings.{prefix_self}
+use Rattle.step_gate.proofs.Beginnings.{prefix_self}
 
 module _ {X : Type 0} where
   -- a function changed at one number

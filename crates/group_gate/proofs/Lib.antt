@@ -1,4 +1,3 @@
-pub mod Beginnings
 pub mod Histories
 pub mod Keeps
 pub mod Places

@@ -14,7 +14,7 @@ use Rattle.group_gate.specs.declared.view.Turn.TheVariants.{Shut}
 use Rattle.group_gate.specs.declared.view.View.{View}
 use Rattle.group_gate.specs.History.{HistoryLeadsTo}
 use Rattle.group_gate.specs.Kept.{free, Facts, IsReady, DeskIs, InTurn, Seated, Kept, newcomer, told, both, ended}
-use Rattle.group_gate.proofs.Beginnings.{prefix_none}
+use Rattle.step_gate.proofs.Beginnings.{prefix_none}
 use Rattle.group_gate.proofs.Keeps.{views_stay}
 
 module _ {X : Type 0} where

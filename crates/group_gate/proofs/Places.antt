@@ -15,7 +15,7 @@ use Rattle.group_gate.specs.declared.view.Turn.TheVariants.{Idle}
 use Rattle.group_gate.specs.declared.view.View.{View}
 use Rattle.group_gate.specs.History.{made_at}
 use Rattle.group_gate.specs.Kept.{free, owned, asking, answered, Waiting, InPlace, InTurn, Kept, seeing, placed, rose, posted, withdrawn, fetched}
-use Rattle.group_gate.proofs.Beginnings.{prefix_self, prefix_length}
+use Rattle.step_gate.proofs.Beginnings.{prefix_self, prefix_length}
 use Rattle.group_gate.proofs.Keeps.{changed_here, facts_at, owner_leaves, desk_moved, unmoved, sees_all, is_asked, is_answered}
 
 module _ {S A R : Type 0} (takes : A → Type 0) (moves : S → List A → List R → S → Type 0) (opening : S) where

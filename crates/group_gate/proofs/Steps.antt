@@ -17,7 +17,7 @@ use Rattle.group_gate.specs.declared.view.Turn.TheVariants.{Idle, Leads, Owes, S
 use Rattle.group_gate.specs.declared.view.View.{View}
 use Rattle.group_gate.specs.Kept.{Facts, IsReady, AtHome, DeskIs, InPlace, InTurn, Seated, Kept, holding, seeing, took, gave_up, closed, looked}
 use Rattle.group_gate.specs.Turns.{IsHolder}
-use Rattle.group_gate.proofs.Beginnings.{prefix_self}
+use Rattle.step_gate.proofs.Beginnings.{prefix_self}
 use Rattle.group_gate.proofs.Keeps.{views_stay, unmoved, sees_all}
 
 module _ {S A R : Type 0} where

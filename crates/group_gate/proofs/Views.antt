@@ -15,7 +15,7 @@ use Rattle.group_gate.specs.declared.view.View.{View}
 use Rattle.group_gate.specs.History.{LegalHistory, asked, made_at}
 use Rattle.group_gate.specs.Kept.{IsDue, Sees, placed, seeing}
 use Rattle.group_gate.specs.Gates.{SeatOf, opening_of, seen_of, mine_of, made_there, IsIdle, IsSeatOf, SitsAt, WaitsAt, KeepsMine, AnsweredIn}
-use Rattle.group_gate.proofs.Beginnings.{prefix_trans, prefix_length}
+use Rattle.step_gate.proofs.Beginnings.{prefix_trans, prefix_length}
 use Rattle.group_gate.proofs.Standing.{last_stands}
 
 module _ {H : Type 0} where

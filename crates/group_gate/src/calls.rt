@@ -2,12 +2,13 @@
 ghost use Rattle.std.specs.Prelude.{◌≡◌, ◌^◌, length, IfOk, IfErr, IsTrue, IsFalse};
 ghost use Rattle.group_gate.specs.Gates.{seen_of, SitsAt, WaitsAt, KeepsMine, AnsweredIn, SeesLast};
 
-use crate::gate::{GroupGate, GroupSeat, Place, Spent};
+use crate::gate::{GroupGate, GroupSeat, Place};
 use crate::grouped::Grouped;
 use crate::plays::Look;
 use crate::turn::LAST;
 use std::snapshot::Snapshot;
 use std::sync::Wait;
+use step_gate::Spent;
 
 impl<M: Grouped> GroupGate<M> {
     // Takes the turn if it is free, and leads. False says that it wasn't free when the word was seen, a moment ago.
@@ -99,7 +100,7 @@ impl<M: Grouped> GroupGate<M> {
                 return Err(Spent { count: 1 << 62 });
             }
             if !self.try_lead(seat, place.at, word, &said) {
-                self.pause(rt, tries, word);
+                self.rest(rt, place.at, tries);
                 tries = tries.saturating_add(1);
             }
         }

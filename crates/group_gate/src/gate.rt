@@ -8,15 +8,6 @@ use crate::view::{Held, View};
 use atomic_table::{Table, TableRule};
 use std::alloc::Global;
 use std::snapshot::Snapshot;
-use thiserror::Error;
-
-/// No further step can be made: the history has 2^62 entries.
-#[derive(Clone, Copy, Debug, PartialEq, Eq, Error)]
-#[error("{count} steps were made, and no more can be")]
-pub struct Spent {
-    /// How many steps there were.
-    pub count: u64,
-}
 
 /// What is true of a gate, whoever has the turn: there is one legal history, each seat knows a prefix of it, and each
 /// place is free or has one owner, whose ask stands there until it is answered.

@@ -117,7 +117,7 @@ impl<M: Grouped> GroupGate<M> {
                     return;
                 }
             }
-            self.pause(rt, tries, word);
+            self.rest(rt, 0, tries);
             tries = tries.saturating_add(1);
         }
         unreachable!()

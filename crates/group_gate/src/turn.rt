@@ -1,4 +1,4 @@
-// The turn: taking it, waiting for it, and the ways to give it up.
+// The turn: taking it, and the ways to give it up.
 ghost use Rattle.std.specs.Prelude.{◌≡◌, ◌+◌, ◌%◌, ◌^◌, ◌<◌, ◌≤◌, true, [], ◌∷◌, IfSome, IfNone};
 ghost use Rattle.group_gate.specs.declared.view.Held.TheVariants.{Nothing};
 ghost use Rattle.group_gate.specs.declared.view.Turn.TheVariants.{Idle, Shut};
@@ -10,54 +10,11 @@ use crate::gate::{GroupGate, GroupSeat};
 use crate::grouped::Grouped;
 use crate::plays::{Close, GiveUp, Take};
 use crate::view::{Core, Held};
-use std::hint;
-use std::sync::Wait;
-use std::sync::atomic::Ordering;
-use std::time::Duration;
 
 /// The word after 2^62 entries.
 pub(crate) const LAST: u64 = 1 << 63;
 
-/// How often a call that waits looks at the word before it sleeps. A turn that callers share waits for a disk, so whoever
-/// spins for long only takes a processor from the others.
-const LOOKS: u32 = 4;
-
-/// How many hints it spins between its first two looks; they double with each look. Each look takes the cache line from
-/// the holder.
-const HINTS: u32 = 16;
-
-/// How often the longest sleep doubles, from one millisecond.
-const DOUBLINGS: u32 = 4;
-
-// Leaves the word alone for a time that grows with each try.
-fn spin(tries: u32) {
-    for _ in 0..HINTS << tries.min(LOOKS) {
-        hint::spin_loop();
-    }
-}
-
 impl<M: Grouped> GroupGate<M> {
-    // Spins. After some tries it sleeps, if the word is still this one, until the turn is free or a time has passed that
-    // grows to at most 16 milliseconds.
-    pub(crate) fn pause<R: Wait>(&self, rt: &R, tries: u32, word: u64) {
-        if tries < LOOKS {
-            spin(tries);
-            return;
-        }
-        let low = (word % (1 << 32)) as u32;
-        let longest = Duration::from_millis(1 << (tries - LOOKS).min(DOUBLINGS));
-        self.hints.asleep.fetch_add(1, Ordering::SeqCst);
-        self.table.shared.park_timeout(rt, 0, low, longest);
-        self.hints.asleep.fetch_sub(1, Ordering::SeqCst);
-    }
-
-    // The turn is free: wakes the calls that sleep until then. Those that were answered return; of the others one leads.
-    fn hand_on(&self) {
-        if self.hints.asleep.load(Ordering::SeqCst) > 0 {
-            self.table.shared.wake_all(0);
-        }
-    }
-
     // Takes the turn if the word is this one, and the machine out of its slot.
     pub(crate) fn try_take(
         &self,

@@ -3,7 +3,7 @@ use mathlib.Core.Logic.{dite}
 use native.Mathlib.Decide.{ℕ_discrete}
 use Rattle.std.specs.Mem.Slots.{slots_items, slots_filled, slots_len, slots_counts}
 use Rattle.std.specs.Mem.Slots.Ownership.{Filled}
-use Rattle.group_gate.proofs.Beginnings.{in_length}
+use Rattle.step_gate.proofs.Beginnings.{in_length}
 use Rattle.group_gate.proofs.opening.take_machine.Goals as goal
 
 -- one slot more is empty
