@@ -1,5 +1,5 @@
 -- The text that tells an owner is read as that owner.
-use Rattle.std.proofs.Common.{◌≡◌, ◌∙◌, ℕ, ◌+◌, ◌*◌, ◌/◌, ◌%◌, ◌^◌, ◌<◌, ◌≤◌, List, [], ◌∷◌, ◌++◌, append_assoc, arith, lit<, Option, Some, None, Result, Ok, refl, ap}
+use Rattle.std.proofs.Common.{◌≡◌, ◌∙◌, ℕ, ◌^◌, ◌<◌, ◌≤◌, List, [], ◌∷◌, ◌++◌, append_assoc, arith, lit<, Some, None, Ok, refl, ap}
 use Rattle.std.specs.Prelude.{decimal}
 use Rattle.std.specs.Result.{result_ok}
 use Rattle.lists_and_limits.proofs.DecimalTexts.{number_of-decimal}
@@ -8,44 +8,12 @@ use Rattle.actor_names.specs.Names.{app_id_fault}
 use Rattle.actor_names.specs.Addresses.{address_reading}
 use Rattle.actor_names.specs.Forms.{AddressText}
 use Rattle.place_table.specs.declared.host.HostInfo.{HostInfo}
-use Rattle.call_names.specs.Texts.{member_text}
+use Rattle.call_names.specs.Texts.{address_text, member_text}
+use Rattle.call_names.proofs.AddressTexts.{address_form}
 use Rattle.call_names.proofs.CallTexts.{HasNoSpace, decimal_no_space, node_no_space, cut_at, behind, member_form, member_no_space, ReadsMembers, member_read}
-use Rattle.actors_api.specs.Owners.{ip_text, address_text, owner_text}
+use Rattle.actors_api.specs.Owners.{owner_text}
 use Rattle.app_texts.specs.PeerReplies.{app_in, address_in, version_in, owner_of, owner_reading}
 use Rattle.actor_calls.specs.PeerReads.{IsTellable, told_owner}
-
--- ---- addresses
-
-four_bytes : (ip : ℕ) → ip < 2 ^ 32 → ip ≡ ((ip / 2 ^ 24 % 256 * 256 + ip / 2 ^ 16 % 256) * 256 + ip / 2 ^ 8 % 256) * 256 + ip % 256
-four_bytes ip fits = omega arith
-
-byte_fits : (n : ℕ) → n % 256 ≤ 255
-byte_fits n = omega arith
-
-address_form : (a : Address) → a.ip < 2 ^ 32 → a.port < 2 ^ 16 → AddressText a (address_text a)
-address_form a ip port =
-    record {
-      a = a.ip / 2 ^ 24 % 256;
-      b = a.ip / 2 ^ 16 % 256;
-      c = a.ip / 2 ^ 8 % 256;
-      d = a.ip % 256;
-      a_fits = byte_fits _;
-      b_fits = byte_fits _;
-      c_fits = byte_fits _;
-      d_fits = byte_fits _;
-      port_fits = omega arith;
-      ip_is = four_bytes a.ip ip;
-      text_is = chained (decimal (a.ip / 2 ^ 24 % 256)) (decimal (a.ip / 2 ^ 16 % 256)) (decimal (a.ip / 2 ^ 8 % 256)) (decimal (a.ip % 256)) (decimal a.port);
-    }
-  where
-    chained : (a b c d port : List ℕ) → (((((((a ++ (46 ∷ [])) ++ b) ++ (46 ∷ [])) ++ c) ++ (46 ∷ [])) ++ d) ++ (58 ∷ [])) ++ port ≡ a ++ (46 ∷ (b ++ (46 ∷ (c ++ (46 ∷ (d ++ (58 ∷ port)))))))
-    chained a b c d port =
-        append_assoc ((((((a ++ (46 ∷ [])) ++ b) ++ (46 ∷ [])) ++ c) ++ (46 ∷ [])) ++ d) (58 ∷ []) port
-        ∙ behind ((((a ++ (46 ∷ [])) ++ b) ++ (46 ∷ [])) ++ c) 46 d (58 ∷ port)
-        ∙ behind ((a ++ (46 ∷ [])) ++ b) 46 c (46 ∷ (d ++ (58 ∷ port)))
-        ∙ behind a 46 b (46 ∷ (c ++ (46 ∷ (d ++ (58 ∷ port)))))
-
--- ---- the owner
 
 abbrev pub ReadsAddresses : Type 0
 ReadsAddresses = (x : Address) (text : List ℕ) → AddressText x text → address_reading text ≡ Ok x

@@ -1,7 +1,5 @@
 -- What a peer is told is read as it was meant.
 use Rattle.std.proofs.Common.{◌≡◌, ◌∙◌, refl, ap, ℕ, List, Option, Some, None}
-use Rattle.place_table.specs.declared.host.HostInfo.{HostInfo}
-use Rattle.http_edge.specs.declared.message.HttpResponse.{HttpResponse}
 use Rattle.actors_api.specs.declared.side.Side.TheVariants.{Peer}
 use Rattle.actors_api.specs.declared.reply.ApiReply.{ApiReply}
 use Rattle.actors_api.specs.declared.reply.ApiReply.TheVariants as replies
@@ -11,11 +9,10 @@ use Rattle.actors_api.specs.Owners.{owner_text}
 use Rattle.actors_api.specs.Responses as responses
 use Rattle.actors_api.specs.Responses.{response, field_of, response_of, elsewhere_response, refusal_response}
 use Rattle.actors_api.specs.Refusals.{refusal_row}
-use Rattle.app_texts.specs.declared.peer_reply.PeerReply.{PeerReply}
 use Rattle.app_texts.specs.declared.peer_reply.PeerReply.TheVariants as peers
 use Rattle.app_texts.specs.PeerReplies.{owner_reading, elsewhere_as, reply_reading}
 use Rattle.std.specs.Prelude.{codes}
-use Rattle.actor_calls.specs.PeerReads.{word_for, told_owner, told_to_peer, CanBeTold}
+use Rattle.actor_calls.specs.PeerReads.{word_for, told_to_peer, CanBeTold}
 use Rattle.call_names.proofs.CallTexts.{ReadsMembers}
 use Rattle.actor_calls.proofs.OwnerTexts.{ReadsAddresses, owner_read}
 

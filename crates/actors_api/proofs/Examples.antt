@@ -16,6 +16,7 @@ use Rattle.state_rows.specs.declared.op.StateOp.TheVariants.{Delete}
 use Rattle.api_bodies.specs.Records.{body_reading}
 use Rattle.call_names.specs.declared.name.CallName.{CallName}
 use Rattle.call_names.specs.Readings.{call_reading}
+use Rattle.call_names.specs.Texts.{ip_text, address_text}
 use Rattle.actors_api.specs.declared.side.Side.TheVariants.{Caller, Peer}
 use Rattle.actors_api.specs.declared.command.ApiCommand.TheVariants.{Invoke, Transact, GetState}
 use Rattle.actors_api.specs.declared.refusal.ApiName.TheVariants.{«Type», Id, Method, Key, Chain, Least, Call}
@@ -148,7 +149,7 @@ abbrev owner : HostInfo
 owner = record { member = record { space = codes "shop"; node = codes "a"; boot = 2 }; app = codes "till"; address = record { ip = 2130706433; port = 80 }; kinds = [] }
 
 elsewhere : response_of Peer (Elsewhere 3 owner) ≡ record { status = 421; fields = field (codes "Actors-Refusal") (codes "elsewhere") ∷ field (codes "Actors-Owner") (codes "3 shop:a/2 till 127.0.0.1:80") ∷ []; body = [] }
-unfolding digits
+unfolding digits ip_text address_text
 elsewhere = refl
 
 -- an application's caller isn't told

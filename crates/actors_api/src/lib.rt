@@ -7,7 +7,6 @@
 #![tactic(auto)]
 
 mod action;
-mod bytes;
 mod command;
 mod content;
 mod fault;

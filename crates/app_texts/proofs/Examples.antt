@@ -5,7 +5,7 @@ use Rattle.json.specs.Print.{escape_byte}
 use Rattle.schedule_text.specs.GoDurations.{term_at, terms_from, go_nanos}
 use Rattle.json_text.specs.Values.{JsonValue, null, truth, natural, text, array, object, no_items, item, no_members, member}
 use Rattle.call_names.specs.declared.name.CallName.{CallName}
-use Rattle.call_names.specs.Texts.{call_text}
+use Rattle.call_names.specs.Texts.{ip_text, address_text, call_text}
 use Rattle.http_edge.specs.declared.message.HttpField.{HttpField}
 use Rattle.http_edge.specs.declared.message.HttpResponse.{HttpResponse}
 use Rattle.app_texts.specs.declared.config_error.ConfigError.TheVariants.{NotJson, BadKey, TooManyTypes}
@@ -16,7 +16,7 @@ use Rattle.app_texts.specs.Groups.{group_reading, entry_reading, entries_reading
 use Rattle.app_texts.specs.Config.{config_reading, first_ones}
 use Rattle.actor_names.specs.Addresses.{part_reading, port_reading}
 use Rattle.app_texts.specs.PeerReplies.{owner_reading, reply_reading}
-use Rattle.app_texts.specs.Texts.{escaped, dotted, ip_text, address_text, message, line, call_lines}
+use Rattle.app_texts.specs.Texts.{escaped, message, line, call_lines}
 
 abbrev types : JsonValue
 types = array (item (text (codes "b")) (item (text (codes "a")) (item (text (codes "b")) no_items)))
@@ -55,7 +55,7 @@ escapes = refl
 
 call : message (codes "PUT") (codes "/actors/order/42/method/add") (call_lines (record { ip = 2130706433; port = 3000 }) None (Some (codes "n1.1.0.1"))) (codes "5")
     ≡ codes "PUT /actors/order/42/method/add HTTP/1.1\r\nHost: 127.0.0.1:3000\r\nDapr-Reentrancy-Id: n1.1.0.1\r\nConnection: close\r\nContent-Length: 1\r\n\r\n5"
-unfolding digits address_text ip_text dotted
+unfolding digits ip_text address_text
 call = refl
 
 -- a call that is handed on

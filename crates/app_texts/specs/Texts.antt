@@ -8,7 +8,7 @@ use Rattle.actor_names.specs.declared.address.Address.{Address}
 use Rattle.actor_names.specs.declared.actor_key.ActorKey.{ActorKey}
 use Rattle.json_text.specs.Texts.{text_of}
 use Rattle.json_text.specs.Values.{text}
-use Rattle.call_names.specs.Texts.{call_text}
+use Rattle.call_names.specs.Texts.{address_text, call_text}
 use Rattle.http_edge.specs.declared.message.HttpField.{HttpField}
 use Rattle.http_edge.specs.Fields.{is_same_word}
 use Rattle.app_texts.specs.declared.calls.MethodCall.{MethodCall}
@@ -38,16 +38,6 @@ abbrev pub method_path : ActorKey → List ℕ → List ℕ
 method_path a method = actor_path a ++ codes "/method/" ++ method
 
 -- ---- fields
-
-unfoldable pub dotted : ℕ → ℕ → List ℕ
-dotted a b = decimal a ++ codes "." ++ decimal b
-
--- four numbers, of which the first is the highest byte
-unfoldable pub ip_text : ℕ → List ℕ
-ip_text ip = dotted (ip / 16777216) (ip / 65536 % 256) ++ codes "." ++ dotted (ip / 256 % 256) (ip % 256)
-
-unfoldable pub address_text : Address → List ℕ
-address_text a = ip_text a.ip ++ codes ":" ++ decimal a.port
 
 abbrev pub line : List ℕ → List ℕ → List ℕ
 line name value = name ++ codes ": " ++ value ++ codes "\r\n"

@@ -1,50 +1,15 @@
 // The fields of the requests that are made.
-ghost use Rattle.std.specs.Prelude.{◌≡◌, ◌++◌, ◌/◌, ◌%◌, false, decimal, IfOk, OnOk};
+ghost use Rattle.std.specs.Prelude.{◌≡◌, ◌++◌, false, IfOk, OnOk};
 ghost use Rattle.std.specs.Option.{option_copied};
 ghost use Rattle.http_edge.specs.Texts.{field_lines, is_framing};
-ghost use Rattle.app_texts.specs.Texts.{dotted, ip_text, address_text, line_if, host_line, close_line, call_lines, plain_lines};
+ghost use Rattle.app_texts.specs.Texts.{line_if, host_line, close_line, call_lines, plain_lines};
 
-use crate::fields::{add, add_field, add_field_if};
+use crate::fields::{add_field, add_field_if};
 use actor_names::{Address, ChainId};
+use call_names::add_address;
 use http_edge::{HttpField, HttpFields};
-use itoa::Buffer;
 use lists_and_limits::OutOfMemory;
 use std::alloc::Global;
-
-fn add_decimal(number: u32, into: &mut Vec<u8>) -> Result<(), OutOfMemory>
-    ensures { OnOk result (into.new.items ≡ into.old.items ++ decimal number) }
-{
-    let mut buffer = Buffer::new();
-    add(buffer.format(number).as_bytes(), into)
-}
-
-// Appends two numbers with a point between them.
-#[tactic(auto, unfolding(crate::specs::Texts::dotted))]
-fn add_dotted(first: u32, second: u32, into: &mut Vec<u8>) -> Result<(), OutOfMemory>
-    ensures { OnOk result (into.new.items ≡ into.old.items ++ dotted first second) }
-{
-    add_decimal(first, into)?;
-    add(b".", into)?;
-    add_decimal(second, into)
-}
-
-#[tactic(auto, unfolding(crate::specs::Texts::ip_text))]
-fn add_ip(ip: u32, into: &mut Vec<u8>) -> Result<(), OutOfMemory>
-    ensures { OnOk result (into.new.items ≡ into.old.items ++ ip_text ip) }
-{
-    add_dotted(ip / 16_777_216, ip / 65_536 % 256, into)?;
-    add(b".", into)?;
-    add_dotted(ip / 256 % 256, ip % 256, into)
-}
-
-#[tactic(auto, unfolding(crate::specs::Texts::address_text))]
-pub(crate) fn add_address(at: &Address, into: &mut Vec<u8>) -> Result<(), OutOfMemory>
-    ensures { OnOk result (into.new.items ≡ into.old.items ++ address_text at.now) }
-{
-    add_ip(at.ip, into)?;
-    add(b":", into)?;
-    add_decimal(at.port as u32, into)
-}
 
 pub(crate) fn add_host(
     alloc: Global,
@@ -54,7 +19,7 @@ pub(crate) fn add_host(
     ensures { OnOk result (field_lines fields.new.items ≡ field_lines fields.old.items ++ host_line at.now) }
 {
     let mut text = Vec::new(alloc);
-    add_address(at, &mut text)?;
+    add_address(&mut text, at)?;
     add_field(alloc, b"Host", text.as_slice(), fields)
 }
 

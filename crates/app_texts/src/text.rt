@@ -1,13 +1,12 @@
 // The text of a call, written at once.
-ghost use Rattle.std.specs.Prelude.{◌≡◌, ◌++◌, codes, decimal, length, OnOk};
+ghost use Rattle.std.specs.Prelude.{◌≡◌, ◌++◌, codes, OnOk};
 ghost use Rattle.std.specs.Option.{option_copied};
 ghost use Rattle.app_texts.specs.Texts.{line, line_if, host_line, close_line, call_lines, method_path, message_start, sized};
 
 use crate::escaping::add_method_path;
 use crate::fields::add;
-use crate::lines::add_address;
 use actor_names::{ActorKey, Address, ChainId};
-use itoa::Buffer;
+use call_names::{add_address, add_decimal};
 use lists_and_limits::OutOfMemory;
 use std::alloc::Global;
 
@@ -44,7 +43,7 @@ fn add_host_line(at: &Address, into: &mut Vec<u8>) -> Result<(), OutOfMemory>
 {
     add(b"Host", into)?;
     add(b": ", into)?;
-    add_address(at, into)?;
+    add_address(into, at)?;
     add(b"\r\n", into)
 }
 
@@ -82,9 +81,8 @@ pub(crate) fn add_call_start(
 pub(crate) fn add_sized(body: &[u8], into: &mut Vec<u8>) -> Result<(), OutOfMemory>
     ensures { OnOk result (into.new.items ≡ into.old.items ++ sized body.now) }
 {
-    let mut buffer = Buffer::new();
     add(b"Content-Length: ", into)?;
-    add(buffer.format(body.len()).as_bytes(), into)?;
+    add_decimal(into, body.len() as u64)?;
     add(b"\r\n\r\n", into)?;
     add(body, into)
 }

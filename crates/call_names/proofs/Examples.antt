@@ -1,9 +1,8 @@
--- Worked examples of the names of calls, and of their texts.
+-- Worked examples of the names of calls and of addresses, and of their texts.
 use Rattle.std.proofs.Common.{◌≡◌, refl, Some, None, codes}
 use Rattle.std.specs.Fmt.{digits}
-use Rattle.actor_names.specs.declared.member.Member.{Member}
 use Rattle.call_names.specs.declared.name.CallName.{CallName}
-use Rattle.call_names.specs.Texts.{call_text}
+use Rattle.call_names.specs.Texts.{ip_text, address_text, call_text}
 use Rattle.call_names.specs.Readings.{call_reading}
 
 abbrev call : CallName
@@ -37,3 +36,17 @@ two_spaces = refl
 no_number : call_reading (codes "a/1 0") ≡ None
 unfolding call_reading
 no_number = refl
+
+-- ---- addresses
+
+local : address_text (record { ip = 2130706433; port = 50005 }) ≡ codes "127.0.0.1:50005"
+unfolding digits ip_text address_text
+local = refl
+
+least : address_text (record { ip = 0; port = 0 }) ≡ codes "0.0.0.0:0"
+unfolding digits ip_text address_text
+least = refl
+
+greatest : address_text (record { ip = 4294967295; port = 65535 }) ≡ codes "255.255.255.255:65535"
+unfolding digits ip_text address_text
+greatest = refl

@@ -1,2 +1,3 @@
+pub mod AddressTexts
 pub mod CallTexts
 mod Examples

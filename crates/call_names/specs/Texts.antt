@@ -1,8 +1,17 @@
--- The texts of members and of the names of forwarded calls. Own.
-use Rattle.std.specs.Prelude.{◌≡◌, ◌≤◌, ℕ, ◌^◌, if◌then◌else◌, bytes_eq, List, [], ◌++◌, codes, decimal, None}
+-- The texts of addresses, of members and of the names of forwarded calls. Own.
+use Rattle.std.specs.Prelude.{◌≡◌, ◌≤◌, ℕ, ◌/◌, ◌%◌, ◌^◌, if◌then◌else◌, bytes_eq, List, [], ◌++◌, codes, decimal, None}
 use Rattle.actor_names.specs.Names.{default_space, space_fault, node_fault}
+use Rattle.actor_names.specs.declared.address.Address.{Address}
 use Rattle.actor_names.specs.declared.member.Member.{Member}
 use Rattle.call_names.specs.declared.name.CallName.{CallName}
+
+-- the four bytes of an IPv4 address in decimal, the highest first
+unfoldable pub ip_text : ℕ → List ℕ
+ip_text ip = decimal (ip / 2 ^ 24 % 256) ++ codes "." ++ decimal (ip / 2 ^ 16 % 256) ++ codes "." ++ decimal (ip / 2 ^ 8 % 256) ++ codes "." ++ decimal (ip % 256)
+
+-- `A.B.C.D:PORT`
+unfoldable pub address_text : Address → List ℕ
+address_text a = ip_text a.ip ++ codes ":" ++ decimal a.port
 
 -- a space and a colon; `default` isn't written
 abbrev pub space_text : List ℕ → List ℕ

@@ -1,25 +1,11 @@
 // Writes members and the names of forwarded calls.
-ghost use Rattle.std.specs.Prelude.{◌≡◌, ◌++◌, decimal, OnOk};
+ghost use Rattle.std.specs.Prelude.{◌≡◌, ◌++◌, OnOk};
 ghost use Rattle.call_names.specs.Texts.{space_text, member_text, call_text};
 
 use crate::name::CallName;
+use crate::pieces::{add_bytes, add_decimal};
 use actor_names::{Member, Space, default_space};
-use itoa::Buffer;
 use lists_and_limits::OutOfMemory;
-
-fn add_bytes(into: &mut Vec<u8>, bytes: &[u8]) -> Result<(), OutOfMemory>
-    ensures { OnOk result (into.new.items ≡ into.old.items ++ bytes.now) }
-{
-    into.extend_from_slice(bytes)?;
-    Ok(())
-}
-
-fn add_decimal(into: &mut Vec<u8>, number: u64) -> Result<(), OutOfMemory>
-    ensures { OnOk result (into.new.items ≡ into.old.items ++ decimal number) }
-{
-    let mut buffer = Buffer::new();
-    add_bytes(into, buffer.format(number).as_bytes())
-}
 
 fn add_space(into: &mut Vec<u8>, space: &Space) -> Result<(), OutOfMemory>
     ensures { OnOk result (into.new.items ≡ into.old.items ++ space_text space.now) }

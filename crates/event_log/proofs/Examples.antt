@@ -1,6 +1,7 @@
 -- Worked examples of lines.
 use Rattle.std.proofs.Common.{◌≡◌, refl, codes}
 use Rattle.std.specs.Fmt.{digits}
+use Rattle.call_names.specs.Texts.{ip_text, address_text}
 use Rattle.schedule_text.specs.Calendar.{date_of}
 use Rattle.schedule_text.specs.Moments.{moment_text}
 use Rattle.event_log.specs.declared.notice.Dismissal.TheVariants.{StaleBoot}
@@ -26,7 +27,7 @@ unfolding stamp_text moment_text date_of digits
 round = refl
 
 listens : notice_text (Listening (record { ip = 2130706433; port = 50005 })) ≡ codes "listening at 127.0.0.1:50005"
-unfolding digits
+unfolding digits ip_text address_text
 listens = refl
 
 joins : notice_text (Joined (record { space = codes "shop"; node = codes "n-1"; boot = 3 })) ≡ codes "member shop:n-1/3 joined"
@@ -42,7 +43,7 @@ unfolding digits
 sent_away = refl
 
 missing : notice_text (Away Store (record { ip = 167772161; port = 80 })) ≡ codes "the store at 10.0.0.1:80 is away"
-unfolding digits
+unfolding digits ip_text address_text
 missing = refl
 
 lines_lost : lost_text 7 12 ≡ codes "1970-01-01T00:00:00.007Z 12 lines were lost\n"

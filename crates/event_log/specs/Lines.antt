@@ -1,8 +1,8 @@
 -- The lines of a log: `YYYY-MM-DDThh:mm:ss.mmmZ` and what happened. Own: docs/operations.md has the list.
-use Rattle.std.specs.Prelude.{ℕ, ◌+◌, ◌*◌, ◌/◌, ◌%◌, ◌^◌, List, [], ◌∷◌, ◌++◌, take, codes, decimal, Option, Some, None}
+use Rattle.std.specs.Prelude.{ℕ, ◌+◌, ◌*◌, ◌/◌, ◌%◌, List, [], ◌∷◌, ◌++◌, take, codes, decimal, Option, Some, None}
 use Rattle.actor_names.specs.declared.address.Address.{Address}
 use Rattle.actor_names.specs.declared.member.Member.{Member}
-use Rattle.call_names.specs.Texts.{member_text}
+use Rattle.call_names.specs.Texts.{address_text, member_text}
 use Rattle.schedule_text.specs.Range.{moment_of}
 use Rattle.schedule_text.specs.Moments.{moment_text, two_digits}
 use Rattle.event_log.specs.declared.batch.Line.{Line}
@@ -35,14 +35,6 @@ stamp_text ms = stamp_by (moment_of (ms / 1000 * 1000000000)) (ms % 1000)
 -- a number between words
 abbrev pub counted : List ℕ → ℕ → List ℕ → List ℕ
 counted front n back = front ++ decimal n ++ back
-
--- the four bytes of an address in decimal, the highest first
-abbrev pub ip_text : ℕ → List ℕ
-ip_text ip = counted [] (ip / 2 ^ 24 % 256) (codes ".") ++ counted [] (ip / 2 ^ 16 % 256) (codes ".") ++ counted [] (ip / 2 ^ 8 % 256) (codes ".") ++ decimal (ip % 256)
-
--- `a.b.c.d:port`
-abbrev pub address_text : Address → List ℕ
-address_text a = ip_text a.ip ++ counted (codes ":") a.port []
 
 -- an address between words
 abbrev pub placed : List ℕ → Address → List ℕ → List ℕ

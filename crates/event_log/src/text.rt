@@ -1,13 +1,12 @@
 // The texts of lines.
-ghost use Rattle.std.specs.Prelude.{◌≡◌, ◌++◌, OnOk, codes, decimal};
-ghost use Rattle.event_log.specs.Lines.{address_text, compacted_line, counted, dismissal_text, ip_text, line_text, lost_text, member_line, notice_text, peer_text, placed, refusal_line, round_end, round_line};
+ghost use Rattle.std.specs.Prelude.{◌≡◌, ◌++◌, OnOk, codes};
+ghost use Rattle.event_log.specs.Lines.{compacted_line, counted, dismissal_text, line_text, lost_text, member_line, notice_text, peer_text, placed, refusal_line, round_end, round_line};
 
 use crate::batch::Line;
 use crate::notice::{Dismissal, Notice, Peer};
 use crate::stamp::push_stamp;
 use actor_names::{Address, Member, OutOfMemory, Space};
-use call_names::add_member;
-use itoa::Buffer;
+use call_names::{add_address, add_decimal, add_member};
 use std::alloc::Global;
 
 // Appends bytes.
@@ -18,40 +17,13 @@ fn push(into: &mut Vec<u8>, bytes: &[u8]) -> Result<(), OutOfMemory>
     Ok(())
 }
 
-// Appends a number.
-fn push_number(into: &mut Vec<u8>, n: u64) -> Result<(), OutOfMemory>
-    ensures { OnOk result (into.new.items ≡ into.old.items ++ decimal n) }
-{
-    let mut buffer = Buffer::new();
-    push(into, buffer.format(n).as_bytes())
-}
-
 // Appends words, a number and words behind it.
 fn push_counted(into: &mut Vec<u8>, front: &[u8], n: u64, back: &[u8]) -> Result<(), OutOfMemory>
     ensures { OnOk result (into.new.items ≡ into.old.items ++ counted front.now n back.now) }
 {
     push(into, front)?;
-    push_number(into, n)?;
+    add_decimal(into, n)?;
     push(into, back)
-}
-
-// Appends the four numbers of an address.
-fn push_ip(into: &mut Vec<u8>, ip: u32) -> Result<(), OutOfMemory>
-    ensures { OnOk result (into.new.items ≡ into.old.items ++ ip_text ip) }
-{
-    let ip = ip as u64;
-    push_counted(into, b"", ip / 16_777_216 % 256, b".")?;
-    push_counted(into, b"", ip / 65_536 % 256, b".")?;
-    push_counted(into, b"", ip / 256 % 256, b".")?;
-    push_number(into, ip % 256)
-}
-
-// Appends an address.
-fn push_address(into: &mut Vec<u8>, at: &Address) -> Result<(), OutOfMemory>
-    ensures { OnOk result (into.new.items ≡ into.old.items ++ address_text at.now) }
-{
-    push_ip(into, at.ip)?;
-    push_counted(into, b":", at.port as u64, b"")
 }
 
 // Appends an address between words.
@@ -64,7 +36,7 @@ fn push_placed(
     ensures { OnOk result (into.new.items ≡ into.old.items ++ placed front.now at.now back.now) }
 {
     push(into, front)?;
-    push_address(into, at)?;
+    add_address(into, at)?;
     push(into, back)
 }
 
@@ -117,7 +89,7 @@ fn push_refusal(into: &mut Vec<u8>, at: &Address, code: u8) -> Result<(), OutOfM
     ensures { OnOk result (into.new.items ≡ into.old.items ++ refusal_line at.now code) }
 {
     push_placed(into, b"the store at ", at, b" refused with code ")?;
-    push_number(into, code as u64)
+    add_decimal(into, code as u64)
 }
 
 // The words in front of a process's address.

@@ -2,6 +2,7 @@
 use Rattle.std.proofs.Common.{◌≡◌, refl, [], ◌∷◌, Some, None, codes}
 use Rattle.std.specs.Fmt.{digits}
 use Rattle.json.specs.Print.{escape_byte}
+use Rattle.call_names.specs.Texts.{ip_text, address_text}
 use Rattle.place_table.specs.declared.host.HostInfo.{HostInfo}
 use Rattle.place_table.specs.declared.ack_stage.AckStage.TheVariants.{Update, Unlock}
 use Rattle.placement_node.specs.declared.reply.Awaited.{Awaited}
@@ -45,7 +46,7 @@ other = record { node = codes "b"; boot = 12; address = record { ip = 167772161;
 
 update_waits : rounds_text (Some (record { version = 8; stage = Update; awaited = one ∷ other ∷ [] })) 8
     ≡ codes "{\"round\":{\"stage\":\"update\",\"version\":8,\"waitsFor\":[{\"address\":\"127.0.0.1:5001\",\"boot\":3,\"name\":\"a\"},{\"address\":\"10.0.0.1:80\",\"boot\":12,\"name\":\"b\"}]},\"tableVersion\":8}"
-unfolding digits escape_byte
+unfolding digits escape_byte ip_text address_text
 update_waits = refl
 
 no_round : rounds_text None 7 ≡ codes "{\"round\":null,\"tableVersion\":7}"

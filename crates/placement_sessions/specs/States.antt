@@ -1,7 +1,7 @@
 -- What the placement tells of a room over HTTP: the bodies of the responses. The first after `GET /placement/state` of
 -- Dapr's placement service; the second own.
 use Rattle.std.specs.Prelude.{ℕ, List, [], ◌∷◌, ◌++◌, map, codes, decimal, Option, Some, None}
-use Rattle.actors_api.specs.Owners.{address_text}
+use Rattle.call_names.specs.Texts.{address_text}
 use Rattle.json_text.specs.Texts.{at_key, in_braces, in_brackets}
 use Rattle.place_table.specs.declared.ack_stage.AckStage.{AckStage}
 use Rattle.place_table.specs.declared.ack_stage.AckStage.TheVariants.{Lock, Update, Unlock}

@@ -1,15 +1,28 @@
 // The body that tells of a room's round.
 ghost use Rattle.std.specs.Prelude.{◌≡◌, ◌++◌, map, Some, IfOk, OnOk};
+ghost use Rattle.call_names.specs.Texts.{address_text};
 ghost use Rattle.json_text.specs.Texts.{after_commas, in_brackets};
-ghost use Rattle.placement_sessions.specs.States.{awaited_text, round_text, rounds_text, stage_name};
+ghost use Rattle.placement_sessions.specs.States.{awaited_text, in_quotes, round_text, rounds_text, stage_name};
 
-use crate::address_text::quoted_address;
 use crate::text::quoted;
+use actor_names::Address;
+use call_names::add_address;
 use json_text::{Member, Piece, object_text};
 use lists_and_limits::OutOfMemory;
 use place_table::AckStage;
 use placement_node::{Awaited, RoundSeen};
 use std::alloc::Global;
+
+// An address in quotes, as `"127.0.0.1:5001"`.
+fn quoted_address(alloc: Global, address: &Address) -> Result<Vec<u8>, OutOfMemory>
+    ensures { IfOk result (λ text. text.items ≡ in_quotes (address_text address.now)) }
+{
+    let mut text = Vec::new(alloc);
+    text.push(b'"')?;
+    add_address(&mut text, address)?;
+    text.push(b'"')?;
+    Ok(text)
+}
 
 // What is told of a member that the round waits for.
 fn awaited_text(alloc: Global, awaited: &Awaited) -> Result<Vec<u8>, OutOfMemory>

@@ -6,6 +6,6 @@ pub returns : goal.returns
 returns c =
     let front : List ℕ = placed (codes "the store at ") c.args.at.now (codes " refused with code ") in
     let code : List ℕ = decimal c.args.code in
-    subst (λ (t : List ℕ). OnOk c.push_number.result (c.push_number.new.into.items ≡ t))
+    subst (λ (t : List ℕ). OnOk c.add_decimal.result (c.add_decimal.new.into.items ≡ t))
     (ap (λ (t : List ℕ). t ++ code) c.in_ok-push_placed.ensures ∙ append_assoc c.args.into.now.items front code)
-    c.push_number.ensures
+    c.add_decimal.ensures
