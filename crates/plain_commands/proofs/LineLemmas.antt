@@ -14,7 +14,7 @@ use Rattle.solo_run.specs.Steps.{GivesOutcome}
 use Rattle.cluster_model.specs.World.{opening_cluster, key_part, cluster_step}
 use Rattle.cluster_model.proofs.Lines.{cluster_run-append}
 use Rattle.world_run.specs.Worlds.{WorldView, view_of, GivesStep}
-use Rattle.script_text.specs.Outcomes.{turn_text, outcome_text}
+use Rattle.outcome_text.specs.Outcomes.{turn_text, outcome_text}
 use Rattle.script_text.specs.Reading.{Setting}
 use Rattle.script_text.specs.SoloLines as solo
 use Rattle.script_text.proofs.Late.{late_solo_sets_nothing}

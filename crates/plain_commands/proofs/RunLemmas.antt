@@ -4,7 +4,7 @@ use Rattle.std.proofs.lemmas.List.{take_at, take_all, drop_all, take-append-drop
 use Rattle.std.proofs.Math.Seq.{take-append-add}
 use Rattle.actor_ports.specs.Port.{TakesFront, WritesAll}
 use Rattle.actor_ports.specs.declared.port.PortError.TheVariants as port
-use Rattle.script_text.specs.Outcomes.{bad_line_text}
+use Rattle.outcome_text.specs.Outcomes.{bad_line_text}
 use Rattle.plain_commands.specs.Scripts.{ScriptLog}
 use Rattle.plain_commands.specs.Replay.{LineStep, Goes, Stops, ReplayRun, line_step, after_line, run_lines, most_bytes}
 use Rattle.plain_commands.specs.ReplayTold.{IsOf, GoesTo, GivesLine, IsFront, Prints, RefusesLine, EndsLines, HasRead, ReadsAll, Writes, WritesFrontOf, WritesAs, most_read}

@@ -12,7 +12,7 @@ use Rattle.solo_run.specs.World.{SoloState, TypeDepth, has_depth, solo_step, ref
 use Rattle.solo_run.specs.Runs.{Said, said_of, after_event, run_from, log_from, solo_run, solo_log}
 use Rattle.cluster_model.specs.World.{ClusterState, opening_cluster, key_part, cluster_step, cluster_run, outcomes}
 use Rattle.script_text.specs.Lines.{lines_of}
-use Rattle.script_text.specs.Outcomes.{turn_text, outcome_text, bad_line_text}
+use Rattle.outcome_text.specs.Outcomes.{turn_text, outcome_text, bad_line_text}
 use Rattle.script_text.specs.Reading.{Setting, Reentrant, Idle, Drain}
 use Rattle.script_text.specs.SoloLines as solo
 use Rattle.script_text.specs.ClusterLines as cluster

@@ -11,7 +11,7 @@ use Rattle.solo_run.specs.World.{TypeDepth, SoloState, has_depth, solo_step, ref
 use Rattle.solo_run.specs.Runs.{solo_run}
 use Rattle.cluster_model.specs.World.{ClusterState, opening_cluster, key_part, cluster_step, cluster_run}
 use Rattle.script_text.specs.Lines.{lines_of}
-use Rattle.script_text.specs.Outcomes.{turn_text, outcome_text, bad_line_text}
+use Rattle.outcome_text.specs.Outcomes.{turn_text, outcome_text, bad_line_text}
 use Rattle.script_text.specs.Reading.{Setting, Reentrant, Idle, Drain}
 use Rattle.script_text.specs.SoloLines as solo
 use Rattle.script_text.specs.ClusterLines as cluster

@@ -5,7 +5,7 @@ use Rattle.actor_ports.specs.declared.port.PortError.TheVariants as port
 use Rattle.solo_run.specs.Runs.{solo_run}
 use Rattle.world_run.specs.Worlds.{WorldView, view_of}
 use Rattle.script_text.specs.Lines.{lines_of}
-use Rattle.script_text.specs.Outcomes.{bad_line_text}
+use Rattle.outcome_text.specs.Outcomes.{bad_line_text}
 use Rattle.plain_commands.specs.Scripts.{Setup, ScriptLog, Unread, SoloLog, ClusterLog, any_of}
 use Rattle.plain_commands.specs.Replay.{LineStep, Goes, Stops, ReplayRun, replay_of, cluster_after, most_bytes}
 use Rattle.plain_commands.specs.Headline.{HeadlineHolds}

@@ -6,7 +6,7 @@ use Rattle.world_events.specs.declared.error.WorldError.{WorldError}
 use Rattle.solo_run.specs.Runs.{Said, solo_log}
 use Rattle.cluster_model.specs.World.{opening_cluster, key_part, outcomes}
 use Rattle.script_text.specs.Lines.{lines_of}
-use Rattle.script_text.specs.Outcomes.{turn_text, outcome_text, bad_line_text}
+use Rattle.outcome_text.specs.Outcomes.{turn_text, outcome_text, bad_line_text}
 use Rattle.plain_commands.specs.Scripts.{ScriptLog, Unread, SoloLog, ClusterLog, settings_of, named_by}
 use Rattle.plain_commands.specs.Replay.{ReplayRun}
 

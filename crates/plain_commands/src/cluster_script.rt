@@ -9,7 +9,7 @@ ghost use Rattle.plain_commands.specs.ReplayTold.{GivesLine};
 ghost use Rattle.plain_commands.specs.declared.script.Script.TheVariants.{Cluster};
 
 use crate::line_end::{LineEnd, line_end_of};
-use script_text::Transcript;
+use outcome_text::Transcript;
 use std::alloc::Global;
 use world_events::WorldEvent;
 use world_run::World;

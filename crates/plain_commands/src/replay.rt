@@ -10,7 +10,8 @@ use crate::line_end::LineEnd;
 use crate::script::Script;
 use crate::status::Status;
 use actor_ports::{PortError, Sink, Source};
-use script_text::{Transcript, count_lines, next_line};
+use outcome_text::Transcript;
+use script_text::{count_lines, next_line};
 use std::alloc::Global;
 
 /// The greatest length of a script, in bytes.

@@ -10,7 +10,8 @@ use crate::cluster_script::happen;
 use crate::line_end::LineEnd;
 use crate::setup::Setup;
 use crate::solo_script::SoloScript;
-use script_text::{ClusterLine, LineError, Transcript, read_cluster_line, read_cluster_setting};
+use outcome_text::Transcript;
+use script_text::{ClusterLine, LineError, read_cluster_line, read_cluster_setting};
 use std::alloc::Global;
 use world_run::World;
 

@@ -11,7 +11,8 @@ ghost use Rattle.plain_commands.specs.ReplayTold.{IsOf, GivesLine};
 ghost use Rattle.plain_commands.specs.declared.script.Script.TheVariants.{Solo};
 
 use crate::line_end::{LineEnd, line_end_of};
-use script_text::{Setting, SoloLine, Transcript, read_solo_line};
+use outcome_text::Transcript;
+use script_text::{Setting, SoloLine, read_solo_line};
 use solo_run::SoloWorld;
 use std::alloc::Global;
 use world_events::SoloEvent;

@@ -2,6 +2,5 @@ pub mod LineLemmas
 pub mod NumberLemmas
 pub mod CountLemmas
 pub mod PieceLemmas
-pub mod VersionLemmas
 pub mod Late
 pub mod Rows

@@ -3,6 +3,5 @@ pub mod Reading
 pub mod SoloLines
 pub mod ClusterWords
 pub mod ClusterLines
-pub mod Outcomes
 pub mod Told
 pub mod LinesTold

@@ -15,7 +15,8 @@ use Rattle.world_events.specs.declared.error.WorldError.{WorldError}
 use Rattle.world_events.specs.declared.error.WorldError.TheVariants.{Dishonest}
 use Rattle.cluster_model.specs.World.{ClusterState, opening_cluster, key_part, cluster_step, cluster_run, outcomes}
 use Rattle.cluster_model.specs.Counts.{begun_turns, open_turns}
-use Rattle.world_run.specs.Looks.{member_in, asks_at}
+use Rattle.cluster_parts.specs.Views.{member_in}
+use Rattle.world_run.specs.Looks.{asks_at}
 use Rattle.world_drill.specs.declared.counts.DrillCounts.{DrillCounts}
 
 -- ---- the generator

@@ -32,7 +32,7 @@ use Rattle.cluster_model.proofs.Lines.{line_kept}
 use Rattle.cluster_model.proofs.Worlds.{safe_kept}
 use Rattle.world_run.specs.Post.{numbered, told_of, AgreesOn, Agrees}
 use Rattle.world_run.specs.Moments.{IsNotAt, event_at}
-use Rattle.world_run.specs.Views.{capped}
+use Rattle.cluster_parts.specs.Views.{capped}
 use Rattle.cluster_model.specs.Counts.{begun_turns, over_turns}
 use Rattle.world_run.specs.Worlds.{WorldView, view_of, cluster_of, after, GivesStep, IsStep, Happens, IsToldInRange, IsFit, post_of}
 use Rattle.world_run.proofs.Unmarked.{marked, adds, happens_marked, begun-append, ended-append, more-capped}

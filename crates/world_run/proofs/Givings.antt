@@ -16,16 +16,16 @@ use Rattle.world_events.specs.declared.error.WorldError.{WorldError}
 use Rattle.world_events.specs.declared.error.WorldError.TheVariants as refused
 use Rattle.cluster_model.specs.World as world
 use Rattle.cluster_model.specs.World.{ClusterState, WorldStep, CallPlace, key_part, tagged, place_of_part, key_place_of, nothing, part_does, step_of_part}
-use Rattle.world_run.specs.CallIndex.{CallsView}
+use Rattle.cluster_parts.specs.CallIndex.{CallsView}
 use Rattle.cluster_model.specs.Messages.{Answer, LockAt, UpdateTo, UnlockAt, Says, Message, Asks, Tells, told_event}
 use Rattle.world_run.specs.declared.kept.Told.{Told}
-use Rattle.world_run.specs.Layout.{IsFirst, counted_from}
+use Rattle.cluster_parts.specs.Layout.{IsFirst, counted_from}
 use Rattle.world_run.specs.Post.{PostView, numbered, told_of}
-use Rattle.world_run.specs.Views.{PartsView, more, stepped, MayWant, wants, StepsAt}
+use Rattle.cluster_parts.specs.Views.{PartsView, more, stepped, MayWant, wants, StepsAt}
 use Rattle.cluster_model.specs.Counts.{begun_turns, over_turns}
 use Rattle.world_run.specs.Worlds.{WorldView, cluster_of, after, Gives, Ticks, viewed}
-use Rattle.world_run.proofs.Steps.{part_at}
-use Rattle.world_run.proofs.Scans.{booted-first, places-first}
+use Rattle.cluster_parts.proofs.Steps.{part_at}
+use Rattle.cluster_parts.proofs.Scans.{booted-first, places-first}
 use Rattle.world_run.proofs.Unmarked.{begun-tagged, ended-tagged, begun-append, ended-append, more-more, marked, adds, ticks_marked}
 
 -- ---- nothing changes

@@ -19,7 +19,7 @@ use Rattle.world_events.specs.declared.outcome.Outcome.TheVariants as out
 use Rattle.cluster_model.specs.Messages.{Request, Message, Asks, Tells, change_of, told_event}
 use Rattle.cluster_model.specs.World as world
 use Rattle.cluster_model.specs.World.{ClusterState, WorldStep, CallPlace, TraceMark, key_part, tagged, ask_of}
-use Rattle.world_run.specs.Views.{capped, more, began_in, ended_in}
+use Rattle.cluster_parts.specs.Views.{capped, more, began_in, ended_in}
 use Rattle.cluster_model.specs.Counts.{begun_turns, over_turns}
 
 -- ---- counts

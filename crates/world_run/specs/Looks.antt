@@ -1,13 +1,6 @@
--- What a world shows of its members and messages. Own.
-use Rattle.std.specs.Prelude.{ℕ, zero, suc, Bool, true, false, List, Option, None, Some, slice_get, option_map}
-use Rattle.actor_names.specs.declared.member.Member.{Member}
-use Rattle.part_model.specs.Part.{PartState}
+-- What a world shows of its messages. Own.
+use Rattle.std.specs.Prelude.{ℕ, zero, suc, Bool, true, false, List, Option, None, slice_get, option_map}
 use Rattle.cluster_model.specs.Messages.{Message, Asks, Tells}
-
--- whose part it is, if there is one
-abbrev pub member_in : Option PartState → Option Member
-member_in None = None
-member_in (Some p) = Some p.member
 
 abbrev pub asks : Message → Bool
 asks (Asks request) = true

@@ -14,12 +14,12 @@ use Rattle.world_events.specs.declared.error.WorldError.TheVariants.{OutOfMemory
 use Rattle.cluster_model.specs.Counts.{begun_turns, over_turns}
 use Rattle.cluster_model.specs.Messages.{Message}
 use Rattle.cluster_model.specs.World.{ClusterState, CallPlace, WorldStep, key_part, call_at, tick_each, happens, cluster_step}
-use Rattle.world_run.specs.CallIndex.{CallsView, call_place}
-use Rattle.world_run.specs.declared.calls.CallAt.{CallAt}
-use Rattle.world_run.specs.Layout.{counted_from}
+use Rattle.cluster_parts.specs.CallIndex.{CallsView, call_place}
+use Rattle.cluster_parts.specs.declared.calls.CallAt.{CallAt}
+use Rattle.cluster_parts.specs.Layout.{counted_from}
 use Rattle.world_run.specs.declared.kept.Told.{Told}
 use Rattle.world_run.specs.Post.{PostView, numbered, told_of, Agrees}
-use Rattle.world_run.specs.Views.{PartsView, capped, more}
+use Rattle.cluster_parts.specs.Views.{PartsView, capped, more}
 
 pub record WorldView : Type 0 where
   pub settings : WorldSettings

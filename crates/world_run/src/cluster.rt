@@ -4,14 +4,12 @@ ghost use Rattle.part_model.specs.Settings.{AreShallow};
 ghost use Rattle.round_core.specs.Room.{last_version};
 ghost use Rattle.placement_core.specs.Placement.{room_of};
 ghost use Rattle.cluster_model.specs.World.{opening_cluster};
-ghost use Rattle.world_run.specs.Looks.{member_in};
+ghost use Rattle.cluster_parts.specs.Views.{member_in};
 ghost use Rattle.world_run.specs.Worlds.{Happens, IsFit, view_of};
 
-use crate::calls::Calls;
-use crate::known_ids::KnownIds;
-use crate::parts::Parts;
 use crate::post::Post;
 use actor_names::{Member, Space};
+use cluster_parts::{Calls, KnownIds, Parts};
 use std::alloc::Global;
 use std::marker::Model;
 use world_events::{Outcome, WorldError, WorldEvent, WorldSettings};

@@ -8,10 +8,9 @@ ghost use Rattle.world_events.specs.declared.event.WorldEvent.TheVariants as lin
 ghost use Rattle.world_run.specs.Worlds.{Happens, IsToldInRange, post_of};
 
 use crate::cluster::Cluster;
-use crate::outcomes::{dropped_outcome, lost_outcome, nothing, told_outcome};
-use crate::parts::Parts;
 use crate::post::Post;
 use actor_names::Member;
+use cluster_parts::{Parts, dropped_outcome, lost_outcome, nothing, told_outcome};
 use round_core::PlaceEvent;
 use std::alloc::Global;
 use world_events::{Outcome, WorldError};

@@ -6,8 +6,8 @@ ghost use Rattle.world_run.specs.Worlds.{Happens};
 
 use crate::cluster::Cluster;
 use crate::kept::Kept;
-use crate::outcomes::nothing;
 use actor_names::{Address, Member, Node, OutOfMemory, Space, read_app_id};
+use cluster_parts::nothing;
 use member_core::{Ack, collect, may_leave};
 use place_table::{ActorTypes, HostInfo};
 use std::alloc::Global;

@@ -2,16 +2,15 @@
 ghost use Rattle.std.specs.Prelude.{◌≡◌, ◌<◌, ◌≤◌, ◌+◌, ◌*◌, ◌^◌, true, false, length, IfSome, IfNone, IsOk};
 ghost use Rattle.part_model.specs.Rooms.{IsInRange};
 ghost use Rattle.cluster_model.specs.World.{ask_of, next_number, end_outcome, closed_outcome};
-ghost use Rattle.world_run.specs.Views.{MayWant, wants};
+ghost use Rattle.cluster_parts.specs.Views.{MayWant, wants};
 ghost use Rattle.world_events.specs.declared.event.WorldEvent.TheVariants as lines;
 ghost use Rattle.world_run.specs.Worlds.{Happens, Ticks, AskedAt};
 
-use crate::calls::{CallAt, Calls};
 use crate::cluster::Cluster;
-use crate::outcomes::{
-    call_outcome, closing_outcome, ended_turns, hold_outcome, nothing, stop_outcome,
-};
 use actor_names::{ActorKey, ChainId, Member};
+use cluster_parts::{
+    CallAt, Calls, call_outcome, closing_outcome, ended_turns, hold_outcome, nothing, stop_outcome,
+};
 use part_core::PartReply;
 use part_model::PartEvent;
 use std::alloc::Global;

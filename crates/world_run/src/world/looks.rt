@@ -1,6 +1,7 @@
 // What a world shows of its members, messages and calls, without memory.
 ghost use Rattle.std.specs.Prelude.{◌≡◌, ◌*◌, suc, length, slice_get};
-ghost use Rattle.world_run.specs.Looks.{member_in, asks_at};
+ghost use Rattle.cluster_parts.specs.Views.{member_in};
+ghost use Rattle.world_run.specs.Looks.{asks_at};
 
 use crate::world::World;
 use actor_names::Member;

@@ -3,7 +3,7 @@ use Rattle.std.specs.Prelude.{Option, None, Some}
 use Rattle.actor_names.specs.declared.member.Member.{Member}
 use Rattle.cluster_model.specs.World.{running_among}
 use Rattle.member_roster.specs.Members.{late_of}
-use Rattle.world_run.specs.Views.{PartsView}
+use Rattle.cluster_parts.specs.Views.{PartsView}
 use Rattle.world_run.proofs.RoomVersions.{in_place}
 use Rattle.world_run.proofs.Runners.{room_runs, room_rests}
 use Rattle.world_run.proofs.deliveries.first_running.Goals as goal

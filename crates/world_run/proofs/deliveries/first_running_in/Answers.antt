@@ -1,6 +1,6 @@
 use Rattle.std.proofs.Common.{◌≡◌, false, sym, ap, ◌∙◌, arith}
 use Rattle.cluster_model.specs.World.{all_stopped}
-use Rattle.world_run.specs.Views.{PartsView}
+use Rattle.cluster_parts.specs.Views.{PartsView}
 use Rattle.std.specs.Prelude.{Some, slice_get}
 use Rattle.placement_core.specs.Placement.{SpaceRoom}
 use Rattle.world_run.proofs.RoomVersions.{in_place}

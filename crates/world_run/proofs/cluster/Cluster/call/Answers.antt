@@ -3,7 +3,7 @@ use Rattle.std.specs.Prelude.{Option, Some, Result, Ok, Err}
 use Rattle.part_model.specs.declared.event.PartEvent.{PartEvent}
 use Rattle.part_model.specs.Receipts.{PartReply}
 use Rattle.part_model.specs.Part.{ring_owner}
-use Rattle.world_run.specs.Views.{StepsAt, wants}
+use Rattle.cluster_parts.specs.Views.{StepsAt, wants}
 use Rattle.world_events.specs.declared.event.WorldEvent.TheVariants as lines
 use Rattle.world_events.specs.declared.outcome.Outcome.{Outcome}
 use Rattle.world_events.specs.declared.error.WorldError.{WorldError}

@@ -2,7 +2,7 @@ use Rattle.std.proofs.Common.{ap, sym, ◌∙◌, subst}
 use Rattle.std.specs.Prelude.{Result, Ok}
 use Rattle.world_run.specs.Post.{PostView}
 use Rattle.part_model.specs.declared.event.PartEvent.{PartEvent}
-use Rattle.world_run.specs.Views.{StepsAt}
+use Rattle.cluster_parts.specs.Views.{StepsAt}
 use Rattle.world_events.specs.declared.event.WorldEvent.TheVariants as lines
 use Rattle.world_events.specs.declared.outcome.Outcome.{Outcome}
 use Rattle.world_events.specs.declared.error.WorldError.{WorldError}

@@ -8,7 +8,7 @@ use Rattle.world_events.specs.declared.outcome.Outcome.{Outcome}
 use Rattle.world_events.specs.declared.error.WorldError.{WorldError}
 use Rattle.cluster_model.specs.World as world
 use Rattle.world_run.specs.Post.{PostView}
-use Rattle.world_run.specs.Views.{PartsView}
+use Rattle.cluster_parts.specs.Views.{PartsView}
 use Rattle.world_run.specs.Worlds.{WorldView, Happens, Gives, cluster_of, viewed}
 use Rattle.world_run.proofs.cluster.Cluster.placement_tick.Goals as goal
 

@@ -4,7 +4,7 @@ use Rattle.world_events.specs.declared.event.WorldEvent.TheVariants as lines
 use Rattle.world_events.specs.declared.outcome.Outcome.{Outcome}
 use Rattle.world_events.specs.declared.error.WorldError.{WorldError}
 use Rattle.world_run.specs.Worlds.{WorldView, Happens, AskedAt, viewed}
-use Rattle.world_run.specs.CallIndex.{call_place}
+use Rattle.cluster_parts.specs.CallIndex.{call_place}
 use Rattle.world_run.proofs.Givings.{poll_gives}
 use Rattle.world_run.proofs.cluster.Cluster.poll.Goals as goal
 

@@ -3,9 +3,9 @@ use Rattle.std.specs.Prelude.{Ok}
 use Rattle.world_events.specs.declared.outcome.Outcome.{Outcome}
 use Rattle.world_events.specs.declared.event.WorldEvent.TheVariants as lines
 use Rattle.cluster_model.specs.World as world
-use Rattle.world_run.specs.Layout.{HasNone, IsFirst}
+use Rattle.cluster_parts.specs.Layout.{HasNone, IsFirst}
 use Rattle.world_run.specs.Worlds.{WorldView, Happens, Ticks}
-use Rattle.world_run.proofs.Scans.{booted-none, first-within}
+use Rattle.cluster_parts.proofs.Scans.{booted-none, first-within}
 use Rattle.world_run.proofs.Givings.{gives_false, gives_nothing, tick_each_gives}
 use Rattle.world_run.proofs.cluster.Cluster.tick.Goals as goal
 

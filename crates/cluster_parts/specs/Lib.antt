@@ -1,0 +1,3 @@
+pub mod CallIndex
+pub mod Layout
+pub mod Views

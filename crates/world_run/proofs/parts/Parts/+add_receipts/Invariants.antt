@@ -1,4 +1,0 @@
-use Rattle.world_run.proofs.parts.Parts.«+add_receipts».Given as goal
-
-abbrev pub decreases-add_receipts : goal.decreases-add_receipts
-decreases-add_receipts l = l.count
