@@ -116,6 +116,9 @@ pub(crate) fn start_writing<
     ) else {
         return false;
     };
+    // What is said before that thread's first turn bears this moment.
+    let mut clock = SystemClock::new(rt);
+    writing.log.set_now(clock.now_ms());
     thread::spawn(&rt, move || keep_time(rt, &timed)).is_ok()
         && thread::spawn(&rt, move || write_log(&rt, rt.alloc(), &written, batch)).is_ok()
 }
